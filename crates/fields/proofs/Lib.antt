@@ -1,0 +1,4 @@
+pub mod Field
+pub mod Number
+pub mod Run
+pub mod Worked

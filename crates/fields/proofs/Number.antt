@@ -1,0 +1,107 @@
+-- Numbers and their bytes, at every width: each determines the other, a run of bytes may be cut anywhere, and what is
+-- made of bytes is bytes. Assumes nothing.
+use mathlib.Core.Path.{_≡_, refl, sym, ap, _∙_}
+use mathlib.Core.List.{List, [], _∷_, _++_}
+use Prim.Native.Nat.{ℕ, zero, suc, _+_, _*_, _/_, _%_, _^_, _≤_, _<_}
+use native.Mathlib.Nat.{zero-add, suc-add, add-zero, mul-zero, one-mul, mul-one, mul-assoc, mul-comm, pow-zero, pow-suc, pow-succ', one-le-pow, mod-lt, mod-eq-of-lt, mod-add-div, div-one, div-eq-of-lt, div-lt-iff-lt-mul, div-div-eq-div-mul, add-mul-div-left, add-mul-mod-self-left, not-suc-le-zero}
+use native.Mathlib.Omega.{arith}
+use lib.Arith.{mod-mul, digits-mod, digits-div}
+use lib.Dec.{lit<}
+use lib.ListN.{length, getD, set, take, drop, length-append}
+use mir.Facts.{fits-lit}
+use mir.Syntax.{w8}
+use mir.Val.{Fits}
+use lib.Seq.{sets, take-nil, take-length, getD-drop}
+use Rattle.fields.specs.Field.{number, le, Bytes}
+
+-- ---- a number as bytes, and back
+
+pub length-le : (w v : ℕ) → length (le w v) ≡ w
+unfolding le
+length-le zero v = refl
+length-le (suc w) v = ap suc (length-le w (v / 256))
+
+pub number-le : (w v : ℕ) → v < 256 ^ w → number (le w v) ≡ v
+unfolding le number
+number-le zero v h = omega (arith, pow-zero 256)
+number-le (suc w) v h =
+    ap (λ (n : ℕ). v % 256 + 256 * n) (number-le w (v / 256) (div-lt-iff-lt-mul (lit< tt) .1 (rw pow-suc at h)))
+    ∙ mod-add-div v 256
+
+pub le-number : (xs : List ℕ) → Bytes xs → le (length xs) (number xs) ≡ xs
+unfolding le number
+le-number [] h = refl
+le-number (x ∷ xs) h =
+    rw (add-mul-mod-self-left, mod-eq-of-lt (h zero .fits), add-mul-div-left x (number xs) (lit< tt), div-eq-of-lt (h zero .fits), zero-add, le-number xs (λ i. h (suc i)))
+
+-- bytes past the width make no difference to a number
+pub le-mod : (w v : ℕ) → le w (v % 256 ^ w) ≡ le w v
+unfolding le
+le-mod zero v = refl
+le-mod (suc w) v =
+    rw (pow-suc, mod-mul v (one-le-pow w 256 (lit< tt)) (lit< tt), digits-mod (v / 256 % 256 ^ w) (mod-lt v (lit< tt)), digits-div (v / 256 % 256 ^ w) (mod-lt v (lit< tt)), le-mod w (v / 256))
+
+-- ---- cutting
+
+pub number-append : (xs ys : List ℕ) → number (xs ++ ys) ≡ number xs + 256 ^ length xs * number ys
+unfolding number
+number-append [] ys = rw (pow-zero, one-mul, zero-add)
+number-append (x ∷ xs) ys = rw (number-append xs ys, pow-succ', mul-assoc) (omega arith)
+
+pub number-take-add : (u w : ℕ) (xs : List ℕ) → number (take (u + w) xs) ≡ number (take u xs) + 256 ^ u * number (take w (drop u xs))
+unfolding number
+number-take-add zero w xs = rw (zero-add, pow-zero, one-mul, zero-add)
+number-take-add (suc u) w [] = rw (take-nil, take-nil, mul-zero)
+number-take-add (suc u) w (x ∷ xs) = rw (suc-add, number-take-add u w xs, pow-succ', mul-assoc) (omega arith)
+
+pub le-add : (u w v : ℕ) → le (u + w) v ≡ le u v ++ le w (v / 256 ^ u)
+unfolding le
+le-add zero w v = rw (zero-add, pow-zero, div-one)
+le-add (suc u) w v = rw (suc-add, le-add u w (v / 256), pow-succ', div-div-eq-div-mul)
+
+-- ---- bounds
+
+pub number-take-bound : (w : ℕ) (xs : List ℕ) → Bytes xs → number (take w xs) < 256 ^ w
+unfolding number
+number-take-bound zero xs h = rw pow-zero (lit< tt)
+number-take-bound (suc w) [] h = one-le-pow (suc w) 256 (lit< tt)
+number-take-bound (suc w) (x ∷ xs) h =
+    rw pow-suc (omega (arith, h zero, number-take-bound w xs (λ i. h (suc i))))
+
+pub number-bound : (xs : List ℕ) → Bytes xs → number xs < 256 ^ length xs
+number-bound xs h = rw take-length at (number-take-bound (length xs) xs h)
+
+-- ---- what is made of bytes
+
+pub bytes-nil : Bytes []
+bytes-nil i = fits-lit tt
+
+pub bytes-cons : (x : ℕ) (xs : List ℕ) → Fits w8 x → Bytes xs → Bytes (x ∷ xs)
+bytes-cons x xs h k zero = h
+bytes-cons x xs h k (suc i) = k i
+
+pub bytes-le : (w v : ℕ) → Bytes (le w v)
+unfolding le
+bytes-le zero v = bytes-nil
+bytes-le (suc w) v = bytes-cons (v % 256) (le w (v / 256)) (record { fits = mod-lt v (lit< tt) }) (bytes-le w (v / 256))
+
+pub bytes-append : (xs ys : List ℕ) → Bytes xs → Bytes ys → Bytes (xs ++ ys)
+bytes-append [] ys h k = k
+bytes-append (x ∷ xs) ys h k = bytes-cons x (xs ++ ys) (h zero) (bytes-append xs ys (λ i. h (suc i)) k)
+
+pub bytes-take : (n : ℕ) (xs : List ℕ) → Bytes xs → Bytes (take n xs)
+bytes-take zero xs h = bytes-nil
+bytes-take (suc n) [] h = bytes-nil
+bytes-take (suc n) (x ∷ xs) h = bytes-cons x (take n xs) (h zero) (bytes-take n xs (λ i. h (suc i)))
+
+pub bytes-drop : (n : ℕ) (xs : List ℕ) → Bytes xs → Bytes (drop n xs)
+bytes-drop n xs h i = rw getD-drop (h (n + i))
+
+pub bytes-set : (xs : List ℕ) (i x : ℕ) → Bytes xs → Fits w8 x → Bytes (set xs i x)
+bytes-set [] i x h k = h
+bytes-set (y ∷ xs) zero x h k = bytes-cons x xs k (λ i. h (suc i))
+bytes-set (y ∷ xs) (suc i) x h k = bytes-cons y (set xs i x) (h zero) (bytes-set xs i x (λ j. h (suc j)) k)
+
+pub bytes-sets : (vs b : List ℕ) (i : ℕ) → Bytes b → Bytes vs → Bytes (sets b i vs)
+bytes-sets [] b i h k = h
+bytes-sets (v ∷ vs) b i h k = bytes-sets vs (set b i v) (suc i) (bytes-set b i v h (k zero)) (λ j. k (suc j))
