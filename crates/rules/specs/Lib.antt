@@ -1,0 +1,22 @@
+-- Document 01 as definitions, in its own order. Each file is one notion; a file uses only those above it.
+pub mod Layout
+pub mod Test
+pub mod Key
+pub mod Entry
+pub mod Page
+pub mod Table
+pub mod Sound
+pub mod Place
+pub mod Enter
+pub mod Walk
+pub mod Tree
+pub mod Marks
+pub mod Call
+pub mod Format
+pub mod Open
+pub mod Insert
+pub mod Lookup
+pub mod Newest
+pub mod List
+pub mod Sync
+pub mod Crash

@@ -1,0 +1,142 @@
+// The rules of the store: document 01 as definitions, and the types they speak of.
+//
+// specs/ is what a reader has to believe. It says in short definitions that compute what every page byte means,
+// when a page is sound, what mending makes, which pages a call enters, and what each of the seven calls answers and
+// leaves. proofs/ holds laws about those definitions, the bench cases and the theorem about crashes.
+// This file declares the session with its moves, and one enum of answers for each call.
+//
+// Below stands `fields`: numbers in bytes.
+ghost use mathlib.Core.Path.{_≡_};
+ghost use Prim.Native.Nat.{_<_};
+ghost use Rattle.rules.specs.Marks.{taken, freed, waits, raised};
+
+// What is handed in and handed back with each call: the number of pages, the counter, and for each page whether it
+// is free and whether it is waiting.
+pub struct Session {
+    pub n: u16,
+    pub c: u32,
+    pub free: [bool; 128],
+    pub waiting: [bool; 128],
+}
+
+impl Session {
+    // A page is taken: it is free no longer.
+    pub fn take(mut self, page: usize) -> Self
+        requires { ⌜ page < 128 ⌝ }
+        ensures { λ r. ⌜ r ≡ taken page self ⌝ }
+    {
+        self.free[page] = false;
+        self
+    }
+
+    // A page is free again at once.
+    pub fn release(mut self, page: usize) -> Self
+        requires { ⌜ page < 128 ⌝ }
+        ensures { λ r. ⌜ r ≡ freed page self ⌝ }
+    {
+        self.free[page] = true;
+        self
+    }
+
+    // A page waits for the next sync.
+    pub fn wait(mut self, page: usize) -> Self
+        requires { ⌜ page < 128 ⌝ }
+        ensures { λ r. ⌜ r ≡ waits page self ⌝ }
+    {
+        self.waiting[page] = true;
+        self
+    }
+
+    // The counter grows by one.
+    pub fn raise(mut self) -> Self
+        requires { ⌜ self .c < 4294967295 ⌝ }
+        ensures { λ r. ⌜ r ≡ raised self ⌝ }
+    {
+        self.c = self.c + 1;
+        self
+    }
+}
+
+// One enum for each call: the answers that it can give, with the numbers beside them.
+
+pub enum Formatted {
+    Done,
+    Length,
+}
+
+pub enum Opened {
+    Done,
+    Length,
+    Damaged,
+    Spent,
+}
+
+pub enum Inserted {
+    Done,
+    Length,
+    BadKey,
+    Damaged,
+    Present,
+    SyncFirst,
+    Full,
+}
+
+pub enum Looked {
+    Found(u32),
+    Length,
+    BadKey,
+    Damaged,
+    Missing,
+}
+
+pub enum Newest {
+    Found(u16, u32),
+    Length,
+    BadKey,
+    Damaged,
+    Missing,
+}
+
+pub enum Listed {
+    Filled(usize),
+    Length,
+    Damaged,
+}
+
+pub enum Synced {
+    Done,
+    Length,
+    Spent,
+}
+
+// What a call hands back: its answer and the session.
+
+pub struct Opening {
+    pub answer: Opened,
+    pub session: Session,
+}
+
+pub struct Inserting {
+    pub answer: Inserted,
+    pub session: Session,
+}
+
+pub struct Looking {
+    pub answer: Looked,
+    pub session: Session,
+}
+
+pub struct NewestOf {
+    pub answer: Newest,
+    pub session: Session,
+}
+
+pub struct Listing {
+    pub answer: Listed,
+    pub session: Session,
+}
+
+pub struct Syncing {
+    pub answer: Synced,
+    pub session: Session,
+}
