@@ -6,7 +6,8 @@ use mathlib.Core.Option.{Option, some, none}
 use Rattle.rules.specs.Test.{mem}
 use Rattle.rules.specs.Page.{Page}
 use Rattle.rules.specs.Table.{read, build}
-use Rattle.rules.specs.Place.{Place, fits, mendable, mended}
+use Rattle.rules.specs.Place.{fits, mendable, mended}
+use Rattle.rules.specs.declared.Place.{Place}
 
 -- what entering leaves and finds; no page: the place is damaged
 pub record Entered : Type 0 where

@@ -14,12 +14,12 @@ use Rattle.rules.specs.Key.{keyOf, goodParts}
 use Rattle.rules.specs.Entry.{Entry, Cert, Child, Below, keys, find, put}
 use Rattle.rules.specs.Page.{View, Page, isLeaf, fresh, touch}
 use Rattle.rules.specs.Table.{read, build, change, fit0, setRoot}
-use Rattle.rules.specs.Place.{Place}
 use Rattle.rules.specs.Walk.{Step, Way, numbers, wayOf, certsAt}
 use Rattle.rules.specs.Marks.{taken, freed, waits, freePages}
 use Rattle.rules.specs.Call.{Left, lengthsFor}
 use Rattle.rules.specs.declared.Session.{Session}
 use Rattle.rules.specs.declared.Inserted.{Inserted}
+use Rattle.rules.specs.declared.Place.{Place}
 
 -- ── What must split ─────────────────────────────────────────────────────────────────────────────────────────────
 

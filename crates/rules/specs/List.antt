@@ -7,10 +7,11 @@ use Rattle.rules.specs.Layout.{lastKey}
 use Rattle.rules.specs.Entry.{Entry, Cert, keys}
 use Rattle.rules.specs.Page.{over}
 use Rattle.rules.specs.Table.{fit0}
-use Rattle.rules.specs.Walk.{Asked, Walked, walkOf}
+use Rattle.rules.specs.Walk.{Walked, walkOf}
 use Rattle.rules.specs.Call.{lengthsFor}
 use Rattle.rules.specs.declared.Session.{Session}
 use Rattle.rules.specs.declared.Listed.{Listed}
+use Rattle.rules.specs.declared.Asked.{Asked}
 
 -- a listing leaves the two lists too
 pub record ListLeft : Type 0 where

@@ -1,19 +1,21 @@
 -- Newest answers the largest issue of a meter and its record.
-use Prim.Native.Nat.{ℕ, _^_}
+use Prim.Native.Nat.{ℕ}
 use mathlib.Core.Bool.{true, false, _&&_}
 use mathlib.Core.List.{List, [], _∷_}
 use lib.Dec.{ltb}
+use Rattle.rules.specs.Layout.{lastKey}
 use Rattle.rules.specs.Key.{keyOf, issueOf}
 use Rattle.rules.specs.Entry.{Entry, Cert}
 use Rattle.rules.specs.Table.{fit0}
-use Rattle.rules.specs.Walk.{Asked, Walked, walkOf}
+use Rattle.rules.specs.Walk.{Walked, walkOf}
 use Rattle.rules.specs.Call.{Left, lengthsFor}
 use Rattle.rules.specs.declared.Session.{Session}
 use Rattle.rules.specs.declared.Newest.{Newest}
+use Rattle.rules.specs.declared.Asked.{Asked}
 
--- the asked range: issues 1 to 65,535 of one meter, with room for all
+-- the asked range: issues 1 to 65,535 of one meter, with more room than there are keys
 unfoldable pub meter : ℕ → ℕ → Asked
-meter model serial = record { low = keyOf model serial 1; high = keyOf model serial 65535; room = 2 ^ 64 }
+meter model serial = record { low = keyOf model serial 1; high = keyOf model serial 65535; room = lastKey }
 
 -- the last of the certificates found, which rise
 unfoldable pub newestIn : List Cert → Newest

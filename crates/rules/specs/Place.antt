@@ -10,15 +10,7 @@ use Rattle.rules.specs.Entry.{Entry, Cert, Child, Below, keys, cut}
 use Rattle.rules.specs.Page.{View, Page, isLeaf, fresh}
 use Rattle.rules.specs.Table.{read, root0, previous0, birth0}
 use Rattle.rules.specs.Sound.{sound}
-
--- want is the kind asked for; 0 asks for any, as page 0 does of the root
-pub record Place : Type 0 where
-  pub child : ℕ
-  pub previous : ℕ
-  pub birth : ℕ
-  pub low : ℕ
-  pub high : ℕ
-  pub want : ℕ
+use Rattle.rules.specs.declared.Place.{Place}
 
 -- ── The places that a table asks for ────────────────────────────────────────────────────────────────────────────
 

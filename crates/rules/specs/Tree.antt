@@ -8,7 +8,8 @@ use Rattle.rules.specs.Test.{every, all, mem, distinct}
 use Rattle.rules.specs.Entry.{Entry, Cert}
 use Rattle.rules.specs.Page.{View, Page}
 use Rattle.rules.specs.Table.{read}
-use Rattle.rules.specs.Place.{Place, rootPlace, kids, fits, show}
+use Rattle.rules.specs.Place.{rootPlace, kids, fits, show}
+use Rattle.rules.specs.declared.Place.{Place}
 
 -- whether no place is damaged, the numbers named as child, the previous pages of lost entries, and the certificates
 pub record Tree : Type 0 where

@@ -9,8 +9,10 @@ use Rattle.rules.specs.Layout.{topKind}
 use Rattle.rules.specs.Test.{every}
 use Rattle.rules.specs.Entry.{Entry, Cert, cut}
 use Rattle.rules.specs.Page.{View, Page}
-use Rattle.rules.specs.Place.{Place, rootPlace, kids, pick}
+use Rattle.rules.specs.Place.{rootPlace, kids, pick}
 use Rattle.rules.specs.Enter.{Entered, enter}
+use Rattle.rules.specs.declared.Asked.{Asked}
+use Rattle.rules.specs.declared.Place.{Place}
 
 -- ── The way of one key ──────────────────────────────────────────────────────────────────────────────────────────
 
@@ -54,12 +56,6 @@ unfoldable pub wayOf : ℕ → ℕ → ℕ → List ℕ → Way
 wayOf n c k t = descend topKind n c k [] t (rootPlace t)
 
 -- ── The pages that meet a range ─────────────────────────────────────────────────────────────────────────────────
-
--- the asked range, and how many certificates there is room for
-pub record Asked : Type 0 where
-  pub low : ℕ
-  pub high : ℕ
-  pub room : ℕ
 
 -- the table so far, whether no damaged place was met, and the certificates read on entering
 pub record Walked : Type 0 where

@@ -3,12 +3,31 @@
 // specs/ is what a reader has to believe. It says in short definitions that compute what every page byte means,
 // when a page is sound, what mending makes, which pages a call enters, and what each of the seven calls answers and
 // leaves. proofs/ holds laws about those definitions, the bench cases and the theorem about crashes.
-// This file declares the session with its moves, and one enum of answers for each call.
+// This file declares a place, what a walk is asked for, the session with its moves, and one enum of answers for each
+// call.
 //
 // Below stands `fields`: numbers in bytes.
 ghost use mathlib.Core.Path.{_≡_};
 ghost use Prim.Native.Nat.{_<_};
 ghost use Rattle.rules.specs.Marks.{taken, freed, waits, raised};
+
+// A place: what a parent's entry asks of its child. want is the kind asked for; 0 asks for any, as page 0 does of the
+// root.
+pub struct Place {
+    pub child: u16,
+    pub previous: u16,
+    pub birth: u32,
+    pub low: u64,
+    pub high: u64,
+    pub want: u16,
+}
+
+// What a walk is asked for: a range of keys, and how many certificates there is room for.
+pub struct Asked {
+    pub low: u64,
+    pub high: u64,
+    pub room: usize,
+}
 
 // What is handed in and handed back with each call: the number of pages, the counter, and for each page whether it
 // is free and whether it is waiting.
