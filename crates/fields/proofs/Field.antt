@@ -1,17 +1,18 @@
 -- Fields in a list of bytes, at every width: a field that was put is read back, another one is read as before, a field
 -- may be cut in two anywhere, and what was written piece by piece is read at its offset. Assumes nothing.
-use mathlib.Core.Path.{_≡_, refl, sym, ap, _∙_}
+use mathlib.Core.Path.{_≡_, refl, ap, _∙_}
 use mathlib.Core.Bool.{Bool, true, false, _||_}
-use mathlib.Core.List.{List, [], _∷_, _++_, append-assoc}
-use Prim.Native.Nat.{ℕ, zero, suc, _+_, _-_, _*_, _/_, _%_, _^_, _≤_, _<_}
-use native.Mathlib.Nat.{add-zero, add-sub-of-le, mul-zero, mod-eq-of-lt}
+use mathlib.Core.List.{List, [], _∷_, _++_, append-assoc, append-nil}
+use Prim.Native.Nat.{ℕ, _+_, _-_, _*_, _/_, _%_, _^_, _≤_, _<_}
+use native.Mathlib.Nat.{add-zero, mul-zero, mod-eq-of-lt}
 use native.Mathlib.Omega.{arith}
 use borrow.Author.Tests.{leb-true}
 use lib.Dec.{leb}
 use lib.ListN.{length, getD, set, take, drop}
-use lib.Seq.{sets, sets-eq, length-sets, take-at, drop-at, drop-drop, drop-append-add, length-take-le, getD-drop}
+use lib.Seq.{sets-eq, length-sets, take-at, drop-drop, drop-append-add, getD-drop}
 use Rattle.fields.specs.Field.{number, le, leAt, putAt, apart, Bytes}
-use Rattle.fields.proofs.Number.{length-le, number-le, le-number, number-take-add, number-take-bound, le-mod, le-add, bytes-le, bytes-take, bytes-drop, bytes-sets}
+use Rattle.fields.proofs.Bytes.{bytes-le, bytes-take, bytes-drop, bytes-sets}
+use Rattle.fields.proofs.Number.{length-le, number-le, le-number, number-take-add, number-take-bound, le-mod, le-add}
 use Rattle.fields.proofs.Run.{length-part, part-take, part-sets, part-sets-below, drop-sets, take-sets, sets-append}
 
 -- ---- reading
@@ -47,11 +48,14 @@ unfolding leAt
 le-leAt b off w h k =
     rw length-part at (le-number (take w (drop off b)) (bytes-take w (drop off b) (bytes-drop off b h)))
 
--- ---- reading what was written piece by piece: the first piece, and past it
+-- ---- reading what was written piece by piece: the first piece, the last one, and past a piece
 
 pub leAt-first : (w v : ℕ) (rest : List ℕ) → v < 256 ^ w → leAt (le w v ++ rest) 0 w ≡ v
 unfolding leAt
 leAt-first w v rest h = rw (take-at (le w v) rest w (length-le w v), number-le w v h)
+
+pub leAt-last : (w v : ℕ) → v < 256 ^ w → leAt (le w v) 0 w ≡ v
+leAt-last w v h = rw append-nil at (leAt-first w v [] h)
 
 pub leAt-past : (u v : ℕ) (rest : List ℕ) (off w : ℕ) → leb u off ≡ true → leAt (le u v ++ rest) off w ≡ leAt rest (off - u) w
 unfolding leAt
@@ -121,4 +125,4 @@ get-put-other b off w v at u h = go (leb (off + w) at) refl h
 pub ruleset after-puts = (get-put-other, get-put-in, length-put)
 
 -- and of one that was written piece by piece
-pub ruleset in-pieces = (leAt-first, leAt-past)
+pub ruleset in-pieces = (leAt-first, leAt-last, leAt-past)

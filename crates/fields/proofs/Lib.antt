@@ -1,3 +1,4 @@
+pub mod Bytes
 pub mod Field
 pub mod Number
 pub mod Run

@@ -1,17 +1,14 @@
--- Numbers and their bytes, at every width: each determines the other, a run of bytes may be cut anywhere, and what is
--- made of bytes is bytes. Assumes nothing.
-use mathlib.Core.Path.{_≡_, refl, sym, ap, _∙_}
+-- Numbers and their bytes, at every width: each determines the other, and a run of bytes may be cut anywhere.
+-- Assumes nothing.
+use mathlib.Core.Path.{_≡_, refl, ap, _∙_}
 use mathlib.Core.List.{List, [], _∷_, _++_}
-use Prim.Native.Nat.{ℕ, zero, suc, _+_, _*_, _/_, _%_, _^_, _≤_, _<_}
-use native.Mathlib.Nat.{zero-add, suc-add, add-zero, mul-zero, one-mul, mul-one, mul-assoc, mul-comm, pow-zero, pow-suc, pow-succ', one-le-pow, mod-lt, mod-eq-of-lt, mod-add-div, div-one, div-eq-of-lt, div-lt-iff-lt-mul, div-div-eq-div-mul, add-mul-div-left, add-mul-mod-self-left, not-suc-le-zero}
+use Prim.Native.Nat.{ℕ, zero, suc, _+_, _*_, _/_, _%_, _^_, _<_}
+use native.Mathlib.Nat.{zero-add, suc-add, mul-zero, one-mul, mul-assoc, pow-zero, pow-suc, pow-succ', one-le-pow, mod-lt, mod-eq-of-lt, mod-add-div, div-one, div-eq-of-lt, div-lt-iff-lt-mul, div-div-eq-div-mul, add-mul-div-left, add-mul-mod-self-left}
 use native.Mathlib.Omega.{arith}
 use lib.Arith.{mod-mul, digits-mod, digits-div}
 use lib.Dec.{lit<}
-use lib.ListN.{length, getD, set, take, drop, length-append}
-use mir.Facts.{fits-lit}
-use mir.Syntax.{w8}
-use mir.Val.{Fits}
-use lib.Seq.{sets, take-nil, take-length, getD-drop}
+use lib.ListN.{length, take, drop}
+use lib.Seq.{take-nil, take-length}
 use Rattle.fields.specs.Field.{number, le, Bytes}
 
 -- ---- a number as bytes, and back
@@ -34,7 +31,7 @@ le-number [] h = refl
 le-number (x ∷ xs) h =
     rw (add-mul-mod-self-left, mod-eq-of-lt (h zero .fits), add-mul-div-left x (number xs) (lit< tt), div-eq-of-lt (h zero .fits), zero-add, le-number xs (λ i. h (suc i)))
 
--- bytes past the width make no difference to a number
+-- what `w` bytes do not hold makes no difference to them
 pub le-mod : (w v : ℕ) → le w (v % 256 ^ w) ≡ le w v
 unfolding le
 le-mod zero v = refl
@@ -50,8 +47,8 @@ number-append (x ∷ xs) ys = rw (number-append xs ys, pow-succ', mul-assoc) (om
 
 pub number-take-add : (u w : ℕ) (xs : List ℕ) → number (take (u + w) xs) ≡ number (take u xs) + 256 ^ u * number (take w (drop u xs))
 unfolding number
-number-take-add zero w xs = rw (zero-add, pow-zero, one-mul, zero-add)
-number-take-add (suc u) w [] = rw (take-nil, take-nil, mul-zero)
+number-take-add zero w xs = simp (zero-add, pow-zero, one-mul)
+number-take-add (suc u) w [] = simp (take-nil, mul-zero)
 number-take-add (suc u) w (x ∷ xs) = rw (suc-add, number-take-add u w xs, pow-succ', mul-assoc) (omega arith)
 
 pub le-add : (u w v : ℕ) → le (u + w) v ≡ le u v ++ le w (v / 256 ^ u)
@@ -70,38 +67,3 @@ number-take-bound (suc w) (x ∷ xs) h =
 
 pub number-bound : (xs : List ℕ) → Bytes xs → number xs < 256 ^ length xs
 number-bound xs h = rw take-length at (number-take-bound (length xs) xs h)
-
--- ---- what is made of bytes
-
-pub bytes-nil : Bytes []
-bytes-nil i = fits-lit tt
-
-pub bytes-cons : (x : ℕ) (xs : List ℕ) → Fits w8 x → Bytes xs → Bytes (x ∷ xs)
-bytes-cons x xs h k zero = h
-bytes-cons x xs h k (suc i) = k i
-
-pub bytes-le : (w v : ℕ) → Bytes (le w v)
-unfolding le
-bytes-le zero v = bytes-nil
-bytes-le (suc w) v = bytes-cons (v % 256) (le w (v / 256)) (record { fits = mod-lt v (lit< tt) }) (bytes-le w (v / 256))
-
-pub bytes-append : (xs ys : List ℕ) → Bytes xs → Bytes ys → Bytes (xs ++ ys)
-bytes-append [] ys h k = k
-bytes-append (x ∷ xs) ys h k = bytes-cons x (xs ++ ys) (h zero) (bytes-append xs ys (λ i. h (suc i)) k)
-
-pub bytes-take : (n : ℕ) (xs : List ℕ) → Bytes xs → Bytes (take n xs)
-bytes-take zero xs h = bytes-nil
-bytes-take (suc n) [] h = bytes-nil
-bytes-take (suc n) (x ∷ xs) h = bytes-cons x (take n xs) (h zero) (bytes-take n xs (λ i. h (suc i)))
-
-pub bytes-drop : (n : ℕ) (xs : List ℕ) → Bytes xs → Bytes (drop n xs)
-bytes-drop n xs h i = rw getD-drop (h (n + i))
-
-pub bytes-set : (xs : List ℕ) (i x : ℕ) → Bytes xs → Fits w8 x → Bytes (set xs i x)
-bytes-set [] i x h k = h
-bytes-set (y ∷ xs) zero x h k = bytes-cons x xs k (λ i. h (suc i))
-bytes-set (y ∷ xs) (suc i) x h k = bytes-cons y (set xs i x) (h zero) (bytes-set xs i x (λ j. h (suc j)) k)
-
-pub bytes-sets : (vs b : List ℕ) (i : ℕ) → Bytes b → Bytes vs → Bytes (sets b i vs)
-bytes-sets [] b i h k = h
-bytes-sets (v ∷ vs) b i h k = bytes-sets vs (set b i v) (suc i) (bytes-set b i v h (k zero)) (λ j. k (suc j))

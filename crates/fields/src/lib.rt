@@ -15,21 +15,27 @@ pub fn get16(b: &[u8], at: usize) -> u16
     requires { ⌜ at + 2 ≤ length (now b) ⌝ }
     ensures { λ r. ⌜ r ≡ leAt (now (b .entry)) at 2 ⌝ }
 {
-    b[at] as u16 + b[at + 1] as u16 * 256
+    let first = b[at] as u16;
+    let second = b[at + 1] as u16;
+    first + second * 256
 }
 
 pub fn get32(b: &[u8], at: usize) -> u32
     requires { ⌜ at + 4 ≤ length (now b) ⌝ }
     ensures { λ r. ⌜ r ≡ leAt (now (b .entry)) at 4 ⌝ }
 {
-    get16(b, at) as u32 + get16(b, at + 2) as u32 * 65536
+    let first = get16(b, at) as u32;
+    let second = get16(b, at + 2) as u32;
+    first + second * 65536
 }
 
 pub fn get64(b: &[u8], at: usize) -> u64
     requires { ⌜ at + 8 ≤ length (now b) ⌝ }
     ensures { λ r. ⌜ r ≡ leAt (now (b .entry)) at 8 ⌝ }
 {
-    get32(b, at) as u64 + get32(b, at + 4) as u64 * 4294967296
+    let first = get32(b, at) as u64;
+    let second = get32(b, at + 4) as u64;
+    first + second * 4294967296
 }
 
 pub fn put16(b: &mut [u8], at: usize, v: u16)

@@ -9,8 +9,8 @@ use Rattle.fields.proofs.get32.Tie as tie
 get16-requires : tie.Need-get16-requires
 get16-requires c κs = search needs
 
-cast-result : tie.Need-cast-result
-cast-result c = search needs
+cast-first : tie.Need-cast-first
+cast-first c = search needs
 
 add-get16 : tie.Need-add-get16
 add-get16 c = search needs
@@ -18,8 +18,8 @@ add-get16 c = search needs
 get16-requires-2 : tie.Need-get16-requires-2
 get16-requires-2 c κs = search needs
 
-cast-result-2 : tie.Need-cast-result-2
-cast-result-2 c = search needs
+cast-second : tie.Need-cast-second
+cast-second c = search needs
 
 mul-result : tie.Need-mul-result
 mul-result c = search needs
@@ -28,17 +28,19 @@ add-result : tie.Need-add-result
 add-result c = search needs
 
 returns : tie.Need-returns
-returns c = omega (arith, leAt-add (c .before .before .before .args .b .now) (c .before .before .before .args .at) 2 2, c .before .get16 .ensures, c .get162 .ensures)
+returns c =
+    let a = c .before .before .before .args in
+    omega (arith, leAt-add (a .b .now) (a .at) 2 2, c .before .get16 .ensures, c .get162 .ensures)
 
 pub get32-spec : {M : Type 1} → statement M
 get32-spec =
     tie.close
     (tie.spec
     get16-requires
-    cast-result
+    cast-first
     add-get16
     get16-requires-2
-    cast-result-2
+    cast-second
     mul-result
     add-result
     returns)

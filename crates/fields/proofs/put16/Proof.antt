@@ -27,7 +27,9 @@ same-length : tie.Need-same-length
 same-length c = search needs
 
 returns : tie.Need-returns
-returns c = rw (putAt-parts (c .args .b .now) (c .args .at) 1 1 (c .args .v), putAt-byte (c .args .b .now) (c .args .at) (c .args .v % 256) (omega arith), putAt-byte (set (c .args .b .now) (c .args .at) (c .args .v % 256)) (c .args .at + 1) (c .args .v / 256) (omega arith))
+returns c =
+    let a = c .args in
+    rw (putAt-parts (a .b .now) (a .at) 1 1 (a .v), putAt-byte (a .b .now) (a .at) (a .v % 256) (omega arith), putAt-byte (set (a .b .now) (a .at) (a .v % 256)) (a .at + 1) (a .v / 256) (omega arith))
 
 pub put16-spec : {M : Type 1} → statement M
 put16-spec =

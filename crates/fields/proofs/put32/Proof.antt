@@ -24,7 +24,9 @@ same-length : tie.Need-same-length
 same-length c = search needs
 
 returns : tie.Need-returns
-returns c = cc (putAt-parts (c .before .before .before .before .before .before .before .before .before .args .b .now) (c .before .before .before .before .before .before .before .before .before .args .at) 2 2 (c .before .before .before .before .before .before .before .before .before .args .v), c .before .before .before .before .before .before .put16 .ensures, c .before .before .put162 .ensures)
+returns c =
+    let a = c .before .before .before .before .before .before .before .before .before .args in
+    rw (c .before .before .put162 .ensures, c .before .before .before .before .before .before .put16 .ensures, putAt-parts (a .b .now) (a .at) 2 2 (a .v))
 
 pub put32-spec : {M : Type 1} → statement M
 put32-spec =

@@ -24,7 +24,9 @@ same-length : tie.Need-same-length
 same-length c = search needs
 
 returns : tie.Need-returns
-returns c = cc (putAt-parts (c .before .before .before .before .before .before .before .before .before .args .b .now) (c .before .before .before .before .before .before .before .before .before .args .at) 4 4 (c .before .before .before .before .before .before .before .before .before .args .v), c .before .before .before .before .before .before .put32 .ensures, c .before .before .put322 .ensures)
+returns c =
+    let a = c .before .before .before .before .before .before .before .before .before .args in
+    rw (c .before .before .put322 .ensures, c .before .before .before .before .before .before .put32 .ensures, putAt-parts (a .b .now) (a .at) 4 4 (a .v))
 
 pub put64-spec : {M : Type 1} → statement M
 put64-spec =
