@@ -1,8 +1,7 @@
 -- What is made of bytes is bytes: the writing of a number, a join, a part, a store. Assumes nothing.
 use mathlib.Core.List.{List, [], _∷_, _++_}
-use Prim.Native.Nat.{ℕ, zero, suc, _+_, _/_, _%_}
-use native.Mathlib.Nat.{mod-lt}
-use lib.Dec.{lit<}
+use Prim.Native.Nat.{ℕ, zero, suc, _+_, _/_}
+use native.Mathlib.Omega.{arith}
 use lib.ListN.{set, take, drop}
 use lib.Seq.{sets, getD-drop}
 use mir.Facts.{fits-lit}
@@ -19,8 +18,9 @@ bytes-cons x xs h k (suc i) = k i
 
 pub bytes-le : (w v : ℕ) → Bytes (le w v)
 unfolding le
-bytes-le zero v = bytes-nil
-bytes-le (suc w) v = bytes-cons (v % 256) (le w (v / 256)) (record { fits = mod-lt v (lit< tt) }) (bytes-le w (v / 256))
+bytes-le zero v i = bytes-nil i
+bytes-le (suc w) v zero = omega arith
+bytes-le (suc w) v (suc i) = bytes-le w (v / 256) i
 
 pub bytes-append : (xs ys : List ℕ) → Bytes xs → Bytes ys → Bytes (xs ++ ys)
 bytes-append [] ys h k = k
