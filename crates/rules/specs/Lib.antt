@@ -20,3 +20,5 @@ pub mod Newest
 pub mod List
 pub mod Sync
 pub mod Crash
+pub mod History
+pub mod Demand

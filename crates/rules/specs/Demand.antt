@@ -1,0 +1,100 @@
+-- Demand 3 as a statement about histories: what holds of a store at every point of every history. Its proof is the
+-- theorem of that name in proofs/.
+use Prim.Native.Nat.{ℕ, _*_, _≤_, _<_}
+use mathlib.Core.Path.{_≡_}
+use mathlib.Core.Bool.{Bool, true, false}
+use mathlib.Core.List.{List, [], _∷_}
+use mathlib.Core.Option.{Option, some, none}
+use lib.ListN.{length, replicate}
+use lib.Dec.{leb}
+use Rattle.fields.specs.Field.{Bytes}
+use Rattle.rules.specs.Layout.{pageSize, fewestPages, mostPages, lastKey, lastNumber}
+use Rattle.rules.specs.Table.{number0}
+use Rattle.rules.specs.Call.{Left}
+use Rattle.rules.specs.Open.{opening}
+use Rattle.rules.specs.Newest.{newest}
+use Rattle.rules.specs.List.{ListLeft, list}
+use Rattle.rules.specs.History.{Event, State, looks, asksNewest, lists, step, run, start, AllTyped, crashed, crashedInSync, content, latest, earliest}
+use Rattle.rules.specs.declared.Opened.{Opened}
+use Rattle.rules.specs.declared.Newest.{Newest}
+use Rattle.rules.specs.declared.Listed.{Listed}
+
+-- ── Words ───────────────────────────────────────────────────────────────────────────────────────────────────────
+
+-- the stable tables that a crash of a store can leave, between two calls or inside a sync
+pub data CrashOf (m : State) : List ℕ → Type 0 where
+  between : (written : List Bool) → CrashOf m (crashed written m)
+  inSync : (written : List Bool) → CrashOf m (crashedInSync written m)
+
+-- a state is among those that a key has had
+pub data Among (x : Option ℕ) : List (Option ℕ) → Type 0 where
+  first : {xs : List (Option ℕ)} → Among x (x ∷ xs)
+  later : {y : Option ℕ} {xs : List (Option ℕ)} → Among x xs → Among x (y ∷ xs)
+
+-- the events that only read
+pub data Reads : Event → Type 0 where
+  look : {model serial issue : ℕ} → Reads (looks model serial issue)
+  ask : {model serial : ℕ} → Reads (asksNewest model serial)
+  listing : {from : ℕ} {ks xs : List ℕ} → Reads (lists from ks xs)
+
+-- two listings show the same; the pages they mended may differ
+pub record SameListing (a b : ListLeft) : Type 0 where
+  pub answer : a .answer ≡ b .answer
+  pub keys : a .keys ≡ b .keys
+  pub records : a .records ≡ b .records
+
+-- done, or spent exactly where the number is too high
+unfoldable pub openAnswer : List ℕ → Opened
+openAnswer s = elim (leb (number0 s) lastNumber) [ true ↦ Opened.Done | false ↦ Opened.Spent ]
+
+-- what is found after the opening of a stable table
+unfoldable pub after : State → List ℕ → ℕ → Option ℕ
+after m s k =
+    let r = opening (m .working) s in
+    content (r .session) (r .working) (r .stable) k
+
+-- ── What holds ──────────────────────────────────────────────────────────────────────────────────────────────────
+
+-- of a crash now, and the opening after it
+pub record Survives (m : State) : Type 0 where
+  pub opens : (s : List ℕ) → CrashOf m s → opening (m .working) s .answer ≡ openAnswer s
+  -- every key shows one of the states it has had; one that was there at the last sync or opening is there
+  pub shows : (s : List ℕ) → CrashOf m s → opening (m .working) s .answer ≡ Opened.Done
+      → (k : ℕ) → k ≤ lastKey → Among (after m s k) (m .past k)
+  pub keeps : (s : List ℕ) → CrashOf m s → opening (m .working) s .answer ≡ Opened.Done
+      → (k x : ℕ) → k ≤ lastKey → earliest (m .past k) ≡ some x → after m s k ≡ some x
+  -- no page written: the set of the sync or opening; all written: that of the crash
+  pub nothing-written : opening (m .working) (m .stable) .answer ≡ Opened.Done
+      → (k : ℕ) → k ≤ lastKey → after m (m .stable) k ≡ earliest (m .past k)
+  pub all-written : (s : List ℕ) → s ≡ crashed (replicate mostPages true) m → opening (m .working) s .answer ≡ Opened.Done
+      → (k : ℕ) → k ≤ lastKey → after m s k ≡ latest (m .past k)
+
+-- between crashes, while the last opening was done
+pub record Serves (m : State) : Type 0 where
+  -- the store is a map: a lookup answers by what was inserted
+  pub looks-up : (k : ℕ) → k ≤ lastKey → content (m .session) (m .working) (m .stable) k ≡ latest (m .past k)
+  -- no reading call meets damage, and none changes a later answer
+  pub newest-whole : (model serial : ℕ) → newest (m .working) (m .stable) (m .session) model serial .answer ≡ Newest.Damaged → ⊥
+  pub list-whole : (from : ℕ) (ks xs : List ℕ) → list (m .working) (m .stable) (m .session) from ks xs .answer ≡ Listed.Damaged → ⊥
+  pub newest-stays : (e : Event) → Reads e → (model serial : ℕ)
+      → newest (step e m .working) (m .stable) (m .session) model serial .answer
+      ≡ newest (m .working) (m .stable) (m .session) model serial .answer
+  pub list-stays : (e : Event) → Reads e → (from : ℕ) (ks xs : List ℕ)
+      → SameListing (list (step e m .working) (m .stable) (m .session) from ks xs)
+      (list (m .working) (m .stable) (m .session) from ks xs)
+
+-- ── The demand ──────────────────────────────────────────────────────────────────────────────────────────────────
+
+-- two lent tables of n pages
+pub record Lent (n : ℕ) (w s : List ℕ) : Type 0 where
+  pub few : fewestPages ≤ n
+  pub most : n ≤ mostPages
+  pub working : length w ≡ n * pageSize
+  pub stable : length s ≡ n * pageSize
+  pub bytes : Bytes w
+  pub bytes′ : Bytes s
+
+pub Demand3 : Type 0
+Demand3 =
+    (n : ℕ) (w s : List ℕ) → Lent n w s → (h : List Event) → AllTyped h
+    → Survives (run h (start w s)) × (((run h (start w s)) .session .n ≡ n) → Serves (run h (start w s)))

@@ -1,0 +1,189 @@
+-- Histories of a store, as demand 3 speaks of them: after a format and an opening any calls but format, each given
+-- the session that the last one returned, and any number of crashes, each with an opening after it.
+--
+-- Beside the pages a history keeps, for each key, the states it has had since the last successful sync or opening.
+-- They are folded from the calls and their answers; no page is read for them.
+use Prim.Native.Nat.{ℕ, _<_}
+use mathlib.Core.Bool.{Bool, true, false}
+use mathlib.Core.List.{List, [], _∷_}
+use mathlib.Core.Option.{Option, some, none}
+use lib.Dec.{leb, eqb}
+use Rattle.rules.specs.Layout.{lastNumber}
+use Rattle.rules.specs.Key.{keyOf, modelOf, serialOf, issueOf}
+use Rattle.rules.specs.Marks.{nobody}
+use Rattle.rules.specs.Call.{Left}
+use Rattle.rules.specs.Format.{format}
+use Rattle.rules.specs.Open.{opening}
+use Rattle.rules.specs.Insert.{insert}
+use Rattle.rules.specs.Lookup.{lookup}
+use Rattle.rules.specs.Newest.{newest}
+use Rattle.rules.specs.List.{list}
+use Rattle.rules.specs.Sync.{sync}
+use Rattle.rules.specs.Crash.{crash, crashInSync}
+use Rattle.rules.specs.declared.Session.{Session}
+use Rattle.rules.specs.declared.Opened.{Opened}
+use Rattle.rules.specs.declared.Inserted.{Inserted}
+use Rattle.rules.specs.declared.Looked.{Looked}
+use Rattle.rules.specs.declared.Synced.{Synced}
+
+-- ── What can happen ─────────────────────────────────────────────────────────────────────────────────────────────
+
+-- a call with its arguments, or a crash with the pages that it writes
+pub data Event : Type 0 where
+  inserts : ℕ → ℕ → ℕ → ℕ → Event
+  looks : ℕ → ℕ → ℕ → Event
+  asksNewest : ℕ → ℕ → Event
+  lists : ℕ → List ℕ → List ℕ → Event
+  syncs : Event
+  opens : Event
+  crashes : List Bool → Event
+  crashesInSync : List Bool → Event
+
+-- a store between two calls. The states of a key stand newest first.
+pub record State : Type 0 where
+  pub session : Session
+  pub working : List ℕ
+  pub stable : List ℕ
+  pub past : ℕ → List (Option ℕ)
+
+-- ── The states of a key ─────────────────────────────────────────────────────────────────────────────────────────
+
+-- the state now, and the state at the last successful sync or opening
+unfoldable pub latest : List (Option ℕ) → Option ℕ
+latest [] = none
+latest (x ∷ xs) = x
+
+unfoldable pub earliest : List (Option ℕ) → Option ℕ
+earliest [] = none
+earliest (x ∷ []) = x
+earliest (x ∷ (y ∷ ys)) = earliest (y ∷ ys)
+
+-- what a lookup that answers 0 found
+unfoldable pub recordIn : Looked → Option ℕ
+recordIn (Looked.Found x) = some x
+recordIn Looked.Length = none
+recordIn Looked.BadKey = none
+recordIn Looked.Damaged = none
+recordIn Looked.Missing = none
+
+-- what a lookup of a key would answer
+unfoldable pub content : Session → List ℕ → List ℕ → ℕ → Option ℕ
+content s w t k = recordIn (lookup w t s (modelOf k) (serialOf k) (issueOf k) .answer)
+
+-- a key got a record: a state more for that key
+unfoldable pub gains : ℕ → ℕ → (ℕ → List (Option ℕ)) → ℕ → List (Option ℕ)
+gains k x past j = elim (eqb j k) [ true ↦ some x ∷ past j | false ↦ past j ]
+
+-- ── One step ────────────────────────────────────────────────────────────────────────────────────────────────────
+
+unfoldable pub afterInsert : ℕ → ℕ → State → Left Inserted → State
+afterInsert k x m r = record {
+  session = r .session;
+  working = r .working;
+  stable = r .stable;
+  past =
+      elim (r .answer) [
+        | Inserted.Done ↦ gains k x (m .past)
+        | Inserted.Length ↦ m .past
+        | Inserted.BadKey ↦ m .past
+        | Inserted.Damaged ↦ m .past
+        | Inserted.Present ↦ m .past
+        | Inserted.SyncFirst ↦ m .past
+        | Inserted.Full ↦ m .past
+      ];
+}
+
+unfoldable pub afterSync : State → Left Synced → State
+afterSync m r = record {
+  session = r .session;
+  working = r .working;
+  stable = r .stable;
+  past =
+      elim (r .answer) [
+        | Synced.Done ↦ λ k. latest (m .past k) ∷ []
+        | Synced.Length ↦ m .past
+        | Synced.Spent ↦ m .past
+      ];
+}
+
+-- a successful opening starts the states of every key anew, with what a lookup now answers
+unfoldable pub afterOpen : State → Left Opened → State
+afterOpen m r = record {
+  session = r .session;
+  working = r .working;
+  stable = r .stable;
+  past =
+      elim (r .answer) [
+        | Opened.Done ↦ λ k. content (r .session) (r .working) (r .stable) k ∷ []
+        | Opened.Length ↦ m .past
+        | Opened.Damaged ↦ m .past
+        | Opened.Spent ↦ m .past
+      ];
+}
+
+-- a call that only reads may mend
+unfoldable pub afterReading : State → List ℕ → State
+afterReading m w = record { session = m .session; working = w; stable = m .stable; past = m .past }
+
+-- ── Crashes ─────────────────────────────────────────────────────────────────────────────────────────────────────
+
+-- what a crash leaves in the stable table. After an opening that was refused the driver gets no page.
+unfoldable pub crashed : List Bool → State → List ℕ
+crashed written m =
+    elim (eqb (m .session .n) 0)
+    [ true ↦ m .stable | false ↦ crash written (m .working) (m .stable) ]
+
+-- inside a sync that would be done; a sync that is refused writes no number
+unfoldable pub crashedInSync : List Bool → State → List ℕ
+crashedInSync written m =
+    elim (eqb (m .session .n) 0) [
+      | true ↦ m .stable
+      | false ↦
+          elim (leb (m .session .c) lastNumber) [
+            | true ↦ crashInSync written (m .session) (m .working) (m .stable)
+            | false ↦ crash written (m .working) (m .stable)
+          ]
+    ]
+
+unfoldable pub step : Event → State → State
+step (inserts model serial issue x) m =
+    afterInsert (keyOf model serial issue) x m (insert (m .working) (m .stable) (m .session) model serial issue x)
+step (looks model serial issue) m =
+    afterReading m (lookup (m .working) (m .stable) (m .session) model serial issue .working)
+step (asksNewest model serial) m =
+    afterReading m (newest (m .working) (m .stable) (m .session) model serial .working)
+step (lists start ks xs) m =
+    afterReading m (list (m .working) (m .stable) (m .session) start ks xs .working)
+step syncs m = afterSync m (sync (m .working) (m .stable) (m .session))
+step opens m = afterOpen m (opening (m .working) (m .stable))
+step (crashes written) m = afterOpen m (opening (m .working) (crashed written m))
+step (crashesInSync written) m = afterOpen m (opening (m .working) (crashedInSync written m))
+
+-- ── Whole histories ─────────────────────────────────────────────────────────────────────────────────────────────
+
+-- a store fresh from format and open, of two tables of any bytes
+unfoldable pub start : List ℕ → List ℕ → State
+start w s =
+    afterOpen (record { session = nobody; working = w; stable = s; past = λ k. [] })
+    (opening w (format w s .stable))
+
+-- events in the order in which they happened
+unfoldable pub run : List Event → State → State
+run [] m = m
+run (e ∷ es) m = run es (step e m)
+
+-- arguments within the width of their type
+unfoldable pub Typed : Event → Type 0
+Typed (inserts model serial issue x) =
+    (model < 65536) × (serial < 4294967296) × (issue < 65536) × (x < 4294967296)
+Typed (looks model serial issue) = (model < 65536) × (serial < 4294967296) × (issue < 65536)
+Typed (asksNewest model serial) = (model < 65536) × (serial < 4294967296)
+Typed (lists start ks xs) = start < 18446744073709551616
+Typed syncs = Unit {0}
+Typed opens = Unit {0}
+Typed (crashes written) = Unit {0}
+Typed (crashesInSync written) = Unit {0}
+
+unfoldable pub AllTyped : List Event → Type 0
+AllTyped [] = Unit {0}
+AllTyped (e ∷ es) = Typed e × AllTyped es
