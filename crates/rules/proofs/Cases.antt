@@ -102,7 +102,7 @@ synced41 =
     let m = forty 5 in
     left (inserting (left (sync (m .working) (m .stable) (m .session))) 41)
 
--- and then a crash with some pages written, and an store
+-- and then a crash with some pages written, and an opening
 unfoldable pub crashed : List Bool → Left Opened
 crashed written = opening (synced41 .working) (crash written (synced41 .working) (synced41 .stable))
 
