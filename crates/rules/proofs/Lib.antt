@@ -1,5 +1,21 @@
--- Laws about the rules, and the bench cases.
-pub mod Computing
-pub mod Cases
+-- Laws about the rules, one notion a file, each file using only those above it.
+
+-- Tests, entries, soundness, places
+pub mod Tests
+pub mod Rises
+pub mod Entries
+pub mod Puts
+pub mod Runs
+pub mod Views
+pub mod Sounds
+pub mod Places
+pub mod Halves
+pub mod Picks
+pub mod Asks
+pub mod Twins
+-- Demand 1
 pub mod Mending
 pub mod Refusals
+-- The bench cases
+pub mod Computing
+pub mod Cases
