@@ -1,0 +1,158 @@
+//! Arbitrary and lightly changed tables, lengths and sessions, held against demand 1.
+
+mod other_ways;
+mod promises;
+pub mod tables;
+
+use crate::answer::WORDS;
+use crate::key::{key, parts};
+use crate::layout::{KIND_LEAF, PAGE};
+use crate::page;
+use crate::rng::Rng;
+use crate::store::Store;
+use promises::Kept;
+use std::collections::BTreeMap;
+use std::fmt;
+use std::panic::{catch_unwind, AssertUnwindSafe};
+use std::time::{Duration, Instant};
+
+/// Each call with the answers that the table of document 01 has for it.
+const ANSWERS: [(&str, &[usize]); 7] = [
+    ("format", &[0, 1]),
+    ("open", &[0, 1, 3, 8]),
+    ("insert", &[0, 1, 2, 3, 5, 6, 7]),
+    ("lookup", &[0, 1, 2, 3, 4]),
+    ("newest", &[0, 1, 2, 3, 4]),
+    ("list", &[0, 1, 3]),
+    ("sync", &[0, 1, 8]),
+];
+
+const NAMED: [&str; 6] = [
+    "tables",
+    "calls",
+    "mended leaves",
+    "mended kind 2",
+    "mended kind 3",
+    "openings refused for their names alone",
+];
+
+/// What a run has met.
+pub struct Counters(BTreeMap<(&'static str, &'static str), u64>);
+
+impl Default for Counters {
+    fn default() -> Counters {
+        Counters::new()
+    }
+}
+
+impl Counters {
+    pub fn new() -> Counters {
+        let answers = ANSWERS
+            .iter()
+            .flat_map(|(call, answers)| answers.iter().map(move |answer| (*call, WORDS[*answer])));
+        let named = NAMED.iter().map(|name| ("all", *name));
+        Counters(answers.chain(named).map(|name| (name, 0)).collect())
+    }
+
+    fn add(&mut self, name: &'static str) {
+        *self
+            .0
+            .get_mut(&("all", name))
+            .expect("a counter by that name") += 1;
+    }
+
+    /// Counts an answer; one that the call can't give is an error of the call.
+    fn answer(&mut self, call: &'static str, answer: u32) {
+        let word = WORDS[answer as usize];
+        let count = self.0.get_mut(&(call, word));
+        *count.unwrap_or_else(|| panic!("{call} answers {word}")) += 1;
+        self.add("calls");
+    }
+
+    /// Those that stayed 0.
+    pub fn missing(&self) -> Vec<String> {
+        let zero = self.0.iter().filter(|(_, count)| **count == 0);
+        zero.map(|((call, name), _)| format!("{call} {name}"))
+            .collect()
+    }
+}
+
+impl fmt::Display for Counters {
+    fn fmt(&self, out: &mut fmt::Formatter) -> fmt::Result {
+        for ((call, name), count) in &self.0 {
+            writeln!(out, "{count:>12}  {call} {name}")?;
+        }
+        let least = self.0.iter().min_by_key(|(_, count)| **count);
+        let ((call, name), count) = least.expect("there are counters");
+        write!(out, "smallest counter: {count} ({call} {name})")
+    }
+}
+
+/// Tries tables until time is up or a promise is broken; then the seed of the table is given.
+pub fn run(seed: u64, time: Duration, counters: &mut Counters) -> Option<String> {
+    let seeds = Rng::new(seed);
+    let end = Instant::now() + time;
+    while Instant::now() < end {
+        let seed = seeds.next();
+        let tried = catch_unwind(AssertUnwindSafe(|| try_table(seed, counters)));
+        if let Err(what) = tried.unwrap_or_else(|_| Err("a panic".to_string())) {
+            return Some(format!("table of seed {seed}: {what}"));
+        }
+    }
+    None
+}
+
+/// A few calls, one after another, on the table of this seed.
+pub fn try_table(seed: u64, counters: &mut Counters) -> Kept {
+    let rng = Rng::new(seed);
+    let mut store = tables::arbitrary(&rng);
+    counters.add("tables");
+    for _ in 0..rng.from(1, 6) {
+        try_call(&mut store, &rng, counters)?;
+    }
+    Ok(())
+}
+
+fn try_call(store: &mut Store, rng: &Rng, counters: &mut Counters) -> Kept {
+    let key = some_key(store, rng);
+    match rng.below(20) {
+        0 => promises::formats(&mut store.clone(), counters),
+        1..=3 => {
+            let session = store.session;
+            promises::open(store, counters)?;
+            // After a refusal the calls go on with the session there was.
+            if store.session.n == 0 {
+                store.session = session;
+            }
+            Ok(())
+        }
+        4 => promises::sync(store, counters),
+        5..=8 => promises::lookup(store, key, counters),
+        9..=10 => {
+            let (model, serial, _) = parts(key);
+            promises::newest(store, (model, serial), counters)
+        }
+        11..=13 => {
+            let room = rng.one_of(&[0, 1, 10, 60, 2000]);
+            let start = rng.one_of(&[0, key, rng.next()]);
+            promises::list(store, start, [room, room + rng.below(2)], counters)
+        }
+        _ => promises::insert(store, key, rng.next() as u32, counters),
+    }
+}
+
+/// A key: often of some leaf, or beside one of its entries.
+fn some_key(store: &Store, rng: &Rng) -> u64 {
+    let random = key(7, rng.below(1 << 20) as u32, rng.from(1, 3) as u16);
+    if store.working.len() < PAGE || rng.once_in(4) {
+        return rng.one_of(&[random, random, rng.next(), 0, u64::MAX]);
+    }
+    let number = rng.below(store.working.len() / PAGE) as u16;
+    let page = page::page(&store.working, number);
+    let count = page::count(page).min(page::capacity(KIND_LEAF));
+    if page::kind(page) != KIND_LEAF || count == 0 {
+        return random;
+    }
+    let beside = page::key_at(page, rng.below(count));
+    rng.one_of(&[beside, beside.wrapping_add(1), beside.wrapping_add(1 << 16)])
+}

@@ -1,0 +1,215 @@
+//! Demand 1 on arbitrary tables: each call ends with an answer of its own, and keeps what it
+//! promises to keep.
+
+use super::other_ways::{climb, Entering};
+use super::Counters;
+use crate::answer::{BADKEY, DAMAGED, DONE, LENGTH, NONE, SPENT};
+use crate::field::{get32, put32};
+use crate::format;
+use crate::key::{key, parts, whole};
+use crate::layout::{zero, FIRST_NUMBER, PAGE};
+use crate::page::{self, Header, Page};
+use crate::session::Session;
+use crate::store::Store;
+use crate::tree::Tree;
+use crate::walk::{pages, zero_fits};
+
+pub type Kept = Result<(), String>;
+
+/// Names of counters, by kind.
+const MENDED: [&str; 3] = ["mended leaves", "mended kind 2", "mended kind 3"];
+
+fn must(holds: bool, what: &str) -> Kept {
+    if holds {
+        Ok(())
+    } else {
+        Err(what.to_string())
+    }
+}
+
+/// What a walk may change: pages of working, each to a sound one built and touched now.
+fn mends(before: &Store, after: &Store, counters: &mut Counters) -> Kept {
+    must(before.stable == after.stable, "stable changed")?;
+    must(before.session == after.session, "the session changed")?;
+    let old = before.working.chunks_exact(PAGE);
+    let new = after.working.chunks_exact(PAGE);
+    for (number, (old, new)) in old.zip(new).enumerate() {
+        if old == new {
+            continue;
+        }
+        let new: &Page = new.try_into().expect("a whole page");
+        let head = Header::of(new);
+        let c = after.session.c;
+        let built = number > 0 && head.built == c && head.touched == c;
+        let mended = built && page::sound(new, after.session.n);
+        must(mended, "a page changed that wasn't mended")?;
+        counters.add(MENDED[usize::from(head.kind) - 1]);
+    }
+    Ok(())
+}
+
+pub fn lookup(store: &mut Store, key: u64, counters: &mut Counters) -> Kept {
+    let before = store.clone();
+    let (answer, record) = store.lookup(key);
+    counters.answer("lookup", answer);
+    must(answer == DONE || record == 0, "a number beside a refusal")?;
+    must((answer == BADKEY) <= !whole(key), "badkey for a whole key")?;
+    mends(&before, store, counters)?;
+    if [LENGTH, BADKEY].contains(&answer) {
+        return must(*store == before, "a page changed");
+    }
+    let once = store.clone();
+    let again = store.lookup(key);
+    must(again == (answer, record), "the second lookup differs")?;
+    must(*store == once, "the second lookup changed something")
+}
+
+pub fn newest(store: &mut Store, meter: (u16, u32), counters: &mut Counters) -> Kept {
+    let (model, serial) = meter;
+    let before = store.clone();
+    let (answer, issue, record) = store.newest(model, serial);
+    counters.answer("newest", answer);
+    mends(&before, store, counters)?;
+    let found = key(model, serial, issue);
+    match answer {
+        DONE => must(store.lookup(found) == (DONE, record), "newest isn't found"),
+        NONE => {
+            let (mut keys, mut records) = ([0], [0]);
+            let start = key(model, serial, 1);
+            let (answer, count) = store.list(start, &mut keys, &mut records);
+            let other = count == 0 || parts(keys[0]).0 != model || parts(keys[0]).1 != serial;
+            must(answer != DONE || other, "an issue is listed")
+        }
+        _ => must((issue, record) == (0, 0), "a number beside a refusal"),
+    }
+}
+
+pub fn list(store: &mut Store, start: u64, rooms: [usize; 2], counters: &mut Counters) -> Kept {
+    let before = store.clone();
+    let (mut keys, mut records) = (vec![3; rooms[0]], vec![4; rooms[1]]);
+    let (answer, count) = store.list(start, &mut keys, &mut records);
+    counters.answer("list", answer);
+    mends(&before, store, counters)?;
+    let untouched = keys[count..].iter().all(|key| *key == 3)
+        && records[count..].iter().all(|record| *record == 4);
+    must(untouched, "a list place changed that isn't filled")?;
+    must(answer == DONE || count == 0, "a number beside a refusal")?;
+    let mut other = before;
+    let (climbed, entries) = climb(&mut other, start, rooms[0].min(rooms[1]));
+    must(climbed == answer, "climbing gives another answer")?;
+    must(other == *store, "climbing mends other pages")?;
+    let filled = keys.iter().zip(&records).take(count);
+    let listed = entries.iter().map(|entry| (&entry.key, &entry.record));
+    must(filled.eq(listed), "climbing lists other entries")
+}
+
+pub fn insert(store: &mut Store, key: u64, record: u32, counters: &mut Counters) -> Kept {
+    let before = store.clone();
+    let answer = store.insert(key, record);
+    counters.answer("insert", answer);
+    must(store.stable == before.stable, "stable changed")?;
+    let mut looked = before.clone();
+    let there = looked.lookup(key).0;
+    if answer == DONE {
+        must(there == NONE, "an entry was there already")?;
+        return must(
+            store.lookup(key) == (DONE, record),
+            "what was inserted isn't found",
+        );
+    }
+    must(
+        there != NONE || answer > 5,
+        "refused, but nothing is in the way",
+    )?;
+    mends(&before, store, counters)?;
+    must(
+        looked == *store,
+        "a refused insert changed more than its walk mends",
+    )
+}
+
+pub fn open(store: &mut Store, counters: &mut Counters) -> Kept {
+    let before = store.clone();
+    let answer = store.open();
+    counters.answer("open", answer);
+    if let Some(n) = pages(&before.working, &before.stable) {
+        let expected = Entering::open(&before.stable, n);
+        must(
+            (answer, store.session) == expected,
+            "entering page by page differs",
+        )?;
+        if only_names_are_wrong(&before.stable, n) {
+            must(answer == DAMAGED, "wrong names were taken")?;
+            counters.add("openings refused for their names alone");
+        }
+    } else {
+        must(answer == LENGTH, "a wrong length was taken")?;
+    }
+    if answer != DONE {
+        let session = Session::new(0, 0);
+        return must(
+            *store == Store { session, ..before },
+            "a refused opening changed something",
+        );
+    }
+    let mut raised = before.stable;
+    put32(&mut raised, zero::NUMBER, store.session.c + 1);
+    must(
+        store.stable == raised && store.working == raised,
+        "opening wrote other bytes",
+    )
+}
+
+pub fn sync(store: &mut Store, counters: &mut Counters) -> Kept {
+    let before = store.clone();
+    let answer = store.sync();
+    counters.answer("sync", answer);
+    if answer != DONE {
+        must([LENGTH, SPENT].contains(&answer), "not an answer of sync")?;
+        return must(*store == before, "a refused sync changed something");
+    }
+    let mut written = before.working;
+    put32(&mut written, zero::NUMBER, before.session.c + 2);
+    must(
+        store.working == written && store.stable == written,
+        "sync wrote other bytes",
+    )?;
+    let marks = (0..128).all(|p| {
+        let own = 1 <= p && p < usize::from(before.session.n);
+        let waits = before.session.waiting[p];
+        store.session.free[p] == (before.session.free[p] || own && waits)
+            && store.session.waiting[p] == (waits && !own)
+    });
+    must(
+        marks && store.session.c == before.session.c + 1,
+        "sync left another session",
+    )
+}
+
+pub fn formats(store: &mut Store, counters: &mut Counters) -> Kept {
+    let before = store.clone();
+    let answer = format(&store.working, &mut store.stable);
+    counters.answer("format", answer);
+    if answer != DONE {
+        return must(
+            answer == LENGTH && *store == before,
+            "a refused format changed something",
+        );
+    }
+    must(store.working == before.working, "format changed working")?;
+    must(
+        get32(&store.stable, zero::NUMBER) == FIRST_NUMBER,
+        "another first number",
+    )?;
+    let opened = store.open();
+    must(
+        opened == DONE && store.lookup(key(7, 1, 1)).0 == NONE,
+        "not an empty store",
+    )
+}
+
+/// Whether only its names are wrong with a table: one child twice, or the previous page of a
+/// lost entry as a child.
+fn only_names_are_wrong(stable: &[u8], n: u16) -> bool {
+    zero_fits(stable, n) && Tree::read(stable, n, 0).is_ok() && Tree::good(stable, n).is_none()
+}

@@ -1,0 +1,172 @@
+//! Crashes: a mix of stable and working pages is opened and held against demand 3.
+
+use super::call::{numbers, set, Mix, PageSet};
+use super::counters::{Counted, Counters};
+use super::player::{Player, Watch};
+use super::set::Set;
+use crate::answer::{DONE, NONE, SPENT};
+use crate::field::get32;
+use crate::invariant;
+use crate::key::whole;
+use crate::layout::{zero, LAST_NUMBER, PAGE, PAGES_MOST};
+use crate::store::Store;
+use crate::tree::Tree;
+use crate::{crash, number_ahead};
+
+/// With no more differing pages than this, every mix is tried.
+const FEW: usize = 6;
+/// Of a larger set, about this many keys are looked up in a mix on copies.
+const SAMPLE: usize = 50;
+
+fn differing(store: &Store) -> PageSet {
+    let pages = store.working.chunks(PAGE).zip(store.stable.chunks(PAGE));
+    let differ = pages.enumerate().filter(|(_, (w, s))| w != s);
+    set(differ.map(|(number, _)| number))
+}
+
+/// Looks a key up: the answer must be that of the set.
+fn look_at(store: &mut Store, found: &Set, key: u64) -> Result<(), String> {
+    let expected = found.get(key).map_or((NONE, 0), |record| (DONE, record));
+    if whole(key) && store.lookup(key) != expected {
+        return Err(format!("after the opening, lookup of key {key} is wrong"));
+    }
+    Ok(())
+}
+
+/// Looks keys up in this order, and here and there a neighbour.
+fn look(store: &mut Store, found: &Set, keys: impl Iterator<Item = u64>) -> Result<(), String> {
+    let neighbours = [1, 1 << 16, 1 << 48, 2];
+    for (index, key) in keys.enumerate() {
+        look_at(store, found, key)?;
+        if index % neighbours.len() == 0 {
+            let other = neighbours[index / neighbours.len() % neighbours.len()];
+            look_at(store, found, key ^ other)?;
+        }
+    }
+    Ok(())
+}
+
+impl Player {
+    /// The working table that a crash finds, and the pages in which it differs from stable.
+    fn before_crash(&self, inside_sync: bool) -> (Store, PageSet) {
+        let mut copy = self.store.clone();
+        if inside_sync && copy.session.c <= LAST_NUMBER {
+            number_ahead(&mut copy.working, copy.session.c);
+        }
+        let differ = differing(&copy);
+        (copy, differ)
+    }
+
+    /// Pages that differ between working and stable.
+    pub fn differing(&self) -> PageSet {
+        differing(&self.store)
+    }
+
+    /// Opens a mix; none if the counter is spent.
+    fn open_mix(&self, mix: Mix, counters: &mut Counters) -> Result<Option<(Store, Set)>, String> {
+        let (mut store, differ) = self.before_crash(mix.inside_sync);
+        let mut written = [false; PAGES_MOST];
+        numbers(mix.pages).for_each(|page| written[page] = true);
+        crash(&store.working, &mut store.stable, &written);
+        let spent = get32(&store.stable, zero::NUMBER) > LAST_NUMBER;
+        let answer = store.open();
+        counters.answer(Counted::Open, answer);
+        if answer != if spent { SPENT } else { DONE } {
+            return Err(format!("the opening after a crash answers {answer}"));
+        }
+        if spent {
+            counters.add("mixes with the counter spent");
+            return Ok(None);
+        }
+        let tree =
+            Tree::good(&store.working, store.session.n).ok_or("the opened tree is damaged")?;
+        let found = Set::of(tree.entries());
+        self.between(&found, mix.pages, differ)?;
+        if self.watch == Watch::Invariants {
+            invariant::check(&store)?;
+        }
+        self.count_pages(mix, differ, counters);
+        self.count_mix(&tree, &found, counters);
+        Ok(Some((store, found)))
+    }
+
+    /// Demand 3: nothing of the last sync or opening is missing, nothing is there that wasn't
+    /// inserted, and both extremes are exact.
+    fn between(&self, found: &Set, pages: PageSet, differ: PageSet) -> Result<(), String> {
+        if !self.base.within(found) {
+            return Err("an entry of the last sync or opening is gone".to_string());
+        }
+        if !found.within(&self.now) {
+            return Err("an entry is there that wasn't inserted".to_string());
+        }
+        if pages & differ == 0 && *found != self.base {
+            return Err("no page was written, but the set has changed".to_string());
+        }
+        if differ & !pages == 0 && *found != self.now {
+            return Err("all pages were written, but the set isn't that of the crash".to_string());
+        }
+        Ok(())
+    }
+
+    /// A crash on copies.
+    pub(super) fn try_mix(&mut self, mix: Mix, counters: &mut Counters) -> Result<(), String> {
+        counters.add("mixes opened on copies");
+        let Some((mut store, found)) = self.open_mix(mix, counters)? else {
+            return Ok(());
+        };
+        let step = self.now.len() / SAMPLE + 1;
+        look(&mut store, &found, self.now.keys().step_by(step))
+    }
+
+    /// Every mix on copies, if few pages differ.
+    pub(super) fn all_mixes(
+        &mut self,
+        inside_sync: bool,
+        counters: &mut Counters,
+    ) -> Result<(), String> {
+        let (_, differ) = self.before_crash(inside_sync);
+        let pages: Vec<usize> = numbers(differ).collect();
+        if pages.len() > FEW {
+            return Ok(());
+        }
+        counters.add("states with all mixes opened");
+        for chosen in 0..1u32 << pages.len() {
+            let written = pages
+                .iter()
+                .enumerate()
+                .filter(|(bit, _)| chosen >> bit & 1 == 1);
+            let pages = set(written.map(|(_, page)| *page));
+            self.try_mix(Mix { pages, inside_sync }, counters)?;
+        }
+        Ok(())
+    }
+
+    /// A crash: the history goes on in the store that was opened. Two orders of lookups on
+    /// copies must agree with what the opening shows.
+    pub(super) fn crash(
+        &mut self,
+        mix: Mix,
+        plain: bool,
+        counters: &mut Counters,
+    ) -> Result<(), String> {
+        let (_, differ) = self.before_crash(mix.inside_sync);
+        counters.add_if(plain, "openings without a crash");
+        if !plain {
+            self.count_crash(mix, differ, counters);
+        }
+        let Some((store, found)) = self.open_mix(mix, counters)? else {
+            self.over = true;
+            return Ok(());
+        };
+        let keys: Vec<u64> = self.now.keys().collect();
+        let backwards = keys.iter().rev().step_by(keys.len() / SAMPLE + 1);
+        look(&mut store.clone(), &found, keys.iter().copied())?;
+        look(&mut store.clone(), &found, backwards.copied())?;
+        self.store = store;
+        self.base = found.clone();
+        self.now = found;
+        self.tree = None;
+        self.crashed = true;
+        Ok(())
+    }
+}

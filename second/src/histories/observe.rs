@@ -1,0 +1,96 @@
+//! Counts what a move has shown.
+
+use super::call::{Mix, PageSet};
+use super::counters::Counters;
+use super::player::Player;
+use super::set::Set;
+use crate::layout::LAST_NUMBER;
+use crate::page::{self, Header};
+use crate::tree::{Node, Tree};
+
+fn is_inner(node: &Node) -> bool {
+    page::kind(&node.shown) > 1
+}
+
+impl Player {
+    /// Counts mends and splits by what has gone from W's tree.
+    pub(super) fn count_changes(&self, before: &Tree, after: &Tree, counters: &mut Counters) {
+        let lost = after.lost().map(|node| node.place).collect::<Vec<_>>();
+        for node in before.lost().filter(|node| !lost.contains(&node.place)) {
+            match (page::kind(&node.shown), node.above) {
+                (1, Some(_)) => counters.add("mended leaves"),
+                (1, None) => counters.add("mended roots, leaf"),
+                (_, Some(_)) => counters.add("mended pages of kind 2"),
+                (_, None) => counters.add("mended roots, kind 2"),
+            }
+        }
+        let children = after.children();
+        let gone = |node: &&Node| !children[usize::from(node.place.child)];
+        let split: Vec<&Node> = before.nodes.iter().filter(gone).collect();
+        counters.add_if(split.len() > 1, "split by one insert: leaf and parent");
+        for node in split {
+            self.count_split(node, counters);
+        }
+    }
+
+    fn count_split(&self, node: &Node, counters: &mut Counters) {
+        match (page::kind(&node.shown), node.above) {
+            (1, above) => {
+                let head = Header::of(&node.shown);
+                let c = self.store.session.c;
+                counters.add_if(above.is_none(), "split root leaves");
+                counters.add(match (node.lost || head.built == c, head.birth == c) {
+                    (true, true) => "split leaves freed at once",
+                    (true, false) => "split leaves that wait, mended now",
+                    (false, _) => "split leaves that wait, old",
+                });
+            }
+            (_, Some(_)) => counters.add("split pages of kind 2 below kind 3"),
+            (_, None) => counters.add("split roots of kind 2"),
+        }
+    }
+
+    /// Counts what the opening of a mix has found.
+    pub(super) fn count_mix(&self, tree: &Tree, found: &Set, counters: &mut Counters) {
+        let root = &tree.nodes[0];
+        let lost_above = |above: Option<usize>| above.is_some_and(|above| tree.nodes[above].lost);
+        let leaf_root = root.lost && !is_inner(root);
+        let inner_root = root.lost && is_inner(root);
+        let below = tree.lost().any(|node| lost_above(node.above));
+        let between = *found != self.base && *found != self.now;
+        let before = self.tree.as_ref();
+        let still = before.is_some_and(|tree| tree.lost().next().is_some());
+        counters.add_if(tree.lost().next().is_some(), "mixes with a lost page");
+        counters.add_if(tree.lost().any(is_inner), "mixes with a lost inner page");
+        counters.add_if(leaf_root, "mixes with a lost root, leaf");
+        counters.add_if(inner_root, "mixes with a lost root, kind 2");
+        counters.add_if(below, "mixes with lost below lost");
+        counters.add_if(between, "mixes with a set between the extremes");
+        counters.add_if(still, "mixes of a tree with a lost page");
+    }
+
+    /// Counts which pages a mix takes from where.
+    pub(super) fn count_pages(&self, mix: Mix, differ: PageSet, counters: &mut Counters) {
+        let written = mix.pages & differ;
+        let (zero, others) = (differ & 1, differ & !1);
+        let both = zero != 0 && others != 0;
+        let zero_old = both && written == others;
+        counters.add_if(zero_old, "mixes with page 0 old, others new");
+        let zero_new = both && written == zero;
+        counters.add_if(zero_new, "mixes with page 0 new, others old");
+    }
+
+    pub(super) fn count_crash(&self, mix: Mix, differ: PageSet, counters: &mut Counters) {
+        let written = mix.pages & differ;
+        let inside = mix.inside_sync && self.store.session.c <= LAST_NUMBER;
+        counters.add("crashes, all");
+        counters.add(match (written.count_ones(), differ == written) {
+            (0, _) => "crashes with no page",
+            (_, true) => "crashes with all pages",
+            (1, _) => "crashes with one page",
+            _ => "crashes with some pages",
+        });
+        counters.add_if(inside, "crashes inside a sync");
+        counters.add_if(self.crashed, "crashes after a crash without a sync");
+    }
+}

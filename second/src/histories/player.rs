@@ -1,0 +1,284 @@
+//! Plays the moves of a history and checks every answer against a set kept beside the store.
+
+use super::call::{Call, Mix};
+use super::counters::{Counted, Counters};
+use super::set::Set;
+use super::Move;
+use crate::answer::{BADKEY, DONE, FULL, LENGTH, NONE, PRESENT, SPENT, SYNCFIRST};
+use crate::field::put32;
+use crate::invariant;
+use crate::key::{key, parts, whole};
+use crate::layout::{zero, INNER_CAP, KIND_TOP, LAST_NUMBER, LEVELS, PAGE};
+use crate::page::{self, Header};
+use crate::place::Place;
+use crate::session::Session;
+use crate::store::Store;
+use crate::tree::Tree;
+
+/// What is checked: demand 3 always, the invariants if asked for.
+#[derive(Clone, Copy, PartialEq, Eq, Debug)]
+pub enum Watch {
+    Demand,
+    Invariants,
+}
+
+pub struct Player {
+    pub store: Store,
+    /// The entries at the last successful sync or opening.
+    pub base: Set,
+    /// The entries now.
+    pub now: Set,
+    /// W's tree after the last checked move.
+    pub tree: Option<Tree>,
+    /// The last insert's answer.
+    pub answer: u32,
+    /// The counter is spent and the store closed.
+    pub over: bool,
+    pub(super) watch: Watch,
+    pub(super) crashed: bool,
+}
+
+type Played = Result<(), String>;
+
+fn must(holds: bool, what: impl FnOnce() -> String) -> Played {
+    if holds {
+        Ok(())
+    } else {
+        Err(what())
+    }
+}
+
+impl Player {
+    pub fn new(n: usize, watch: Watch) -> Player {
+        Player {
+            store: Store::fresh(n),
+            base: Set::new(),
+            now: Set::new(),
+            tree: None,
+            answer: DONE,
+            over: false,
+            watch,
+            crashed: false,
+        }
+    }
+
+    pub fn play(&mut self, next: &Move, counters: &mut Counters) -> Played {
+        let session = self.store.session;
+        match next.call {
+            Call::Insert { key, record } => self.insert(key, record, counters)?,
+            Call::Lookup { key } => self.lookup(key, counters)?,
+            Call::Newest { model, serial } => self.newest(model, serial, counters)?,
+            Call::List {
+                start,
+                keys,
+                records,
+            } => self.list(start, keys, records, counters)?,
+            Call::Sync => self.sync(counters)?,
+            Call::SyncsUntil { left } => self.syncs_until(left, counters)?,
+            Call::Open => self.crash(Mix::NONE, true, counters)?,
+            Call::Crash(mix) => self.crash(mix, false, counters)?,
+            Call::Mix(mix) => self.try_mix(mix, counters)?,
+            Call::AllMixes { inside_sync } => self.all_mixes(inside_sync, counters)?,
+            Call::Misfit { pages } => self.misfit(pages, counters)?,
+        }
+        must(!next.call.reads() || self.store.session == session, || {
+            "a reading call changed the session".to_string()
+        })?;
+        if next.quiet || self.over {
+            self.tree = None;
+            return Ok(());
+        }
+        self.check(counters)
+    }
+
+    /// Between two calls: the invariants hold, and W and S show the sets kept here.
+    fn check(&mut self, counters: &mut Counters) -> Played {
+        counters.add("states checked");
+        let tree = if self.watch == Watch::Invariants {
+            let view = invariant::check(&self.store)?;
+            must(self.base.same(view.s.tree.entries()), || {
+                "S shows another set than at the last sync or opening".to_string()
+            })?;
+            view.w.tree
+        } else {
+            let n = self.store.session.n;
+            Tree::good(&self.store.working, n).ok_or("W fails the opening tests")?
+        };
+        must(self.now.same(tree.entries()), || {
+            "W shows another set than was inserted".to_string()
+        })?;
+        if let Some(before) = self.tree.take() {
+            self.count_changes(&before, &tree, counters);
+        }
+        self.tree = Some(tree);
+        Ok(())
+    }
+
+    pub fn root_kind(&self) -> u16 {
+        let root = Place::root(&self.store.stable).child;
+        page::kind(page::page(&self.store.stable, root))
+    }
+
+    fn insert(&mut self, key: u64, record: u32, counters: &mut Counters) -> Played {
+        let before = self.store.session;
+        let answer = self.store.insert(key, record);
+        self.answer = answer;
+        counters.answer(Counted::Insert, answer);
+        let good = match answer {
+            DONE => whole(key) && self.now.add(key, record),
+            BADKEY => !whole(key),
+            PRESENT => self.now.get(key).is_some(),
+            SYNCFIRST => self.syncfirst_is_cured(key, record, counters),
+            FULL => self.full_is_right(key, record, counters),
+            _ => false,
+        };
+        must(good, || {
+            format!("insert of {:?} answers {answer}", parts(key))
+        })?;
+        must(answer == DONE || self.store.session == before, || {
+            "a refused insert changed the session".to_string()
+        })
+    }
+
+    /// After a sync the same insert is done, or wants pages.
+    fn syncfirst_is_cured(&self, key: u64, record: u32, counters: &mut Counters) -> bool {
+        let mut copy = self.store.clone();
+        let synced = copy.sync();
+        let again = copy.insert(key, record);
+        let root = Place::root(&self.store.working).child;
+        let head = Header::of(page::page(&self.store.working, root));
+        let top = head.kind == KIND_TOP && head.count == INNER_CAP;
+        let touched = head.touched == self.store.session.c;
+        counters.add_if(top && touched, "syncfirst at kind 3");
+        whole(key)
+            && self.now.get(key).is_none()
+            && (synced == SPENT || again == DONE || again == FULL)
+    }
+
+    /// Too few pages are free, or a root of kind 3 is full.
+    fn full_is_right(&self, key: u64, record: u32, counters: &mut Counters) -> bool {
+        let root = Place::root(&self.store.working).child;
+        let head = Header::of(page::page(&self.store.working, root));
+        let top = head.kind == KIND_TOP && head.count == INNER_CAP;
+        let free = self.store.session.free.iter().filter(|free| **free).count();
+        let few = free < 2 * LEVELS + 1;
+        counters.add_if(top && !few, "full, kind 3 root must split");
+        let mut copy = self.store.clone();
+        let helped = copy.sync() == DONE && copy.insert(key, record) == DONE;
+        counters.add_if(helped, "full, helped by a sync");
+        counters.add_if(!helped, "full, not helped by a sync");
+        whole(key) && self.now.get(key).is_none() && (few || top)
+    }
+
+    fn lookup(&mut self, key: u64, counters: &mut Counters) -> Played {
+        let (answer, record) = self.store.lookup(key);
+        counters.answer(Counted::Lookup, answer);
+        let expected = match self.now.get(key) {
+            _ if !whole(key) => (BADKEY, 0),
+            Some(record) => (DONE, record),
+            None => (NONE, 0),
+        };
+        must((answer, record) == expected, || {
+            format!(
+                "lookup of {:?} answers {answer}, record {record}",
+                parts(key)
+            )
+        })
+    }
+
+    fn newest(&mut self, model: u16, serial: u32, counters: &mut Counters) -> Played {
+        let (answer, issue, record) = self.store.newest(model, serial);
+        counters.answer(Counted::Newest, answer);
+        let range = key(model, serial, 1)..=key(model, serial, u16::MAX);
+        let expected = match self.now.range(range).last() {
+            _ if model == 0 || serial == 0 => (BADKEY, 0, 0),
+            Some((key, record)) => (DONE, parts(key).2, record),
+            None => (NONE, 0, 0),
+        };
+        must((answer, issue, record) == expected, || {
+            format!("newest of {model} {serial} answers {answer}, issue {issue}, record {record}")
+        })
+    }
+
+    fn list(&mut self, start: u64, keys: usize, records: usize, counters: &mut Counters) -> Played {
+        let (mut key_list, mut record_list) = (vec![u64::MAX; keys], vec![u32::MAX; records]);
+        let (answer, count) = self.store.list(start, &mut key_list, &mut record_list);
+        counters.answer(Counted::List, answer);
+        let room = keys.min(records);
+        let all: Vec<_> = self.now.range(start..=u64::MAX).take(room).collect();
+        let filled = key_list.iter().copied().zip(record_list.iter().copied());
+        let good = answer == DONE
+            && count == all.len()
+            && filled.take(count).eq(all.iter().copied())
+            && key_list[count..].iter().all(|key| *key == u64::MAX)
+            && record_list[count..]
+                .iter()
+                .all(|record| *record == u32::MAX);
+        counters.add(match room {
+            0 => "lists, empty",
+            room if count == room => "lists cut short",
+            _ => "lists to the end",
+        });
+        must(good, || {
+            format!("list from {start} answers {answer}, {count} entries")
+        })
+    }
+
+    fn sync(&mut self, counters: &mut Counters) -> Played {
+        let before = self.store.session.c;
+        let answer = self.store.sync();
+        self.answer = DONE;
+        counters.answer(Counted::Sync, answer);
+        let expected = if before > LAST_NUMBER { SPENT } else { DONE };
+        if answer == DONE {
+            self.base = self.now.clone();
+            self.crashed = false;
+        }
+        must(answer == expected, || format!("sync answers {answer}"))
+    }
+
+    /// Syncs of an unchanged store only raise counter and number: many are made at one stroke.
+    fn syncs_until(&mut self, left: u32, counters: &mut Counters) -> Played {
+        self.sync(counters)?;
+        let c = LAST_NUMBER - left;
+        if self.store.session.c < c {
+            self.store.session.c = c;
+            put32(&mut self.store.working, zero::NUMBER, c + 1);
+            put32(&mut self.store.stable, zero::NUMBER, c + 1);
+        }
+        Ok(())
+    }
+
+    /// Every call refuses a table of another length, and a session of one.
+    fn misfit(&mut self, pages: usize, counters: &mut Counters) -> Played {
+        let mut other = self.store.clone();
+        if pages == usize::from(self.store.session.n) {
+            other.session.n += 1;
+        } else {
+            other.stable.resize(pages * PAGE, 0);
+        }
+        let before = other.clone();
+        let mut answered = |call, answer| {
+            counters.answer(call, answer);
+            answer == LENGTH
+        };
+        let refused = answered(Counted::Insert, other.insert(1, 1))
+            && answered(Counted::Lookup, other.lookup(1).0)
+            && answered(Counted::Newest, other.newest(0, 1).0)
+            && answered(Counted::List, other.list(0, &mut [0], &mut [0]).0)
+            && answered(Counted::Sync, other.sync())
+            && other == before;
+        must(refused, || "a wrong length was taken".to_string())?;
+        if other.session.n == self.store.session.n {
+            counters.answer(Counted::Open, other.open());
+            let none = Session::new(0, 0);
+            let refused = other
+                == Store {
+                    session: none,
+                    ..before
+                };
+            must(refused, || "opening took a wrong length".to_string())?;
+        }
+        Ok(())
+    }
+}

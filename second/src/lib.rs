@@ -1,0 +1,39 @@
+//! An independent reading of the certificate store's rules (document 01), written for the eye.
+//!
+//! The calls work on two tables of bytes that the caller lends. What comes after them is
+//! there to try the rules: invariants, random histories, arbitrary bytes, rules broken.
+
+pub mod answer;
+pub mod field;
+pub mod key;
+pub mod layout;
+pub mod page;
+pub mod place;
+pub mod session;
+pub mod tree;
+pub mod walk;
+pub mod way;
+
+mod crash;
+mod format;
+mod insert;
+mod open;
+mod read;
+mod split;
+mod sync;
+
+pub mod bench;
+pub mod broken;
+pub mod bytes;
+pub mod histories;
+pub mod invariant;
+pub mod rng;
+pub mod store;
+
+pub use crash::crash;
+pub use format::format;
+pub use insert::insert;
+pub use open::open;
+pub use read::{list, lookup, newest, Listed, Looked, Newest};
+pub use session::Session;
+pub use sync::{number_ahead, sync};
