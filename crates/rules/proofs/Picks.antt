@@ -131,7 +131,7 @@ rising-within {high} {xs} low r w = record {
   ends = λ k m. between-high low high k (all-mem (between low high) k (keys xs) w m);
 }
 
-rising-rest : {high : ℕ} {x : Child} {xs : List Child} → Rising high (x ∷ xs) → Rising high xs
+pub rising-rest : {high : ℕ} {x : Child} {xs : List Child} → Rising high (x ∷ xs) → Rising high xs
 unfolding keys
 rising-rest {x = x} {xs} r = record {
   rise = rising-tail (x .key) (keys xs) (r .rise);
