@@ -35,3 +35,25 @@ pub mod Refusals
 -- The bench cases
 pub mod Computing
 pub mod Cases
+-- Demand 3: ways and the invariant
+pub mod Ways
+pub mod Invariant
+pub mod Sources
+pub mod Kids
+pub mod Nodes
+-- the mix theorem
+pub mod Mix
+pub mod Backed
+pub mod Live
+pub mod MixTheorem
+-- sync, opening and format
+pub mod Epochs
+pub mod Opens
+pub mod OpenMarks
+pub mod Crashes
+pub mod Store
+pub mod Openings
+pub mod Recoveries
+pub mod Syncs
+pub mod FirstLeaf
+pub mod Formats
