@@ -1,14 +1,15 @@
 -- The bench cases of document 01 that are marked P: one statement about the rules, and its proof by computing.
 --
 -- Model 7, issue 1, serials upwards from 1, stores fresh from format and open.
-use Prim.Native.Nat.{ℕ, zero, suc, _+_, _*_, _^_}
-use mathlib.Core.Path.{_≡_, refl}
+use Prim.Native.Nat.{ℕ, zero, suc, _+_, _*_, _^_, _≤_}
+use mathlib.Core.Path.{_≡_, refl, ap}
 use mathlib.Core.Bool.{Bool, true, false}
 use mathlib.Core.List.{List, [], _∷_}
 use mathlib.Core.Option.{some, none}
-use lib.Dec.{eqb}
-use lib.ListN.{length, replicate}
-use Rattle.rules.specs.Layout.{pageSize}
+use lib.Dec.{eqb, lit≤}
+use lib.ListN.{length, replicate, length-replicate}
+use Rattle.rules.specs.Layout.{pageSize, fewestPages, mostPages}
+use Rattle.rules.specs.Test.{between}
 use Rattle.rules.specs.Key.{keyOf}
 use Rattle.rules.specs.Page.{View, Page, count}
 use Rattle.rules.specs.Table.{read, number0, root0, setNumber}
@@ -16,16 +17,19 @@ use Rattle.rules.specs.Marks.{freePages, marks}
 use Rattle.rules.specs.Walk.{Way, Step, numbers, wayOf}
 use Rattle.rules.specs.Call.{Left, formattedNo, openedNo, insertedNo, lookedNo, lookedRecord, syncedNo}
 use Rattle.rules.specs.Format.{Formatting, format}
-use Rattle.rules.specs.Open.{opening}
+use Rattle.rules.specs.Open.{openRefused, openDone, opening}
 use Rattle.rules.specs.Insert.{insert, newPages}
 use Rattle.rules.specs.Lookup.{lookup}
 use Rattle.rules.specs.Sync.{sync}
 use Rattle.rules.specs.Crash.{crash}
 use Rattle.rules.specs.declared.Session.{Session}
+use Rattle.rules.specs.declared.Formatted.{Formatted}
 use Rattle.rules.specs.declared.Opened.{Opened}
 use Rattle.rules.specs.declared.Inserted.{Inserted}
 use Rattle.rules.specs.declared.Looked.{Looked}
 use Rattle.rules.specs.declared.Synced.{Synced}
+use Rattle.rules.proofs.Lengths.{lengths-bad}
+use Rattle.rules.proofs.Fresh.{format-done, opening-formatted}
 use Rattle.rules.proofs.Computing.{rules}
 
 -- ── Stores and what is done to them ─────────────────────────────────────────────────────────────────────────────
@@ -135,17 +139,9 @@ pub record Case1 : Type 0 where
   pub working : number0 (store 4 .working) ≡ 3
   pub stable : number0 (store 4 .stable) ≡ 3
 
-case1 : Case1
-unfolding rules table store
-case1 = record { c = refl; working = refl; stable = refl }
-
 -- 2: the key of 7, 1, 1
 pub record Case2 : Type 0 where
   pub key : keyOf 7 1 1 ≡ 7 * 2 ^ 48 + 65537
-
-case2 : Case2
-unfolding rules
-case2 = record { key = refl }
 
 -- 3: n = 3 and 129 answer 1, n = 4 and 128 are done
 pub record Case3 : Type 0 where
@@ -158,20 +154,12 @@ pub record Case3 : Type 0 where
   pub open-128 : openedNo (store 128 .answer) ≡ 0
   pub open-129 : openedNo (store 129 .answer) ≡ 1
 
-case3 : Case3
-unfolding rules table store
-case3 = record { format-3 = refl; format-4 = refl; format-128 = refl; format-129 = refl; open-3 = refl; open-4 = refl; open-128 = refl; open-129 = refl }
-
 -- 4: n = 4, the 41st insert answers 7: 3 new pages, 2 free
 pub record Case4 : Type 0 where
   pub held : foundFrom (forty 4) 1 40 ≡ 40
   pub answer : insertedNo (inserting (forty 4) 41 .answer) ≡ 7
   pub new : needed (forty 4) 41 ≡ 3
   pub free : unused (forty 4) 41 ≡ 2
-
-case4 : Case4
-unfolding rules table store inserting loaded finding foundFrom forty needed unused wayTo
-case4 = record { held = refl; answer = refl; new = refl; free = refl }
 
 -- 5: n = 5, the 41st is done: halves on pages 2 and 3 with 20 and 21 entries, root on page 4, page 1 waiting
 pub record Case5 : Type 0 where
@@ -181,10 +169,6 @@ pub record Case5 : Type 0 where
   pub root : root0 (split41 .working) ≡ 4
   pub waiting : split41 .session .waiting ≡ marks (eqb 1)
 
-case5 : Case5
-unfolding rules table store inserting loaded forty split41 entriesAt
-case5 = record { answer = refl; lower = refl; upper = refl; root = refl; waiting = refl }
-
 -- 6: 40 inserts, sync, 41st, crash with pages 0 and 4: serial 21 is found, page 3 is mended to 20 entries,
 -- serial 41 answers 4
 pub record Case6 : Type 0 where
@@ -193,19 +177,11 @@ pub record Case6 : Type 0 where
   pub mended : entriesAt (left (finding (left (crashed pages04)) 21)) 3 ≡ 20
   pub missing : lookedNo (finding (left (crashed pages04)) 41 .answer) ≡ 4
 
-case6 : Case6
-unfolding rules table store inserting loaded finding forty synced41 crashed pages04 entriesAt
-case6 = record { opened = refl; found = refl; mended = refl; missing = refl }
-
 -- 7: the same with page 0 only: page 4 becomes a leaf of 40
 pub record Case7 : Type 0 where
   pub opened : openedNo (crashed page0 .answer) ≡ 0
   pub leaf : kindAt (left (finding (left (crashed page0)) 21)) 4 ≡ 1
   pub mended : entriesAt (left (finding (left (crashed page0)) 21)) 4 ≡ 40
-
-case7 : Case7
-unfolding rules table store inserting loaded finding forty synced41 crashed page0 entriesAt kindAt
-case7 = record { opened = refl; leaf = refl; mended = refl }
 
 -- 8: the same with pages 2 and 3 only: root 1, 40 found
 pub record Case8 : Type 0 where
@@ -213,27 +189,15 @@ pub record Case8 : Type 0 where
   pub root : root0 (crashed pages23 .working) ≡ 1
   pub found : foundFrom (left (crashed pages23)) 1 41 ≡ 40
 
-case8 : Case8
-unfolding rules table store inserting loaded finding foundFrom forty synced41 crashed pages23
-case8 = record { opened = refl; root = refl; found = refl }
-
 -- 9: the same with all: 41 found
 pub record Case9 : Type 0 where
   pub opened : openedNo (crashed allPages .answer) ≡ 0
   pub found : foundFrom (left (crashed allPages)) 1 41 ≡ 41
 
-case9 : Case9
-unfolding rules table store inserting loaded finding foundFrom forty synced41 crashed allPages
-case9 = record { opened = refl; found = refl }
-
 -- 11: number 4,294,967,293 opens; 4,294,967,294 answers 8
 pub record Case11 : Type 0 where
   pub opens : openedNo (opening (table 4) (numbered 4294967293) .answer) ≡ 0
   pub spent : openedNo (opening (table 4) (numbered 4294967294) .answer) ≡ 8
-
-case11 : Case11
-unfolding rules table numbered
-case11 = record { opens = refl; spent = refl }
 
 pub record Cases : Type 0 where
   pub case1 : Case1
@@ -246,6 +210,154 @@ pub record Cases : Type 0 where
   pub case8 : Case8
   pub case9 : Case9
   pub case11 : Case11
+
+-- ── Their proof ─────────────────────────────────────────────────────────────────────────────────────────────────
+
+case1 : Case1
+unfolding rules table store
+case1 = record { c = refl; working = refl; stable = refl }
+
+case2 : Case2
+unfolding rules
+case2 = record { key = refl }
+
+-- 3, by the laws of a fresh store: a table of 128 pages need not be computed
+length-table : (n : ℕ) → length (table n) ≡ n * pageSize
+unfolding table
+length-table n = length-replicate {A = ℕ} (n * pageSize) 0
+
+format-taken : (n : ℕ) → fewestPages ≤ n → n ≤ mostPages → formattedNo (format (table n) (table n) .answer) ≡ 0
+unfolding formattedNo
+format-taken n least most = rw (format-done n least most (table n) (table n) (length-table n) (length-table n))
+
+open-taken : (n : ℕ) → fewestPages ≤ n → n ≤ mostPages → openedNo (store n .answer) ≡ 0
+unfolding openedNo store openDone
+open-taken n least most =
+    rw (format-done n least most (table n) (table n) (length-table n) (length-table n), opening-formatted n least most (table n) (length-table n))
+
+format-refused : (n : ℕ) → between fewestPages mostPages n ≡ false → format (table n) (table n) ≡ record { answer = Formatted.Length; stable = table n }
+unfolding format
+format-refused n h = rw (lengths-bad (table n) (table n) n (length-table n) h, format)
+
+open-refused : (n : ℕ) → between fewestPages mostPages n ≡ false → openedNo (store n .answer) ≡ 1
+unfolding openedNo store opening openRefused
+open-refused n h = rw (format-refused n h, lengths-bad (table n) (table n) n (length-table n) h, opening)
+
+case3 : Case3
+unfolding between formattedNo
+case3 = record {
+  format-3 = rw (format-refused 3 refl);
+  format-4 = format-taken 4 (lit≤ tt) (lit≤ tt);
+  format-128 = format-taken 128 (lit≤ tt) (lit≤ tt);
+  format-129 = rw (format-refused 129 refl);
+  open-3 = open-refused 3 refl;
+  open-4 = open-taken 4 (lit≤ tt) (lit≤ tt);
+  open-128 = open-taken 128 (lit≤ tt) (lit≤ tt);
+  open-129 = open-refused 129 refl;
+}
+
+-- 4, and 5 to 9: what a case shows is computed beside what it tells, all at once, so that a call which is named twice
+-- is computed once. Cases 5 to 9 have the forty inserts in common.
+record Four : Type 0 where
+  held4 : ℕ
+  answer4 : ℕ
+  new4 : ℕ
+  free4 : ℕ
+
+four : _≡_ {A = Four} (record {
+  held4 = foundFrom (forty 4) 1 40;
+  answer4 = insertedNo (inserting (forty 4) 41 .answer);
+  new4 = needed (forty 4) 41;
+  free4 = unused (forty 4) 41;
+}) (record {
+  held4 = 40;
+  answer4 = 7;
+  new4 = 3;
+  free4 = 2;
+})
+unfolding rules table store inserting loaded finding foundFrom forty needed unused wayTo
+four = refl
+
+case4 : Case4
+case4 = record { held = ap (λ (r : Four). r .held4) four; answer = ap (λ (r : Four). r .answer4) four; new = ap (λ (r : Four). r .new4) four; free = ap (λ (r : Four). r .free4) four }
+
+record Five : Type 0 where
+  answer5 : ℕ
+  lower5 : ℕ
+  upper5 : ℕ
+  root5 : ℕ
+  waiting5 : List Bool
+  opened6 : ℕ
+  found6 : Looked
+  mended6 : ℕ
+  missing6 : ℕ
+  opened7 : ℕ
+  leaf7 : ℕ
+  mended7 : ℕ
+  opened8 : ℕ
+  root8 : ℕ
+  found8 : ℕ
+  opened9 : ℕ
+  found9 : ℕ
+
+five : _≡_ {A = Five} (record {
+  answer5 = insertedNo (split41 .answer);
+  lower5 = entriesAt (left split41) 2;
+  upper5 = entriesAt (left split41) 3;
+  root5 = root0 (split41 .working);
+  waiting5 = split41 .session .waiting;
+  opened6 = openedNo (crashed pages04 .answer);
+  found6 = finding (left (crashed pages04)) 21 .answer;
+  mended6 = entriesAt (left (finding (left (crashed pages04)) 21)) 3;
+  missing6 = lookedNo (finding (left (crashed pages04)) 41 .answer);
+  opened7 = openedNo (crashed page0 .answer);
+  leaf7 = kindAt (left (finding (left (crashed page0)) 21)) 4;
+  mended7 = entriesAt (left (finding (left (crashed page0)) 21)) 4;
+  opened8 = openedNo (crashed pages23 .answer);
+  root8 = root0 (crashed pages23 .working);
+  found8 = foundFrom (left (crashed pages23)) 1 41;
+  opened9 = openedNo (crashed allPages .answer);
+  found9 = foundFrom (left (crashed allPages)) 1 41;
+}) (record {
+  answer5 = 0;
+  lower5 = 20;
+  upper5 = 21;
+  root5 = 4;
+  waiting5 = marks (eqb 1);
+  opened6 = 0;
+  found6 = Looked.Found 921;
+  mended6 = 20;
+  missing6 = 4;
+  opened7 = 0;
+  leaf7 = 1;
+  mended7 = 40;
+  opened8 = 0;
+  root8 = 1;
+  found8 = 40;
+  opened9 = 0;
+  found9 = 41;
+})
+unfolding rules table store inserting loaded finding foundFrom forty synced41 crashed split41 entriesAt kindAt pages04 page0 pages23 allPages
+five = refl
+
+case5 : Case5
+case5 = record { answer = ap (λ (r : Five). r .answer5) five; lower = ap (λ (r : Five). r .lower5) five; upper = ap (λ (r : Five). r .upper5) five; root = ap (λ (r : Five). r .root5) five; waiting = ap (λ (r : Five). r .waiting5) five }
+
+case6 : Case6
+case6 = record { opened = ap (λ (r : Five). r .opened6) five; found = ap (λ (r : Five). r .found6) five; mended = ap (λ (r : Five). r .mended6) five; missing = ap (λ (r : Five). r .missing6) five }
+
+case7 : Case7
+case7 = record { opened = ap (λ (r : Five). r .opened7) five; leaf = ap (λ (r : Five). r .leaf7) five; mended = ap (λ (r : Five). r .mended7) five }
+
+case8 : Case8
+case8 = record { opened = ap (λ (r : Five). r .opened8) five; root = ap (λ (r : Five). r .root8) five; found = ap (λ (r : Five). r .found8) five }
+
+case9 : Case9
+case9 = record { opened = ap (λ (r : Five). r .opened9) five; found = ap (λ (r : Five). r .found9) five }
+
+case11 : Case11
+unfolding rules table numbered
+case11 = record { opens = refl; spent = refl }
 
 pub cases : Cases
 cases = record {

@@ -3,11 +3,13 @@
 use mathlib.Core.Path.{_≡_}
 use Prim.Native.Nat.{ℕ, _^_, _≤_, _<_}
 use native.Mathlib.Omega.{arith}
-use mathlib.Core.Bool.{true, _&&_, and-eq-true-iff}
+use mathlib.Core.Bool.{true}
+use mathlib.Core.List.{[], _∷_}
 use borrow.Author.Tests.{ltb-true, lt-ltb}
 use lib.Dec.{ltb}
 use Rattle.rules.specs.Test.{every}
 use Rattle.rules.specs.Key.{keyOf, modelOf, serialOf, issueOf, goodParts, goodKey}
+use Rattle.rules.proofs.Tests.{every-true}
 
 module _ (model serial issue : ℕ) (hs : serial < 2 ^ 32) (hi : issue < 2 ^ 16) where
   pub modelOf-keyOf : modelOf (keyOf model serial issue) ≡ model
@@ -78,10 +80,8 @@ pub record Good (m s i : ℕ) : Type 0 where
 pub goodParts-true : (m s i : ℕ) → goodParts m s i ≡ true → Good m s i
 unfolding goodParts every
 goodParts-true m s i h =
-    let a = and-eq-true-iff (ltb 0 m) (ltb 0 s && (ltb 0 i && true)) .0 h in
-    let b = and-eq-true-iff (ltb 0 s) (ltb 0 i && true) .0 (a .1) in
-    let c = and-eq-true-iff (ltb 0 i) true .0 (b .1) in
-    record { model = ltb-true 0 m (a .0); serial = ltb-true 0 s (b .0); issue = ltb-true 0 i (c .0) }
+    let t = every-true (ltb 0 m ∷ ltb 0 s ∷ ltb 0 i ∷ []) h in
+    record { model = ltb-true 0 m (t .0); serial = ltb-true 0 s (t .1 .0); issue = ltb-true 0 i (t .1 .1 .0) }
 
 pub good-goodParts : {m s i : ℕ} → Good m s i → goodParts m s i ≡ true
 unfolding goodParts every

@@ -1,5 +1,18 @@
 -- Laws about the rules, one notion a file, each file using only those above it.
 
+-- Tests, entries, soundness, places
+pub mod Tests
+pub mod Rises
+pub mod Entries
+pub mod Puts
+pub mod Runs
+pub mod Views
+pub mod Sounds
+pub mod Places
+pub mod Halves
+pub mod Picks
+pub mod Asks
+pub mod Twins
 -- Bytes, pages and tables
 pub mod Keys
 pub mod Over
@@ -16,19 +29,6 @@ pub mod Widths
 pub mod Counter
 pub mod Lengths
 pub mod Fresh
--- Tests, entries, soundness, places
-pub mod Tests
-pub mod Rises
-pub mod Entries
-pub mod Puts
-pub mod Runs
-pub mod Views
-pub mod Sounds
-pub mod Places
-pub mod Halves
-pub mod Picks
-pub mod Asks
-pub mod Twins
 -- Demand 1
 pub mod Mending
 pub mod Refusals

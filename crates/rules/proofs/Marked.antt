@@ -2,19 +2,20 @@
 -- the numbers that are free. Assumes nothing.
 use mathlib.Core.Path.{_≡_, refl, sym, ap, _∙_}
 use mathlib.Core.Logic.{_≢_}
-use mathlib.Core.Bool.{Bool, true, false, not, _&&_, _||_, and-eq-true-iff}
+use mathlib.Core.Bool.{Bool, true, false, not, _&&_, _||_}
 use Prim.Native.Nat.{ℕ, zero, suc, _+_, _-_, _≤_, _<_}
 use native.Mathlib.Nat.{add-zero, add-suc, suc-add, zero-add}
 use native.Mathlib.Omega.{arith}
-use borrow.Author.Tests.{ltb-true, ltb-false, leb-true, le-leb}
-use lib.Dec.{ltb, leb}
+use borrow.Author.Tests.{ltb-true, ltb-false}
+use lib.Dec.{ltb}
 use lib.ListN.{length, getD, set, length-set, List·getD-eq-default}
 use lib.Seq.{getD-set-same, getD-set-other}
 use Rattle.rules.specs.Layout.{mostPages}
-use Rattle.rules.specs.Test.{mem, between}
+use Rattle.rules.specs.Test.{mem}
 use Rattle.rules.specs.Tree.{Tree}
 use Rattle.rules.specs.Marks.{taken, freed, waits, raised, marksFrom, marks, isPage, opened, nobody, turned}
 use Rattle.rules.specs.declared.Session.{Session}
+use Rattle.rules.proofs.Tests.{between-low, between-high, between-of}
 
 -- ---- a mark for each number
 
@@ -137,11 +138,12 @@ module _ (i : ℕ) (h : i < mostPages) where
 
 -- a page's number is one of 1 to n - 1
 pub isPage-true : (n i : ℕ) → isPage n i ≡ true → (1 ≤ i) × (i < n)
-unfolding isPage between
+unfolding isPage
 isPage-true n i h =
-    let p = and-eq-true-iff (leb 1 i) (leb i (n - 1)) .0 h in
-    (leb-true 1 i (p .0), omega (arith, leb-true 1 i (p .0), leb-true i (n - 1) (p .1)))
+    let low = between-low 1 (n - 1) i h in
+    let high = between-high 1 (n - 1) i h in
+    (low, omega arith)
 
 pub page-isPage : (n i : ℕ) → 1 ≤ i → i < n → isPage n i ≡ true
-unfolding isPage between
-page-isPage n i h k = rw (le-leb 1 i h, le-leb i (n - 1) (omega arith))
+unfolding isPage
+page-isPage n i h k = between-of 1 (n - 1) i h (omega arith)

@@ -2,17 +2,18 @@
 -- Assumes nothing.
 use mathlib.Core.Path.{_≡_, refl}
 use mathlib.Core.Bool.{Bool, true, false, not, _&&_, and-eq-true-iff}
-use mathlib.Core.List.{List, [], _∷_}
+use mathlib.Core.List.{List, _∷_}
 use Prim.Native.Nat.{ℕ, zero, suc, _+_, _-_, _≤_, _<_}
 use native.Mathlib.Omega.{arith}
-use borrow.Author.Tests.{ltb-true, lt-ltb, eqb-true, eqb-false, ne-eqb, not-true}
-use lib.Dec.{ltb, eqb}
-use lib.ListN.{length, getD}
+use borrow.Author.Tests.{lt-ltb, eqb-true, eqb-false, not-true}
+use lib.Dec.{eqb}
+use lib.ListN.{getD}
 use Rattle.rules.specs.Test.{mem, distinct}
 use Rattle.rules.specs.Entry.{risesFrom, rising}
 use Rattle.rules.specs.Marks.{numbersFrom, freePages}
 use Rattle.rules.specs.declared.Session.{Session}
-use Rattle.rules.proofs.All.{All, nil, cons, all-map, all-at}
+use Rattle.rules.proofs.Rises.{rising-of-rises, rising-distinct}
+use Rattle.rules.proofs.All.{All, nil, cons, all-map}
 
 -- what is known of a number of `numbersFrom mark i k`
 pub record Numbered (mark : ℕ → Bool) (i k j : ℕ) : Type 0 where
@@ -65,49 +66,6 @@ risesFrom-numbersFrom mark b i (suc k) h =
     go true e f g = rw (here mark i k e, lt-ltb b i h) f
     go false e f g = rw (past mark i k e) g
 
-pub rising-numbersFrom : (mark : ℕ → Bool) (i k : ℕ) → rising (numbersFrom mark i k) ≡ true
-unfolding numbersFrom rising
-rising-numbersFrom mark i zero = refl
-rising-numbersFrom mark i (suc k) = go (mark i) refl (risesFrom-numbersFrom mark i (suc i) k (omega arith)) (rising-numbersFrom mark (suc i) k)
-  where
-    go : (t : Bool) → mark i ≡ t → risesFrom i (numbersFrom mark (suc i) k) ≡ true → rising (numbersFrom mark (suc i) k) ≡ true → rising (numbersFrom mark i (suc k)) ≡ true
-    go true e f g = rw (here mark i k e) f
-    go false e f g = rw (past mark i k e) g
-
--- ---- numbers that rise
-
-rises-step : (k x : ℕ) (xs : List ℕ) → risesFrom k (x ∷ xs) ≡ true → (k < x) × (risesFrom x xs ≡ true)
-unfolding risesFrom
-rises-step k x xs h = let p = and-eq-true-iff (ltb k x) (risesFrom x xs) .0 h in (ltb-true k x (p .0), p .1)
-
-pub rises-above : (k b : ℕ) (xs : List ℕ) → b ≤ k → risesFrom k xs ≡ true → All (λ x. b < x) xs
-rises-above k b [] l h = nil
-rises-above k b (x ∷ xs) l h =
-    let p = rises-step k x xs h in
-    cons {x = x} (omega arith) (rises-above x b xs (omega arith) (p .1))
-
--- an earlier one is smaller
-pub rises-at : (k : ℕ) (xs : List ℕ) (a b d : ℕ) → risesFrom k xs ≡ true → a < b → b < length xs → getD xs a d < getD xs b d
-rises-at k [] a b d h l m = absurd (omega arith)
-rises-at k (x ∷ xs) zero zero d h l m = absurd (omega arith)
-rises-at k (x ∷ xs) zero (suc b) d h l m =
-    all-at (rises-above x x xs (omega arith) (rises-step k x xs h .1)) b d (omega arith)
-rises-at k (x ∷ xs) (suc a) zero d h l m = absurd (omega arith)
-rises-at k (x ∷ xs) (suc a) (suc b) d h l m =
-    rises-at x xs a b d (rises-step k x xs h .1) (omega arith) (omega arith)
-
-mem-above : (k : ℕ) (xs : List ℕ) → All (λ x. k < x) xs → mem k xs ≡ false
-unfolding mem
-mem-above k [] nil = refl
-mem-above k (x ∷ xs) (cons h t) = rw (ne-eqb k x (λ e. omega arith)) (mem-above k xs t)
-
-pub distinct-rises : (k : ℕ) (xs : List ℕ) → risesFrom k xs ≡ true → distinct xs ≡ true
-unfolding distinct
-distinct-rises k [] h = refl
-distinct-rises k (x ∷ xs) h =
-    let p = rises-step k x xs h in
-    rw (mem-above x xs (rises-above x x xs (omega arith) (p .1))) (distinct-rises x xs (p .1))
-
 -- ---- the free pages
 
 -- what is known of a page that an insert may take
@@ -137,5 +95,8 @@ module _ (s : Session) (entered : List ℕ) where
   unfolding freePages
   rises-freePages = risesFrom-numbersFrom (λ i. getD (s .free) i false && not (mem i entered)) 0 1 (s .n - 1) (omega arith)
 
+  pub rising-freePages : rising (freePages s entered) ≡ true
+  rising-freePages = rising-of-rises 0 (freePages s entered) rises-freePages
+
   pub distinct-freePages : distinct (freePages s entered) ≡ true
-  distinct-freePages = distinct-rises 0 (freePages s entered) rises-freePages
+  distinct-freePages = rising-distinct (freePages s entered) rising-freePages

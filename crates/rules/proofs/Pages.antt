@@ -17,17 +17,13 @@ use Rattle.fields.proofs.Field.{leAt-bound, le-leAt, in-pieces}
 use Rattle.rules.specs.Layout.{pageSize, headerSize, certSize, childSize, leafRoom, innerRoom, leafKind}
 use Rattle.rules.specs.Entry.{Entry, Cert, Child}
 use Rattle.rules.specs.Page.{View, Page, isLeaf, count, readEach, writeEach, certIn, certBytes, childIn, childBytes, viewIn, pageIn, headerBytes, pageBytes, over, blank, buildBytes, changeBytes, fresh, touch}
+pub use Rattle.rules.proofs.Views.{Shaped, shaped-viewIn}
 use Rattle.rules.proofs.All.{All, nil}
 use Rattle.rules.proofs.Over.{length-over, over-take, bytes-over}
 use Rattle.rules.proofs.Each.{length-readEach, readEach-at}
 use Rattle.rules.proofs.EntryBytes.{WideCert, WideChild, length-writeCerts, length-writeChildren, bytes-writeCerts, bytes-writeChildren, readCerts-writeCerts, readChildren-writeChildren, writeCerts-readCerts, writeChildren-readChildren, wide-readCerts, wide-readChildren}
 
 -- ---- what a page must be to be read as it was written
-
--- a leaf has no children, an inner page no certificates
-pub record Shaped (v : View) : Type 0 where
-  pub leaf : isLeaf v ≡ true → v .children ≡ []
-  pub inner : isLeaf v ≡ false → v .certs ≡ []
 
 -- every number of what a page shows fits its field
 pub record WideView (v : View) : Type 0 where
@@ -74,12 +70,6 @@ count-viewIn b = go (eqb (leAt b 0 2) leafKind) refl
     go : (t : Bool) → eqb (leAt b 0 2) leafKind ≡ t → length (viewIn b .certs) + length (viewIn b .children) ≡ leAt b 2 2
     go true e = rw (viewIn-leaf b e, length-readEach, add-zero)
     go false e = rw (viewIn-inner b e, length-readEach, zero-add)
-
-pub shaped-viewIn : (b : List ℕ) → Shaped (viewIn b)
-shaped-viewIn b = record {
-  leaf = λ e. rw (viewIn-leaf b (sym (isLeaf-viewIn b) ∙ e));
-  inner = λ e. rw (viewIn-inner b (sym (isLeaf-viewIn b) ∙ e));
-}
 
 -- the entry at a place of the page
 pub cert-at : (b : List ℕ) (i : ℕ) (d : Cert) → isLeaf (viewIn b) ≡ true → i < leAt b 2 2 → getD (viewIn b .certs) i d ≡ certIn (drop (headerSize + certSize * i) b)

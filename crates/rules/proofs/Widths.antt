@@ -1,57 +1,32 @@
 -- What calls make of pages whose numbers fit their fields fits too: views cut to a range, halved, and with an entry put in;
 -- pages mended and split. Assumes nothing.
 use mathlib.Core.Path.{_≡_, ap}
-use mathlib.Core.Bool.{Bool, true, false}
-use mathlib.Core.List.{List, [], _∷_}
+use mathlib.Core.Bool.{true, false}
+use mathlib.Core.List.{List}
 use Prim.Native.Nat.{ℕ, zero, suc, _+_, _^_, _≤_, _<_}
 use native.Mathlib.Omega.{arith}
-use lib.Dec.{ltb, eqb, lit<}
-use lib.ListN.{length, take, drop, getD, length-take, length-drop}
+use lib.Dec.{lit<}
+use lib.ListN.{length, getD, length-take, length-drop}
 use Rattle.rules.specs.Layout.{leafHalf, innerHalf, leafRoom, innerRoom}
-use Rattle.rules.specs.Test.{between}
-use Rattle.rules.specs.Entry.{Entry, Below, Cert, Child, keys, cut, put}
+use Rattle.rules.specs.Entry.{Entry, Below, Cert, Child, keys, cut}
 use Rattle.rules.specs.Page.{View, Page, isLeaf, count}
 use Rattle.rules.specs.Place.{cutView, mended}
 use Rattle.rules.specs.Insert.{lowerHalf, upperHalf, divide, putCert, putChild, newChild, lowerPage, upperPage}
 use Rattle.rules.specs.declared.Place.{Place}
+use Rattle.rules.proofs.Entries.{length-cut}
+use Rattle.rules.proofs.Puts.{length-put-le}
+use Rattle.rules.proofs.Views.{shaped-cut, shaped-lower, shaped-upper, shaped-putCert, shaped-putChild}
 use Rattle.rules.proofs.All.{All, nil, cons, all-take, all-drop, all-cut, all-put, all-append}
 use Rattle.rules.proofs.EntryBytes.{WideCert, WideChild}
 use Rattle.rules.proofs.Pages.{WideView, Wide, wide-fresh}
 
--- ---- lengths
-
-pub length-cut : {B : Type 0} (low high : ℕ) (xs : List (Entry B)) → length (cut low high xs) ≤ length xs
-unfolding cut
-length-cut low high [] = omega arith
-length-cut {B} low high (x ∷ xs) = go (between low high (x .key)) (length-cut low high xs)
-  where
-    go : (t : Bool) → length (cut low high xs) ≤ length xs → length {A = Entry B} (elim t [ true ↦ x ∷ cut low high xs | false ↦ cut low high xs ]) ≤ suc (length xs)
-    go true h = omega arith
-    go false h = omega arith
-
-pub length-put-most : {B : Type 0} (x : Entry B) (xs : List (Entry B)) → length (put x xs) ≤ length xs + 1
-unfolding put
-length-put-most x [] = omega arith
-length-put-most {B} x (y ∷ ys) = go (ltb (x .key) (y .key)) (eqb (x .key) (y .key)) (length-put-most x ys)
-  where
-    go : (t u : Bool) → length (put x ys) ≤ length ys + 1 → length {A = Entry B} (elim t [ true ↦ x ∷ (y ∷ ys) | false ↦ elim u [ true ↦ x ∷ ys | false ↦ y ∷ put x ys ] ]) ≤ suc (length ys) + 1
-    go true u h = omega arith
-    go false true h = omega arith
-    go false false h = omega arith
-
 -- ---- views
-
-never : {b : Bool} → b ≡ true → b ≡ false → ⊥
-never p q = let z : _≡_ {A = ℕ} 0 1 = cc in omega arith
 
 module _ {v : View} (w : WideView v) where
   pub wide-cutView : (low high : ℕ) → WideView (cutView low high v)
   unfolding cutView count isLeaf cut
   wide-cutView low high = record {
-    shaped = record {
-      leaf = λ e. ap (cut low high) (w .shaped .leaf e);
-      inner = λ e. ap (cut low high) (w .shaped .inner e);
-    };
+    shaped = shaped-cut low high v (w .shaped);
     kind = w .kind;
     count = omega (arith, w .count, length-cut low high (v .certs), length-cut low high (v .children));
     certs = all-cut low high (w .certs);
@@ -61,10 +36,7 @@ module _ {v : View} (w : WideView v) where
   pub wide-lowerHalf : WideView (lowerHalf v)
   unfolding lowerHalf count isLeaf
   wide-lowerHalf = record {
-    shaped = record {
-      leaf = λ e. ap (take innerHalf) (w .shaped .leaf e);
-      inner = λ e. ap (take leafHalf) (w .shaped .inner e);
-    };
+    shaped = shaped-lower v (w .shaped);
     kind = w .kind;
     count = omega (arith, w .count, length-take leafHalf (v .certs), length-take innerHalf (v .children));
     certs = all-take leafHalf (w .certs);
@@ -74,10 +46,7 @@ module _ {v : View} (w : WideView v) where
   pub wide-upperHalf : WideView (upperHalf v)
   unfolding upperHalf count isLeaf
   wide-upperHalf = record {
-    shaped = record {
-      leaf = λ e. ap (drop innerHalf) (w .shaped .leaf e);
-      inner = λ e. ap (drop leafHalf) (w .shaped .inner e);
-    };
+    shaped = shaped-upper v (w .shaped);
     kind = w .kind;
     count = omega (arith, w .count, length-drop leafHalf (v .certs), length-drop innerHalf (v .children));
     certs = all-drop leafHalf (w .certs);
@@ -88,9 +57,9 @@ module _ {v : View} (w : WideView v) where
   pub wide-putCert : {x : Cert} → WideCert x → isLeaf v ≡ true → length (v .certs) ≤ leafRoom → WideView (putCert x v)
   unfolding putCert count isLeaf
   wide-putCert {x} h e l = record {
-    shaped = record { leaf = w .shaped .leaf; inner = λ f. absurd (never e f) };
+    shaped = shaped-putCert x v e (w .shaped);
     kind = w .kind;
-    count = omega (arith, length-put-most x (v .certs), ap length (w .shaped .leaf e));
+    count = omega (arith, length-put-le x (v .certs), ap length (w .shaped .leaf e));
     certs = all-put x h (w .certs);
     children = w .children;
   }
@@ -98,9 +67,9 @@ module _ {v : View} (w : WideView v) where
   pub wide-putChild : {x : Child} → WideChild x → isLeaf v ≡ false → length (v .children) ≤ innerRoom + 1 → WideView (putChild x v)
   unfolding putChild count isLeaf
   wide-putChild {x} h e l = record {
-    shaped = record { leaf = λ f. absurd (never f e); inner = w .shaped .inner };
+    shaped = shaped-putChild x v e (w .shaped);
     kind = w .kind;
-    count = omega (arith, length-put-most x (v .children), ap length (w .shaped .inner e));
+    count = omega (arith, length-put-le x (v .children), ap length (w .shaped .inner e));
     certs = w .certs;
     children = all-put x h (w .children);
   }
