@@ -1,0 +1,297 @@
+// Reading a page: its header, its entries one by one, and page 0.
+//
+// Every function answers, or leaves, exactly what the rules read in, or write to, the same bytes. A function on a page
+// takes the page's own bytes; the one of the same name with `_at` takes the table and a page number, so that nobody
+// above has to cut a table. Numbers and sizes are document 01's.
+//
+// Below stand `fields`, numbers in bytes, and `rules`, the definitions.
+use fields::get16;
+use fields::get32;
+use fields::get64;
+use fields::put16;
+use fields::put32;
+use rules::Place;
+ghost use mathlib.Core.Path.{_≡_};
+ghost use Prim.Native.Nat.{_+_, _*_, _≤_, _<_};
+ghost use lib.ListN.{length, drop, getD};
+ghost use Rattle.rules.specs.Layout.{pageSize, headerSize, certSize, childSize, leafRoom, innerRoom};
+ghost use Rattle.rules.specs.Table.{pageAt, fit0, number0, setNumber, setRoot};
+ghost use Rattle.rules.specs.Page.{readEach, childIn};
+ghost use Rattle.rules.specs.Place.{rootPlace, highBefore, placesIn};
+ghost use Rattle.head.specs.Head.{headIn, certAt, childAt, linkOf, zeroIn, nowhere};
+
+// A page, its header, and an entry of a leaf and of an inner page, in bytes.
+pub const PAGE: usize = 512;
+
+const HEADER: usize = 32;
+
+const CERT: usize = 12;
+
+const CHILD: usize = 16;
+
+// Page 0's kind, and the largest key.
+const ZERO: u16 = 9;
+
+const LAST_KEY: u64 = 18446744073709551615;
+
+// The header of a page.
+pub struct Head {
+    pub kind: u16,
+    pub count: u16,
+    pub birth: u32,
+    pub built: u32,
+    pub touched: u32,
+    pub low: u64,
+    pub high: u64,
+}
+
+// An entry of an inner page: the child's low, and what the page says of the child.
+pub struct Link {
+    pub key: u64,
+    pub child: u16,
+    pub previous: u16,
+    pub birth: u32,
+}
+
+// The fields of page 0.
+pub struct Zero {
+    pub kind: u16,
+    pub n: u16,
+    pub number: u32,
+    pub root: u16,
+    pub previous: u16,
+    pub birth: u32,
+}
+
+pub fn read_head(page: &[u8]) -> Head
+    requires { ⌜ headerSize ≤ length (now page) ⌝ }
+    ensures { λ r. ⌜ r ≡ headIn (now (page .entry)) ⌝ }
+{
+    Head {
+        kind: get16(page, 0),
+        count: get16(page, 2),
+        birth: get32(page, 4),
+        built: get32(page, 8),
+        touched: get32(page, 12),
+        low: get64(page, 16),
+        high: get64(page, 24),
+    }
+}
+
+pub fn head_at(table: &[u8], i: usize) -> Head
+    requires { ⌜ (i + 1) * pageSize ≤ length (now table) ⌝ }
+    ensures { λ r. ⌜ r ≡ headIn (pageAt (now (table .entry)) i) ⌝ }
+{
+    let from = i * PAGE;
+    let to = from + PAGE;
+    read_head(&table[from..to])
+}
+
+pub fn cert_key(page: &[u8], j: usize) -> u64
+    requires { ⌜ headerSize + certSize * (j + 1) ≤ length (now page) ⌝ }
+    ensures { λ r. ⌜ r ≡ certAt (now (page .entry)) j .key ⌝ }
+{
+    get64(page, HEADER + CERT * j)
+}
+
+pub fn cert_record(page: &[u8], j: usize) -> u32
+    requires { ⌜ headerSize + certSize * (j + 1) ≤ length (now page) ⌝ }
+    ensures { λ r. ⌜ r ≡ certAt (now (page .entry)) j .value ⌝ }
+{
+    get32(page, HEADER + CERT * j + 8)
+}
+
+pub fn child_key(page: &[u8], j: usize) -> u64
+    requires { ⌜ headerSize + childSize * (j + 1) ≤ length (now page) ⌝ }
+    ensures { λ r. ⌜ r ≡ childAt (now (page .entry)) j .key ⌝ }
+{
+    get64(page, HEADER + CHILD * j)
+}
+
+pub fn child_number(page: &[u8], j: usize) -> u16
+    requires { ⌜ headerSize + childSize * (j + 1) ≤ length (now page) ⌝ }
+    ensures { λ r. ⌜ r ≡ childAt (now (page .entry)) j .value .child ⌝ }
+{
+    get16(page, HEADER + CHILD * j + 8)
+}
+
+pub fn child_previous(page: &[u8], j: usize) -> u16
+    requires { ⌜ headerSize + childSize * (j + 1) ≤ length (now page) ⌝ }
+    ensures { λ r. ⌜ r ≡ childAt (now (page .entry)) j .value .previous ⌝ }
+{
+    get16(page, HEADER + CHILD * j + 10)
+}
+
+pub fn child_birth(page: &[u8], j: usize) -> u32
+    requires { ⌜ headerSize + childSize * (j + 1) ≤ length (now page) ⌝ }
+    ensures { λ r. ⌜ r ≡ childAt (now (page .entry)) j .value .birth ⌝ }
+{
+    get32(page, HEADER + CHILD * j + 12)
+}
+
+pub fn read_link(page: &[u8], j: usize) -> Link
+    requires { ⌜ headerSize + childSize * (j + 1) ≤ length (now page) ⌝ }
+    ensures { λ r. ⌜ r ≡ linkOf (childAt (now (page .entry)) j) ⌝ }
+{
+    Link {
+        key: child_key(page, j),
+        child: child_number(page, j),
+        previous: child_previous(page, j),
+        birth: child_birth(page, j),
+    }
+}
+
+// Where the range of the child at j ends: before the next entry's key, or with the page's.
+fn child_high(page: &[u8], count: usize, j: usize, high: u64) -> u64
+    requires { ⌜ (j < count) × (headerSize + childSize * count ≤ length (now page)) ⌝ }
+    ensures { λ r. ⌜ r ≡ highBefore high (drop (j + 1) (readEach childIn childSize count (drop headerSize (now (page .entry))))) ⌝ }
+{
+    let next = j + 1;
+    if next >= count {
+        return high;
+    }
+    let key = child_key(page, next);
+    if key == 0 {
+        return 0;
+    }
+    key - 1
+}
+
+// The place that entry j of an inner page asks for, if the page's range ends at high.
+pub fn kid(page: &[u8], count: usize, j: usize, want: u16, high: u64) -> Place
+    requires { ⌜ (j < count) × (headerSize + childSize * count ≤ length (now page)) ⌝ }
+    ensures { λ r. ⌜ r ≡ getD (placesIn want high (readEach childIn childSize count (drop headerSize (now (page .entry))))) j nowhere ⌝ }
+{
+    let link = read_link(page, j);
+    Place {
+        child: link.child,
+        previous: link.previous,
+        birth: link.birth,
+        low: link.key,
+        high: child_high(page, count, j, high),
+        want: want,
+    }
+}
+
+// The same entries of page i of a table. A full page ends before its 512 bytes do, so j below the room is enough.
+
+pub fn cert_key_at(table: &[u8], i: usize, j: usize) -> u64
+    requires { ⌜ ((i + 1) * pageSize ≤ length (now table)) × (j < leafRoom) ⌝ }
+    ensures { λ r. ⌜ r ≡ certAt (pageAt (now (table .entry)) i) j .key ⌝ }
+{
+    let from = i * PAGE;
+    let to = from + PAGE;
+    cert_key(&table[from..to], j)
+}
+
+pub fn cert_record_at(table: &[u8], i: usize, j: usize) -> u32
+    requires { ⌜ ((i + 1) * pageSize ≤ length (now table)) × (j < leafRoom) ⌝ }
+    ensures { λ r. ⌜ r ≡ certAt (pageAt (now (table .entry)) i) j .value ⌝ }
+{
+    let from = i * PAGE;
+    let to = from + PAGE;
+    cert_record(&table[from..to], j)
+}
+
+pub fn child_key_at(table: &[u8], i: usize, j: usize) -> u64
+    requires { ⌜ ((i + 1) * pageSize ≤ length (now table)) × (j < innerRoom) ⌝ }
+    ensures { λ r. ⌜ r ≡ childAt (pageAt (now (table .entry)) i) j .key ⌝ }
+{
+    let from = i * PAGE;
+    let to = from + PAGE;
+    child_key(&table[from..to], j)
+}
+
+pub fn link_at(table: &[u8], i: usize, j: usize) -> Link
+    requires { ⌜ ((i + 1) * pageSize ≤ length (now table)) × (j < innerRoom) ⌝ }
+    ensures { λ r. ⌜ r ≡ linkOf (childAt (pageAt (now (table .entry)) i) j) ⌝ }
+{
+    let from = i * PAGE;
+    let to = from + PAGE;
+    read_link(&table[from..to], j)
+}
+
+pub fn kid_at(table: &[u8], i: usize, count: usize, j: usize, want: u16, high: u64) -> Place
+    requires { ⌜ ((i + 1) * pageSize ≤ length (now table)) × (j < count) × (count ≤ innerRoom) ⌝ }
+    ensures { λ r. ⌜ r ≡ getD (placesIn want high (readEach childIn childSize count (drop headerSize (pageAt (now (table .entry)) i)))) j nowhere ⌝ }
+{
+    let from = i * PAGE;
+    let to = from + PAGE;
+    kid(&table[from..to], count, j, want, high)
+}
+
+// Page 0 is read and changed where it lies, at the table's start.
+
+pub fn read_zero(table: &[u8]) -> Zero
+    requires { ⌜ pageSize ≤ length (now table) ⌝ }
+    ensures { λ r. ⌜ r ≡ zeroIn (now (table .entry)) ⌝ }
+{
+    Zero {
+        kind: get16(table, 0),
+        n: get16(table, 2),
+        number: get32(table, 4),
+        root: get16(table, 8),
+        previous: get16(table, 10),
+        birth: get32(table, 12),
+    }
+}
+
+// What opening and every walking call ask of page 0.
+pub fn fit0(table: &[u8], n: usize) -> bool
+    requires { ⌜ pageSize ≤ length (now table) ⌝ }
+    ensures { λ r. ⌜ r ≡ fit0 n (now (table .entry)) ⌝ }
+{
+    let zero = read_zero(table);
+    if zero.kind != ZERO {
+        return false;
+    }
+    if zero.n as usize != n {
+        return false;
+    }
+    if zero.root == 0 {
+        return false;
+    }
+    if zero.root as usize >= n {
+        return false;
+    }
+    (zero.previous as usize) < n
+}
+
+// The place that page 0 asks for: the root, over every key.
+pub fn root_place(table: &[u8]) -> Place
+    requires { ⌜ pageSize ≤ length (now table) ⌝ }
+    ensures { λ r. ⌜ r ≡ rootPlace (now (table .entry)) ⌝ }
+{
+    let zero = read_zero(table);
+    Place {
+        child: zero.root,
+        previous: zero.previous,
+        birth: zero.birth,
+        low: 0,
+        high: LAST_KEY,
+        want: 0,
+    }
+}
+
+pub fn number(table: &[u8]) -> u32
+    requires { ⌜ pageSize ≤ length (now table) ⌝ }
+    ensures { λ r. ⌜ r ≡ number0 (now (table .entry)) ⌝ }
+{
+    get32(table, 4)
+}
+
+pub fn set_number(table: &mut [u8], number: u32)
+    requires { ⌜ pageSize ≤ length (now table) ⌝ }
+    ensures { λ r. ⌜ now (table .exit) ≡ setNumber (now (table .entry)) number ⌝ }
+{
+    put32(table, 4, number);
+}
+
+pub fn set_root(table: &mut [u8], root: u16, previous: u16, birth: u32)
+    requires { ⌜ pageSize ≤ length (now table) ⌝ }
+    ensures { λ r. ⌜ now (table .exit) ≡ setRoot (now (table .entry)) root previous birth ⌝ }
+{
+    put16(table, 8, root);
+    put16(table, 10, previous);
+    put32(table, 12, birth);
+}
