@@ -1,0 +1,59 @@
+-- An inner page's entries as code tests them: what one names, and that the first starts at low. Assumes nothing.
+use Prim.Native.Nat.{ℕ, _-_, _≤_, _<_}
+use mathlib.Core.Path.{_≡_, refl, sym}
+use mathlib.Core.Bool.{Bool, true, false, not, and-false}
+use mathlib.Core.List.{List, []}
+use native.Mathlib.Omega.{arith}
+use lib.Dec.{eqb, ltb}
+use lib.ListN.{drop}
+use borrow.Author.Tests.{eq-eqb, ne-eqb}
+use Rattle.rules.specs.Layout.{headerSize, childSize}
+use Rattle.rules.specs.Entry.{Entry, Child, Below}
+use Rattle.rules.specs.Page.{readEach, childIn}
+use Rattle.rules.specs.Sound.{startsAt, namesPages}
+use Rattle.rules.proofs.Tests.{between-of, between-below, between-above}
+use Rattle.sound.specs.Pass.{childrenPass}
+use Rattle.head.proofs.Left.{entry, left-all, left-more}
+use Rattle.sound.proofs.Turn.{after, first-bad, first-on}
+
+-- ── What an entry names ─────────────────────────────────────────────────────────────────────────────────────────
+
+module _ (n : ℕ) (x : Child) {child : ℕ} (e : child ≡ x .value .child) where
+  pub names-zero : child ≡ 0 → false ≡ namesPages n x
+  unfolding namesPages
+  names-zero z = sym (rw (between-below 1 (n - 1) (x .value .child) (omega arith)))
+
+  pub names-beyond : (child ≡ 0 → ⊥) → n ≤ child → false ≡ namesPages n x
+  unfolding namesPages
+  names-beyond z l = sym (rw (between-above 1 (n - 1) (x .value .child) (omega arith)))
+
+  pub names-by-previous : {previous : ℕ} → previous ≡ x .value .previous → (child ≡ 0 → ⊥) → child < n → ltb previous n ≡ namesPages n x
+  unfolding namesPages
+  names-by-previous q z l = rw (q, between-of 1 (n - 1) (x .value .child) (omega arith) (omega arith))
+
+-- ── The first entry ─────────────────────────────────────────────────────────────────────────────────────────────
+
+module _ (b : List ℕ) (count low high n : ℕ) where
+  abbrev pub answer : Bool
+  answer = childrenPass n low high (readEach childIn childSize count (drop headerSize b))
+
+  pub no-child : count ≡ 0 → false ≡ answer
+  unfolding childrenPass startsAt readEach
+  no-child h = rw (h, readEach, startsAt)
+
+  module _ (k : ℕ) (h : 0 < count) (e : k ≡ entry childIn childSize b count 0 .key) where
+    starts : startsAt low (readEach childIn childSize count (drop headerSize b)) ≡ eqb k low
+    unfolding startsAt
+    starts = rw (left-all childIn childSize b count, left-more childIn childSize b count 0 h, startsAt, e)
+
+    pub starts-elsewhere : (k ≡ low → ⊥) → false ≡ answer
+    unfolding childrenPass
+    starts-elsewhere d = sym (rw (starts, ne-eqb k low d))
+
+    pub starts-bad : {g : Bool} → g ≡ namesPages n (entry childIn childSize b count 0) → not g ≡ true → false ≡ answer
+    unfolding childrenPass
+    starts-bad f y = rw (← first-bad childIn childSize (namesPages n) b count low high 0 h e f refl y, and-false)
+
+    pub starts-on : {g : Bool} → g ≡ namesPages n (entry childIn childSize b count 0) → k ≡ low → not g ≡ false → answer ≡ after childIn childSize (namesPages n) b count low high k 1
+    unfolding childrenPass
+    starts-on f q y = rw (starts, eq-eqb k low q) (first-on childIn childSize (namesPages n) b count low high 0 h e f refl (omega arith) y)

@@ -1,0 +1,8 @@
+-- Laws of the one pass over a page's entries, and of soundness by kind.
+pub mod Scan
+pub mod Turn
+pub mod GoodKey
+pub mod Children
+pub mod ByKind
+pub mod Fitting
+pub mod Mending

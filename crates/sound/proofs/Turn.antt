@@ -1,0 +1,64 @@
+-- The loop over a page's entries: before each turn the answer is what `risen` says of the entries left. So a turn either
+-- knows the answer or leaves one entry less. Assumes nothing.
+use Prim.Native.Nat.{ℕ, _+_, _≤_, _<_}
+use mathlib.Core.Path.{_≡_, sym, _∙_}
+use mathlib.Core.Bool.{Bool, true, false, not, _&&_, and-false}
+use mathlib.Core.List.{List}
+use lib.Dec.{leb, ltb}
+use lib.ListN.{drop}
+use borrow.Author.Tests.{lt-ltb, le-ltb, le-leb, lt-leb, not-true, not-false}
+use Rattle.rules.specs.Layout.{headerSize}
+use Rattle.rules.specs.Test.{all}
+use Rattle.rules.specs.Entry.{Entry, keys, rising}
+use Rattle.rules.specs.Page.{readEach}
+use Rattle.rules.specs.Sound.{inOrder}
+use Rattle.head.proofs.Left.{entry, left, left-all, left-more, left-none}
+use Rattle.sound.proofs.Scan.{risen, one-pass}
+
+module _ {B : Type 0} (read : List ℕ → Entry B) (size : ℕ) (good : Entry B → Bool) (b : List ℕ) (count low high : ℕ) where
+  -- what a page's entries must pass, and what is left of it after one with the key `last`
+  abbrev pub passes : Bool
+  passes =
+      inOrder low high (keys (readEach read size count (drop headerSize b)))
+      && all good (readEach read size count (drop headerSize b))
+
+  abbrev pub after : ℕ → ℕ → Bool
+  after last j = risen good high last (left read size b count j)
+
+  pub no-entries : count ≡ 0 → true ≡ passes
+  unfolding readEach inOrder keys rising all
+  no-entries h = rw (h, readEach)
+
+  -- an entry, its key and whether it is good, as code has found them
+  module _ (j : ℕ) {k : ℕ} {g : Bool} (h : j < count) (e : k ≡ entry read size b count j .key) (f : g ≡ good (entry read size b count j)) where
+    first : j ≡ 0 → passes ≡ (leb low k && (g && after k (j + 1)))
+    first z =
+        rw (e, f, left-all read size b count, ← z, left-more read size b count j h)
+        (one-pass good low high (entry read size b count j) (left read size b count (j + 1)))
+
+    pub first-low : j ≡ 0 → k < low → false ≡ passes
+    first-low z l = sym (first z ∙ rw (lt-leb low k l))
+
+    pub first-bad : j ≡ 0 → not g ≡ true → false ≡ passes
+    first-bad z n = sym (first z ∙ rw (not-true g n, and-false))
+
+    pub first-on : j ≡ 0 → low ≤ k → not g ≡ false → passes ≡ after k (j + 1)
+    first-on z l y = first z ∙ rw (le-leb low k l, not-false g y)
+
+    module _ {answer : Bool} (last : ℕ) (a : answer ≡ after last j) where
+      turn : answer ≡ (ltb last k && (g && after k (j + 1)))
+      unfolding risen
+      turn = a ∙ rw (e, f, left-more read size b count j h, risen)
+
+      pub turn-low : k ≤ last → false ≡ answer
+      turn-low l = sym (turn ∙ rw (le-ltb last k l))
+
+      pub turn-bad : not g ≡ true → false ≡ answer
+      turn-bad n = sym (turn ∙ rw (not-true g n, and-false))
+
+      pub turn-on : last < k → not g ≡ false → answer ≡ after k (j + 1)
+      turn-on l y = turn ∙ rw (lt-ltb last k l, not-false g y)
+
+  pub turns-end : (j : ℕ) {answer : Bool} (last : ℕ) → count ≤ j → answer ≡ after last j → leb last high ≡ answer
+  unfolding risen
+  turns-end j last h a = sym (a ∙ rw (left-none read size b count j h, risen))

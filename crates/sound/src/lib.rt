@@ -1,0 +1,279 @@
+// When a page is sound, when it fits a place, and when a lost child can be mended from it.
+//
+// Each function answers exactly the rules' test of the same bytes. Entries are read once, in order: keys that rise
+// strictly from one that is not below low to one that is not above high lie all within, so each entry costs one
+// comparison with the one before it, and high is looked at once.
+//
+// Below stand `head`, which reads headers and entries, and `rules`, the definitions.
+use head::PAGE;
+use head::cert_key;
+use head::child_key;
+use head::child_number;
+use head::child_previous;
+use head::read_head;
+use rules::Place;
+ghost use mathlib.Core.Path.{_≡_};
+ghost use Prim.Native.Nat.{_+_, _*_, _≤_};
+ghost use lib.ListN.{length, drop};
+ghost use Rattle.rules.specs.Layout.{pageSize, headerSize, certSize, childSize};
+ghost use Rattle.rules.specs.Key.{goodKey};
+ghost use Rattle.rules.specs.Page.{readEach, certIn, childIn, pageIn};
+ghost use Rattle.rules.specs.Entry.{keys};
+ghost use Rattle.rules.specs.Test.{mem};
+ghost use Rattle.rules.specs.Table.{read};
+ghost use Rattle.rules.specs.Sound.{namesPages, sound};
+ghost use Rattle.rules.specs.Place.{kindAsked, fits, mendable};
+ghost use Rattle.head.specs.Head.{childAt};
+ghost use Rattle.sound.specs.Pass.{certsPass, childrenPass, namesPrevious, covers};
+
+// What a key counts model and serial by, and how many serials there are.
+const MODEL: u64 = 281474976710656;
+
+const SERIAL: u64 = 65536;
+
+const SERIALS: u64 = 4294967296;
+
+// The kind of a leaf and the highest one, and how many entries a leaf and an inner page hold.
+const LEAF: u16 = 1;
+
+const TOP: u16 = 3;
+
+const LEAF_ROOM: u16 = 40;
+
+const INNER_ROOM: u16 = 30;
+
+// No part of the key is zero.
+fn good_key(key: u64) -> bool
+    ensures { λ r. ⌜ r ≡ goodKey key ⌝ }
+{
+    if key < MODEL {
+        return false;
+    }
+    if key / SERIAL % SERIALS == 0 {
+        return false;
+    }
+    key % SERIAL != 0
+}
+
+// The leaf's keys rise strictly within low to high, and none has a part that is zero.
+fn certs_pass(page: &[u8], count: usize, low: u64, high: u64) -> bool
+    requires { ⌜ headerSize + certSize * count ≤ length (now page) ⌝ }
+    ensures { λ r. ⌜ r ≡ certsPass low high (readEach certIn certSize count (drop headerSize (now (page .entry)))) ⌝ }
+{
+    if count == 0 {
+        return true;
+    }
+    let mut last = cert_key(page, 0);
+    if last < low {
+        return false;
+    }
+    if !good_key(last) {
+        return false;
+    }
+    let mut j = 1;
+    while j < count {
+        let key = cert_key(page, j);
+        if key <= last {
+            return false;
+        }
+        if !good_key(key) {
+            return false;
+        }
+        last = key;
+        j += 1;
+    }
+    last <= high
+}
+
+// A child is a page other than page 0, and its previous is a page or 0.
+fn names_pages(page: &[u8], j: usize, n: usize) -> bool
+    requires { ⌜ headerSize + childSize * (j + 1) ≤ length (now page) ⌝ }
+    ensures { λ r. ⌜ r ≡ namesPages n (childAt (now (page .entry)) j) ⌝ }
+{
+    let child = child_number(page, j) as usize;
+    if child == 0 {
+        return false;
+    }
+    if child >= n {
+        return false;
+    }
+    (child_previous(page, j) as usize) < n
+}
+
+// The inner page's first key is its low, its keys rise strictly up to high, and every entry names pages.
+fn children_pass(page: &[u8], count: usize, low: u64, high: u64, n: usize) -> bool
+    requires { ⌜ headerSize + childSize * count ≤ length (now page) ⌝ }
+    ensures { λ r. ⌜ r ≡ childrenPass n low high (readEach childIn childSize count (drop headerSize (now (page .entry)))) ⌝ }
+{
+    if count == 0 {
+        return false;
+    }
+    let mut last = child_key(page, 0);
+    if last != low {
+        return false;
+    }
+    if !names_pages(page, 0, n) {
+        return false;
+    }
+    let mut j = 1;
+    while j < count {
+        let key = child_key(page, j);
+        if key <= last {
+            return false;
+        }
+        if !names_pages(page, j, n) {
+            return false;
+        }
+        last = key;
+        j += 1;
+    }
+    last <= high
+}
+
+// The page is sound, whoever asks for it.
+pub fn sound(page: &[u8], n: usize) -> bool
+    requires { ⌜ pageSize ≤ length (now page) ⌝ }
+    ensures { λ r. ⌜ r ≡ sound n (pageIn (now (page .entry))) ⌝ }
+{
+    let head = read_head(page);
+    if head.low > head.high {
+        return false;
+    }
+    if head.kind == LEAF {
+        if head.count > LEAF_ROOM {
+            return false;
+        }
+        return certs_pass(page, head.count as usize, head.low, head.high);
+    }
+    if head.kind == 0 {
+        return false;
+    }
+    if head.kind > TOP {
+        return false;
+    }
+    if head.count > INNER_ROOM {
+        return false;
+    }
+    children_pass(page, head.count as usize, head.low, head.high, n)
+}
+
+// A place asks for one kind, or for any.
+fn kind_asked(want: u16, kind: u16) -> bool
+    ensures { λ r. ⌜ r ≡ kindAsked want kind ⌝ }
+{
+    if want == 0 {
+        return true;
+    }
+    want == kind
+}
+
+// The page is the one that a place asks for. A page that isn't is lost.
+pub fn fits(page: &[u8], e: Place, n: usize) -> bool
+    requires { ⌜ pageSize ≤ length (now page) ⌝ }
+    ensures { λ r. ⌜ r ≡ fits n e (pageIn (now (page .entry))) ⌝ }
+{
+    let head = read_head(page);
+    if head.birth != e.birth {
+        return false;
+    }
+    if head.low != e.low {
+        return false;
+    }
+    if head.high != e.high {
+        return false;
+    }
+    if !kind_asked(e.want, head.kind) {
+        return false;
+    }
+    sound(page, n)
+}
+
+// A number beyond the table names no page, so nothing there fits.
+pub fn fits_at(table: &[u8], e: Place, n: usize) -> bool
+    requires { ⌜ length (now table) ≡ n * pageSize ⌝ }
+    ensures { λ r. ⌜ r ≡ fits n e (read (now (table .entry)) (e .child)) ⌝ }
+{
+    let child = e.child as usize;
+    if child >= n {
+        return false;
+    }
+    let from = child * PAGE;
+    let to = from + PAGE;
+    fits(&table[from..to], e, n)
+}
+
+// An entry of the inner page has this key.
+fn has_key(page: &[u8], count: usize, key: u64) -> bool
+    requires { ⌜ headerSize + childSize * count ≤ length (now page) ⌝ }
+    ensures { λ r. ⌜ r ≡ mem key (keys (readEach childIn childSize count (drop headerSize (now (page .entry))))) ⌝ }
+{
+    let mut j = 0;
+    while j < count {
+        if child_key(page, j) == key {
+            return true;
+        }
+        j += 1;
+    }
+    false
+}
+
+// The place names a previous page, and it is another than the child.
+fn names_previous(e: Place, n: usize) -> bool
+    ensures { λ r. ⌜ r ≡ namesPrevious n e ⌝ }
+{
+    if e.previous == 0 {
+        return false;
+    }
+    if e.previous as usize >= n {
+        return false;
+    }
+    e.previous != e.child
+}
+
+// The previous page is sound, of the kind asked for, spans the range, and if inner has an entry that starts it.
+fn covers(page: &[u8], e: Place, n: usize) -> bool
+    requires { ⌜ pageSize ≤ length (now page) ⌝ }
+    ensures { λ r. ⌜ r ≡ covers n e (pageIn (now (page .entry))) ⌝ }
+{
+    let head = read_head(page);
+    if !kind_asked(e.want, head.kind) {
+        return false;
+    }
+    if head.low > e.low {
+        return false;
+    }
+    if head.high < e.high {
+        return false;
+    }
+    if !sound(page, n) {
+        return false;
+    }
+    if head.kind == LEAF {
+        return true;
+    }
+    has_key(page, head.count as usize, e.low)
+}
+
+// A lost child can be mended from this page, its previous one. If not, the place is damaged.
+pub fn mendable(page: &[u8], e: Place, n: usize) -> bool
+    requires { ⌜ pageSize ≤ length (now page) ⌝ }
+    ensures { λ r. ⌜ r ≡ mendable n e (pageIn (now (page .entry))) ⌝ }
+{
+    if !names_previous(e, n) {
+        return false;
+    }
+    covers(page, e, n)
+}
+
+// The previous page is looked at only where the place names one.
+pub fn mendable_at(table: &[u8], e: Place, n: usize) -> bool
+    requires { ⌜ length (now table) ≡ n * pageSize ⌝ }
+    ensures { λ r. ⌜ r ≡ mendable n e (read (now (table .entry)) (e .previous)) ⌝ }
+{
+    if !names_previous(e, n) {
+        return false;
+    }
+    let from = e.previous as usize * PAGE;
+    let to = from + PAGE;
+    covers(&table[from..to], e, n)
+}
