@@ -1,0 +1,46 @@
+-- The keys of a page's entries, and how far a spot among them goes.
+-- Assumes nothing.
+use mathlib.Core.Path.{_≡_, refl}
+use mathlib.Core.Bool.{Bool, true, false}
+use mathlib.Core.List.{List, [], _∷_}
+use Prim.Native.Nat.{ℕ, zero, suc, _+_, _≤_}
+use native.Mathlib.Omega.{arith}
+use lib.Dec.{leb}
+use lib.ListN.{length, drop}
+use Rattle.rules.specs.Layout.{headerSize, certSize, childSize}
+use Rattle.rules.specs.Entry.{Entry, keys}
+use Rattle.rules.specs.Page.{readEach, certIn, childIn}
+use Rattle.rules.proofs.Each.{length-readEach}
+use Rattle.entries.specs.Spot.{keyIn, keysIn, spotOf, startOf}
+
+keys-readEach : {B : Type 0} (read : List ℕ → Entry B) (size k : ℕ) (b : List ℕ) → ((l : List ℕ) → read l .key ≡ keyIn l)
+    → keys (readEach read size k b) ≡ readEach keyIn size k b
+unfolding keys readEach
+keys-readEach read size zero b f = refl
+keys-readEach read size (suc k) b f = rw (f b, keys-readEach read size k (drop size b) f)
+
+pub keys-certs : (k : ℕ) (b : List ℕ) → keys (readEach certIn certSize k (drop headerSize b)) ≡ keysIn certSize k b
+unfolding keysIn keyIn certIn
+keys-certs k b = keys-readEach certIn certSize k (drop headerSize b) (λ l. refl)
+
+pub keys-children : (k : ℕ) (b : List ℕ) → keys (readEach childIn childSize k (drop headerSize b)) ≡ keysIn childSize k b
+unfolding keysIn keyIn childIn
+keys-children k b = keys-readEach childIn childSize k (drop headerSize b) (λ l. refl)
+
+pub length-keysIn : (size k : ℕ) (b : List ℕ) → length (keysIn size k b) ≡ k
+unfolding keysIn
+length-keysIn size k b = length-readEach keyIn size k (drop headerSize b)
+
+pub spot-bound : (k : ℕ) (ks : List ℕ) → spotOf k ks ≤ length ks
+unfolding spotOf
+spot-bound k [] = omega arith
+spot-bound k (x ∷ xs) = go (leb x k) (spot-bound k xs)
+  where
+    go : (t : Bool) → spotOf k xs ≤ length xs → elim t [ true ↦ 1 + spotOf k xs | false ↦ 0 ] ≤ suc (length xs)
+    go true h = omega arith
+    go false h = omega arith
+
+pub start-bound : (low : ℕ) (ks : List ℕ) → startOf low ks ≤ length ks
+unfolding startOf
+start-bound zero ks = omega arith
+start-bound (suc l) ks = spot-bound l ks

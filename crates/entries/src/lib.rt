@@ -1,0 +1,125 @@
+// The entries of a page as runs of bytes: their size, the spot of a key among them, and runs copied and moved up.
+//
+// A leaf's entries and an inner page's differ in size alone here: each starts with its key. The spot of a key is the
+// number of entries before the first one with a greater key. Every function that writes says which bytes it sets, and
+// all others stay.
+//
+// Below stand `fields`, numbers in bytes, and `rules`, which says what the bytes of a page mean.
+
+ghost use mathlib.Core.Path.{_≡_};
+ghost use Prim.Native.Nat.{_+_, _*_, _-_, _≤_};
+ghost use lib.ListN.{length, take, drop};
+ghost use lib.Seq.{sets};
+ghost use Rattle.rules.specs.Layout.{headerSize, certSize, childSize};
+ghost use Rattle.rules.specs.Page.{certBytes, childBytes};
+ghost use Rattle.rules.specs.Insert.{newChild};
+ghost use Rattle.entries.specs.Spot.{sizeOf, keysIn, spotOf, startOf, newCert};
+
+// A page, its header, an entry of a leaf and one of an inner page, in bytes; and the kind that a leaf has.
+pub const PAGE: usize = 512;
+
+pub const HEADER: usize = 32;
+
+pub const CERT: usize = 12;
+
+pub const CHILD: usize = 16;
+
+pub const LEAF: u16 = 1;
+
+// Where the fields of a page's header stand.
+pub const KIND: usize = 0;
+
+pub const COUNT: usize = 2;
+
+pub const BIRTH: usize = 4;
+
+pub const BUILT: usize = 8;
+
+pub const TOUCHED: usize = 12;
+
+pub const LOW: usize = 16;
+
+pub const HIGH: usize = 24;
+
+// How many bytes an entry of a page of this kind takes.
+pub fn size_of(kind: u16) -> usize
+    ensures { λ r. ⌜ r ≡ sizeOf kind ⌝ }
+{
+    if kind == LEAF { CERT } else { CHILD }
+}
+
+// How many entries stand before the first one with a key above this one.
+pub fn spot(page: &[u8], size: usize, count: usize, key: u64) -> usize
+    requires { ⌜ 8 ≤ size ⌝ }
+    requires { ⌜ headerSize + size * count ≤ length (now page) ⌝ }
+    ensures { λ r. ⌜ r ≡ spotOf key (keysIn size count (now (page .entry))) ⌝ }
+{
+    let mut j = 0;
+    let mut at = HEADER;
+    while j < count {
+        if fields::get64(page, at) > key {
+            return j;
+        }
+        j += 1;
+        at += size;
+    }
+    j
+}
+
+// How many entries stand before the first one with a key not below this one.
+pub fn start(page: &[u8], size: usize, count: usize, low: u64) -> usize
+    requires { ⌜ 8 ≤ size ⌝ }
+    requires { ⌜ headerSize + size * count ≤ length (now page) ⌝ }
+    ensures { λ r. ⌜ r ≡ startOf low (keysIn size count (now (page .entry))) ⌝ }
+{
+    if low == 0 {
+        return 0;
+    }
+    spot(page, size, count, low - 1)
+}
+
+// Bytes of another slice, put over as many at `at`.
+pub fn copy(to: &mut [u8], at: usize, from: &[u8], start: usize, len: usize)
+    requires { ⌜ at + len ≤ length (now to) ⌝ }
+    requires { ⌜ start + len ≤ length (now from) ⌝ }
+    ensures { λ r. ⌜ now (to .exit) ≡ sets (now (to .entry)) at (take len (drop start (now (from .entry)))) ⌝ }
+{
+    let mut k = 0;
+    while k < len {
+        to[at + k] = from[start + k];
+        k += 1;
+    }
+}
+
+// An entry of a leaf.
+pub fn write_cert(page: &mut [u8], at: usize, key: u64, value: u32)
+    requires { ⌜ at + certSize ≤ length (now page) ⌝ }
+    ensures { λ r. ⌜ now (page .exit) ≡ sets (now (page .entry)) at (certBytes (newCert key value)) ⌝ }
+{
+    fields::put64(page, at, key);
+    fields::put32(page, at + 8, value);
+}
+
+// An entry of an inner page.
+pub fn write_child(page: &mut [u8], at: usize, key: u64, child: u16, previous: u16, birth: u32)
+    requires { ⌜ at + childSize ≤ length (now page) ⌝ }
+    ensures { λ r. ⌜ now (page .exit) ≡ sets (now (page .entry)) at (childBytes (newChild birth key child previous)) ⌝ }
+{
+    fields::put64(page, at, key);
+    fields::put16(page, at + 8, child);
+    fields::put16(page, at + 10, previous);
+    fields::put32(page, at + 12, birth);
+}
+
+// Bytes from `at` up to `end`, moved up by some places, the last one first.
+pub fn move_up(page: &mut [u8], at: usize, end: usize, by: usize)
+    requires { ⌜ at ≤ end ⌝ }
+    requires { ⌜ end + by ≤ length (now page) ⌝ }
+    ensures { λ r. ⌜ now (page .exit) ≡ sets (now (page .entry)) (at + by) (take (end - at) (drop at (now (page .entry)))) ⌝ }
+{
+    let mut k = end;
+    while at < k {
+        k -= 1;
+        page[k + by] = page[k];
+    }
+}
