@@ -1,0 +1,89 @@
+-- The halves of a page, as ranges of its entries by index, and the key that divides them.
+-- Assumes nothing.
+use mathlib.Core.Path.{_≡_, refl, _∙_}
+use mathlib.Core.Bool.{Bool, true, false}
+use mathlib.Core.List.{List, append-nil}
+use Prim.Native.Nat.{ℕ, _+_, _-_, _*_, _≤_, _<_}
+use native.Mathlib.Nat.{add-zero}
+use native.Mathlib.Omega.{arith}
+use lib.Dec.{eqb}
+use lib.ListN.{length, take, drop, getD, length-drop}
+use lib.Seq.{take-all, take-nil}
+use Rattle.fields.specs.Field.{leAt}
+use Rattle.fields.proofs.Field.{leAt-drop}
+use Rattle.rules.specs.Layout.{pageSize, headerSize, leafKind, leafHalf, innerHalf, certSize, childSize}
+use Rattle.rules.specs.Entry.{keys}
+use Rattle.rules.specs.Page.{viewIn, isLeaf, readEach, certIn, childIn}
+use Rattle.rules.specs.Insert.{divide, lowerHalf, upperHalf}
+use Rattle.rules.proofs.Each.{readEach-at, length-readEach}
+use Rattle.rules.proofs.Pages.{viewIn-leaf, viewIn-inner, kind-viewIn, count-viewIn}
+use Rattle.entries.specs.Spot.{sizeOf, keyIn, keysIn}
+use Rattle.entries.proofs.KeysIn.{keys-certs, keys-children}
+use Rattle.entries.proofs.Passed.{within}
+use Rattle.build.proofs.Built.{entries-fit}
+use Rattle.build.specs.Range.{rangeView, halfOf, Divides}
+
+key-at : (size k j : ℕ) (b : List ℕ) → j < k → getD (keysIn size k b) j 0 ≡ leAt b (headerSize + size * j) 8
+unfolding keysIn keyIn
+key-at size k j b h =
+    readEach-at keyIn size k (drop headerSize b) j 0 h
+    ∙ leAt-drop (drop headerSize b) (size * j) 0 8
+    ∙ leAt-drop b headerSize (size * j + 0) 8
+    ∙ rw add-zero
+
+module _ (b : List ℕ) (h : halfOf (leAt b 0 2) < leAt b 2 2) where
+  -- where the key that divides a page stands
+  pub divide-at : divide (viewIn b) ≡ leAt b (headerSize + sizeOf (leAt b 0 2) * halfOf (leAt b 0 2)) 8
+  unfolding divide isLeaf sizeOf halfOf keys
+  divide-at = go (eqb (leAt b 0 2) leafKind) refl
+    where
+      go : (t : Bool) → eqb (leAt b 0 2) leafKind ≡ t → divide (viewIn b) ≡ leAt b (headerSize + sizeOf (leAt b 0 2) * halfOf (leAt b 0 2)) 8
+      go true e =
+          let k = rw (halfOf, e) at h in
+          rw (viewIn-leaf b e, append-nil, keys-certs (leAt b 2 2) b, sizeOf, halfOf, e) (key-at certSize (leAt b 2 2) leafHalf b k)
+      go false e =
+          let k = rw (halfOf, e) at h in
+          rw (viewIn-inner b e, keys-children (leAt b 2 2) b, sizeOf, halfOf, e) (key-at childSize (leAt b 2 2) innerHalf b k)
+
+  pub lower-half : lowerHalf (viewIn b) ≡ rangeView 0 (halfOf (leAt b 0 2)) (viewIn b)
+  unfolding lowerHalf rangeView halfOf
+  lower-half = go (eqb (leAt b 0 2) leafKind) refl
+    where
+      go : (t : Bool) → eqb (leAt b 0 2) leafKind ≡ t → lowerHalf (viewIn b) ≡ rangeView 0 (halfOf (leAt b 0 2)) (viewIn b)
+      go true e = rw (viewIn-leaf b e, halfOf, e)
+      go false e = rw (viewIn-inner b e, halfOf, e)
+
+  pub upper-half : upperHalf (viewIn b) ≡ rangeView (halfOf (leAt b 0 2)) (leAt b 2 2) (viewIn b)
+  unfolding upperHalf rangeView halfOf
+  upper-half = go (eqb (leAt b 0 2) leafKind) refl
+    where
+      all : {A : Type 0} (xs : List A) (half : ℕ) → length xs ≡ leAt b 2 2 → take (leAt b 2 2 - half) (drop half xs) ≡ drop half xs
+      all xs half f = take-all (leAt b 2 2 - half) (drop half xs) (rw (length-drop, f) (omega arith))
+
+      go : (t : Bool) → eqb (leAt b 0 2) leafKind ≡ t → upperHalf (viewIn b) ≡ rangeView (halfOf (leAt b 0 2)) (leAt b 2 2) (viewIn b)
+      go true e =
+          let certs = readEach certIn certSize (leAt b 2 2) (drop headerSize b) in
+          rw (viewIn-leaf b e, halfOf, e, all certs leafHalf (length-readEach certIn certSize (leAt b 2 2) (drop headerSize b)), take-nil)
+      go false e =
+          let children = readEach childIn childSize (leAt b 2 2) (drop headerSize b) in
+          rw (viewIn-inner b e, halfOf, e, all children innerHalf (length-readEach childIn childSize (leAt b 2 2) (drop headerSize b)), take-nil)
+
+pub half-below : (b : List ℕ) → Divides (viewIn b) → halfOf (leAt b 0 2) < leAt b 2 2
+half-below b d = rw (← kind-viewIn b, ← count-viewIn b) (d .past)
+
+pub size-bound : (kind : ℕ) → 12 ≤ sizeOf kind
+unfolding sizeOf
+size-bound kind = go (eqb kind leafKind)
+  where
+    go : (t : Bool) → 12 ≤ elim t [ true ↦ certSize | false ↦ childSize ]
+    go true = omega arith
+    go false = omega arith
+
+-- that key lies within its page
+pub middle-fits : (b : List ℕ) (kind size half : ℕ) → Divides (viewIn b) → kind ≡ leAt b 0 2 → size ≡ sizeOf kind → half ≡ halfOf kind
+    → headerSize + size * half + 8 ≤ pageSize
+middle-fits b kind size half d e s m =
+    let k : half < leAt b 2 2 = rw (m, e) (half-below b d) in
+    let w = within size half (leAt b 2 2) k in
+    let v : headerSize + size * leAt b 2 2 ≤ pageSize = rw (s, e) (entries-fit b (d .roomy)) in
+    omega (arith, size-bound kind)

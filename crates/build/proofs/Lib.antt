@@ -1,0 +1,4 @@
+pub mod Built
+pub mod Cuts
+pub mod Halves
+pub mod Sounds
