@@ -1,0 +1,33 @@
+-- What a caller that goes by the rules knows of a page, in the words of what these functions ask for.
+-- Assumes nothing.
+use mathlib.Core.Path.{_≡_, refl}
+use mathlib.Core.Bool.{true, false}
+use mathlib.Core.Option.{none}
+use Prim.Native.Nat.{ℕ, _<_}
+use borrow.Author.Tests.{leb-false}
+use lib.Dec.{leb}
+use lib.ListN.{length}
+use Rattle.rules.specs.Layout.{leafRoom, innerRoom}
+use Rattle.rules.specs.Entry.{find}
+use Rattle.rules.specs.Page.{View, isLeaf}
+use Rattle.rules.specs.Walk.{Step}
+use Rattle.rules.specs.Insert.{full, divide, previousOf, twins}
+use Rattle.edit.proofs.Put.{or-none, absent-find}
+use Rattle.edit.specs.Takes.{TakesCert, twinsOf}
+
+-- a page that is not full has room
+pub room-left : (v : View) → full v ≡ false → (length (v .certs) < leafRoom) × (length (v .children) < innerRoom)
+unfolding full
+room-left v h =
+    let g = or-none (leb leafRoom (length (v .certs))) (leb innerRoom (length (v .children))) h in
+    (leb-false leafRoom (length (v .certs)) (g .0), leb-false innerRoom (length (v .children)) (g .1))
+
+-- a leaf that is not full and where nothing is found under a key takes it
+pub takes-cert : (k : ℕ) (v : View) → isLeaf v ≡ true → full v ≡ false → find k (v .certs) ≡ none → TakesCert k v
+takes-cert k v e f n = record { leaf = e; room = room-left v f .0; absent = absent-find k (v .certs) n }
+
+-- the entry that the rules make two
+pub twins-of : (c : ℕ) (s : Step) (lower upper : ℕ)
+    → twins c s lower upper ≡ twinsOf c (s .page .low) lower (divide (s .page .view)) upper (previousOf c s)
+unfolding twins twinsOf
+twins-of c s lower upper = refl

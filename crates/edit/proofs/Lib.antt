@@ -1,0 +1,5 @@
+pub mod Put
+pub mod Changed
+pub mod Edits
+pub mod Twins
+pub mod Callers

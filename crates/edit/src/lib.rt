@@ -1,0 +1,117 @@
+// Pages changed where they stand: a certificate put into a leaf, one entry of an inner page made two.
+//
+// Entries behind the new one move up, the entry is written, count and touched are set. Every other byte stays, those
+// behind the last entry too, and so does every other page of the table.
+//
+// Below stand `fields`, numbers in bytes; `entries`, entries as runs of bytes; and `rules`, whose `changed` every
+// contract here is an equation with.
+
+use entries::CERT;
+use entries::CHILD;
+use entries::COUNT;
+use entries::HEADER;
+use entries::PAGE;
+use entries::TOUCHED;
+ghost use mathlib.Core.Path.{_≡_};
+ghost use Prim.Native.Nat.{_+_, _*_, _≤_};
+ghost use lib.ListN.{length};
+ghost use Rattle.fields.specs.Field.{putAt};
+ghost use Rattle.rules.specs.Layout.{pageSize, headerSize};
+ghost use Rattle.rules.specs.Page.{viewIn, pageIn, changeBytes, touch};
+ghost use Rattle.rules.specs.Table.{read};
+ghost use Rattle.rules.specs.Insert.{newChild, putCert, putChild, changed};
+ghost use Rattle.entries.specs.Spot.{newCert};
+ghost use Rattle.edit.specs.Takes.{TakesCert, TakesChild, HasChild, TakesTwins, twinsOf};
+
+// A page that is changed now, with so many entries.
+fn stamp(page: &mut [u8], count: u16, c: u32)
+    requires { ⌜ headerSize ≤ length (now page) ⌝ }
+    ensures { λ r. ⌜ now (page .exit) ≡ putAt (putAt (now (page .entry)) 2 2 count) 12 4 c ⌝ }
+{
+    fields::put16(page, COUNT, count);
+    fields::put32(page, TOUCHED, c);
+}
+
+fn put_cert_in(page: &mut [u8], key: u64, value: u32, c: u32)
+    requires { ⌜ length (now page) ≡ pageSize ⌝ }
+    requires { ⌜ TakesCert key (viewIn (now page)) ⌝ }
+    ensures { λ r. ⌜ now (page .exit) ≡ changeBytes (touch c (putCert (newCert key value) (viewIn (now (page .entry)))) (pageIn (now (page .entry)))) (now (page .entry)) ⌝ }
+{
+    let count = fields::get16(page, COUNT);
+    let at = HEADER + CERT * entries::spot(page, CERT, count as usize, key);
+    entries::move_up(page, at, HEADER + CERT * (count as usize), CERT);
+    entries::write_cert(page, at, key, value);
+    stamp(page, count + 1, c);
+}
+
+fn put_child_in(page: &mut [u8], key: u64, child: u16, previous: u16, c: u32)
+    requires { ⌜ length (now page) ≡ pageSize ⌝ }
+    requires { ⌜ TakesChild key (viewIn (now page)) ⌝ }
+    ensures { λ r. ⌜ now (page .exit) ≡ changeBytes (touch c (putChild (newChild c key child previous) (viewIn (now (page .entry)))) (pageIn (now (page .entry)))) (now (page .entry)) ⌝ }
+{
+    let count = fields::get16(page, COUNT);
+    let at = HEADER + CHILD * entries::spot(page, CHILD, count as usize, key);
+    entries::move_up(page, at, HEADER + CHILD * (count as usize), CHILD);
+    entries::write_child(page, at, key, child, previous, c);
+    stamp(page, count + 1, c);
+}
+
+// The entry under a key gives way to another.
+fn set_child_in(page: &mut [u8], key: u64, child: u16, previous: u16, c: u32)
+    requires { ⌜ length (now page) ≡ pageSize ⌝ }
+    requires { ⌜ HasChild key (viewIn (now page)) ⌝ }
+    ensures { λ r. ⌜ now (page .exit) ≡ changeBytes (touch c (putChild (newChild c key child previous) (viewIn (now (page .entry)))) (pageIn (now (page .entry)))) (now (page .entry)) ⌝ }
+{
+    let count = fields::get16(page, COUNT);
+    let past = entries::spot(page, CHILD, count as usize, key);
+    entries::write_child(page, HEADER + CHILD * (past - 1), key, child, previous, c);
+    stamp(page, count, c);
+}
+
+fn put_twins_in(
+    page: &mut [u8],
+    low: u64,
+    lower: u16,
+    middle: u64,
+    upper: u16,
+    previous: u16,
+    c: u32,
+)
+    requires { ⌜ length (now page) ≡ pageSize ⌝ }
+    requires { ⌜ TakesTwins low middle (viewIn (now page)) ⌝ }
+    ensures { λ r. ⌜ now (page .exit) ≡ changeBytes (touch c (twinsOf c low lower middle upper previous (viewIn (now (page .entry)))) (pageIn (now (page .entry)))) (now (page .entry)) ⌝ }
+{
+    set_child_in(page, low, lower, previous, c);
+    put_child_in(page, middle, upper, previous, c);
+}
+
+// A certificate is put into a leaf in key order.
+pub fn put_cert(table: &mut [u8], i: usize, key: u64, value: u32, c: u32)
+    requires { ⌜ (i + 1) * pageSize ≤ length (now table) ⌝ }
+    requires { ⌜ TakesCert key (read (now table) i .view) ⌝ }
+    ensures { λ r. ⌜ now (table .exit) ≡ changed c (putCert (newCert key value)) (now (table .entry)) i ⌝ }
+{
+    let a = i * PAGE;
+    let end = a + PAGE;
+    put_cert_in(&mut table[a..end], key, value, c);
+}
+
+// The entry of a split page becomes two, for its halves.
+pub fn put_twins(
+    table: &mut [u8],
+    i: usize,
+    low: u64,
+    lower: u16,
+    middle: u64,
+    upper: u16,
+    previous: u16,
+    c: u32,
+)
+    requires { ⌜ (i + 1) * pageSize ≤ length (now table) ⌝ }
+    requires { ⌜ TakesTwins low middle (read (now table) i .view) ⌝ }
+    ensures { λ r. ⌜ now (table .exit) ≡ changed c (twinsOf c low lower middle upper previous) (now (table .entry)) i ⌝ }
+{
+    let a = i * PAGE;
+    let end = a + PAGE;
+    put_twins_in(&mut table[a..end], low, lower, middle, upper, previous, c);
+}
