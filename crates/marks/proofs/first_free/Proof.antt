@@ -1,0 +1,52 @@
+-- `marks::first_free`: the loop's invariant says that what was passed was not free.
+-- Assumes nothing.
+use mathlib.Core.Path.{_≡_, refl, sym, _∙_}
+use Prim.Native.Nat.{_-_}
+use Rattle.marks.specs.Lowest.{enteredBy, freeFrom, firstOf}
+use Rattle.marks.proofs.Search.{free-here, free-later, free-end}
+use borrow.Author.Needs.{needs}
+use Rattle.marks.proofs.first_free.Statement.{statement}
+use Rattle.marks.proofs.first_free.Tie as tie
+
+abbrev Inv-loop : tie.InvT-loop
+Inv-loop s e from n i₀ i = freeFrom s (enteredBy e) from ≡ freeFrom s (enteredBy e) i
+
+abbrev μ-loop : tie.MeasureT-loop
+μ-loop s e from n i₀ i = s .n - i
+
+loop-holds : tie.Need-loop-holds Inv-loop μ-loop
+loop-holds c = refl
+
+counts-requires : tie.Need-counts-requires Inv-loop μ-loop
+counts-requires c κs = search needs
+
+returns : tie.Need-returns Inv-loop μ-loop
+unfolding firstOf
+returns c = rw (c .before .before .before .loop .inv, free-here (c .before .before .before .before .args .s) (enteredBy (c .before .before .before .before .args .e)) (c .before .before .before .loop .i) (c .before .before .loop-test .taken) (sym (c .before .counts .ensures) ∙ c .if1 .taken))
+
+add-i : tie.Need-add-i Inv-loop μ-loop
+add-i c = search needs
+
+loop-less : tie.Need-loop-less Inv-loop μ-loop
+loop-less c = search needs
+
+loop-again : tie.Need-loop-again Inv-loop μ-loop
+loop-again c = c .before .before .before .loop .inv ∙ free-later (c .before .before .before .before .args .s) (enteredBy (c .before .before .before .before .args .e)) (c .before .before .before .loop .i) (c .before .before .loop-test .taken) (sym (c .before .counts .ensures) ∙ c .if1 .left)
+
+returns-2 : tie.Need-returns-2 Inv-loop μ-loop
+unfolding firstOf
+returns-2 c = rw (c .before .loop .inv, free-end (c .before .before .args .s) (enteredBy (c .before .before .args .e)) (c .before .loop .i) (c .loop-test .left))
+
+pub first-free-spec : {M : Type 1} → statement M
+first-free-spec =
+    tie.close
+    (tie.spec
+    Inv-loop
+    μ-loop
+    loop-holds
+    counts-requires
+    returns
+    add-i
+    loop-less
+    loop-again
+    returns-2)
