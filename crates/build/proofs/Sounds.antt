@@ -2,16 +2,16 @@
 -- Assumes nothing.
 use mathlib.Core.Path.{_≡_, refl}
 use mathlib.Core.Bool.{Bool, true, false, _||_, and-eq-true-iff}
-use mathlib.Core.List.{List, [], _∷_, append-nil}
-use Prim.Native.Nat.{ℕ, zero, suc, _<_}
+use mathlib.Core.List.{List, append-nil}
+use Prim.Native.Nat.{ℕ}
 use native.Mathlib.Omega.{arith}
 use borrow.Author.Tests.{leb-true}
 use lib.Dec.{leb, eqb}
-use lib.ListN.{length, drop, getD}
+use lib.ListN.{length, drop}
 use Rattle.fields.specs.Field.{leAt}
-use Rattle.rules.specs.Layout.{leafKind, leafRoom, innerRoom, headerSize, certSize, childSize}
+use Rattle.rules.specs.Layout.{leafHalf, innerHalf, leafKind, leafRoom, innerRoom, headerSize, certSize, childSize}
 use Rattle.rules.specs.Test.{every}
-use Rattle.rules.specs.Entry.{keys, risesFrom, rising}
+use Rattle.rules.specs.Entry.{keys, rising}
 use Rattle.rules.specs.Page.{Page, viewIn, pageIn, isLeaf, count, readEach, certIn, childIn}
 use Rattle.rules.specs.Sound.{sound, inOrder}
 use Rattle.rules.specs.Place.{mendable}
@@ -19,7 +19,7 @@ use Rattle.rules.specs.Insert.{full, divide}
 use Rattle.rules.specs.declared.Place.{Place}
 use Rattle.rules.proofs.Each.{length-readEach}
 use Rattle.rules.proofs.Pages.{viewIn-leaf, viewIn-inner}
-use Rattle.entries.proofs.Cut.{rises-cons, rising-rises}
+use Rattle.rules.proofs.Rises.{rising-at}
 use Rattle.entries.proofs.KeysIn.{keys-certs, keys-children, length-keysIn}
 use Rattle.build.specs.Range.{Ordered, Divides, halfOf}
 
@@ -44,18 +44,6 @@ mendable-ordered n e q h =
 
 -- ---- a full page
 
-above-from : (k i : ℕ) (ks : List ℕ) → risesFrom k ks ≡ true → i < length ks → k < getD ks i 0
-above-from k i [] r h = absurd (omega arith)
-above-from k zero (x ∷ xs) r h = rises-cons k x xs r .0
-above-from k (suc i) (x ∷ xs) r h =
-    let g = rises-cons k x xs r in
-    omega (arith, g .0, above-from x i xs (g .1) (omega arith))
-
--- no key of those that rise is 0 but the first
-rising-above : (i : ℕ) (ks : List ℕ) → rising ks ≡ true → suc i < length ks → 0 < getD ks (suc i) 0
-rising-above i [] r h = absurd (omega arith)
-rising-above i (x ∷ xs) r h = omega (arith, above-from x i xs (rising-rises x xs r) (omega arith))
-
 or-false : (t : Bool) → t || false ≡ true → t ≡ true
 or-false true h = refl
 or-false false h = h
@@ -75,7 +63,7 @@ full-divides n b h f = go (eqb (leAt b 0 2) leafKind) refl
         record {
           roomy = o .roomy;
           past = rw (viewIn-leaf b e, halfOf, e, length-readEach) (omega arith);
-          above = rw (viewIn-leaf b e, e, append-nil) (rising-above 19 ks r (omega arith));
+          above = rw (viewIn-leaf b e, e, append-nil) (omega (arith, rising-at ks 0 leafHalf 0 r (omega arith) (omega arith)));
         }
     go false e =
         let o = sound-ordered n (pageIn b) h in
@@ -87,5 +75,5 @@ full-divides n b h f = go (eqb (leAt b 0 2) leafKind) refl
         record {
           roomy = o .roomy;
           past = rw (viewIn-inner b e, halfOf, e, length-readEach) (omega arith);
-          above = rw (viewIn-inner b e, e) (rising-above 14 ks r (omega arith));
+          above = rw (viewIn-inner b e, e) (omega (arith, rising-at ks 0 innerHalf 0 r (omega arith) (omega arith)));
         }

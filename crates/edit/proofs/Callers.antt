@@ -12,7 +12,8 @@ use Rattle.rules.specs.Entry.{find}
 use Rattle.rules.specs.Page.{View, isLeaf}
 use Rattle.rules.specs.Walk.{Step}
 use Rattle.rules.specs.Insert.{full, divide, previousOf, twins}
-use Rattle.edit.proofs.Put.{or-none, absent-find}
+use Rattle.rules.proofs.Entries.{absent}
+use Rattle.edit.proofs.Put.{or-none}
 use Rattle.edit.specs.Takes.{TakesCert, twinsOf}
 
 -- a page that is not full has room
@@ -24,7 +25,7 @@ room-left v h =
 
 -- a leaf that is not full and where nothing is found under a key takes it
 pub takes-cert : (k : ℕ) (v : View) → isLeaf v ≡ true → full v ≡ false → find k (v .certs) ≡ none → TakesCert k v
-takes-cert k v e f n = record { leaf = e; room = room-left v f .0; absent = absent-find k (v .certs) n }
+takes-cert k v e f n = record { leaf = e; room = room-left v f .0; absent = absent k (v .certs) n }
 
 -- the entry that the rules make two
 pub twins-of : (c : ℕ) (s : Step) (lower upper : ℕ)

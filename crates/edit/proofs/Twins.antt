@@ -14,11 +14,13 @@ use Rattle.rules.specs.Test.{mem}
 use Rattle.rules.specs.Entry.{Child, keys, put}
 use Rattle.rules.specs.Page.{Page, isLeaf, viewIn, pageIn, count, touch, pageBytes, changeBytes}
 use Rattle.rules.specs.Insert.{newChild, putChild}
+use Rattle.rules.proofs.Rises.{length-keys}
 use Rattle.rules.proofs.Over.{over-over}
 use Rattle.rules.proofs.All.{all-put}
 use Rattle.rules.proofs.EntryBytes.{WideChild}
-use Rattle.rules.proofs.Pages.{Wide, shaped-viewIn, wide-pageIn, pageIn-changeBytes, length-pageBytes, length-changeBytes}
-use Rattle.edit.proofs.Put.{keys-present, length-keys, length-put}
+use Rattle.rules.proofs.Views.{shaped-viewIn}
+use Rattle.rules.proofs.Pages.{Wide, wide-pageIn, pageIn-changeBytes, length-pageBytes, length-changeBytes}
+use Rattle.edit.proofs.Put.{keys-present, length-put}
 use Rattle.edit.specs.Takes.{TakesChild, HasChild}
 
 pub wide-newChild : (c key child previous : ℕ) → Fits w32 c → Fits w64 key → Fits w16 child → Fits w16 previous → WideChild (newChild c key child previous)

@@ -1,34 +1,19 @@
 -- The entries with keys in a range are a range by index, where keys rise.
 -- Assumes nothing.
 use mathlib.Core.Path.{_≡_, refl, sym, ap}
-use mathlib.Core.Bool.{Bool, true, false, _&&_, and-eq-true-iff}
+use mathlib.Core.Bool.{Bool, true, false}
 use mathlib.Core.List.{List, [], _∷_}
 use Prim.Native.Nat.{ℕ, zero, suc, _-_, _≤_, _<_}
 use native.Mathlib.Nat.{zero-sub, sub-zero, suc-sub-suc}
 use native.Mathlib.Omega.{arith}
-use borrow.Author.Tests.{le-leb, lt-leb, leb-true, leb-false, ltb-true}
+use borrow.Author.Tests.{le-leb, lt-leb, leb-true, leb-false}
 use lib.Dec.{leb}
 use lib.ListN.{take, drop}
 use lib.Seq.{take-nil, drop-nil}
-use Rattle.rules.specs.Test.{between}
 use Rattle.rules.specs.Entry.{Entry, keys, cut, risesFrom, rising}
+use Rattle.rules.proofs.Tests.{between-of, between-above, between-below}
+use Rattle.rules.proofs.Rises.{rises-head, rises-tail, rising-from, rising-of-rises}
 use Rattle.entries.specs.Spot.{spotOf, startOf}
-
--- a first key of those that rise, and the rest above it
-pub rises-cons : (k x : ℕ) (xs : List ℕ) → risesFrom k (x ∷ xs) ≡ true → (k < x) × (risesFrom x xs ≡ true)
-unfolding risesFrom
-rises-cons k x xs h =
-    let g = simp and-eq-true-iff at h in
-    (ltb-true k x (g .0), g .1)
-
-pub rising-rises : (x : ℕ) (xs : List ℕ) → rising (x ∷ xs) ≡ true → risesFrom x xs ≡ true
-unfolding rising
-rising-rises x xs h = h
-
-pub rises-rising : (k : ℕ) (xs : List ℕ) → risesFrom k xs ≡ true → rising xs ≡ true
-unfolding rising risesFrom
-rises-rising k [] h = refl
-rises-rising k (x ∷ xs) h = rises-cons k x xs h .1
 
 -- ---- a key passed, or not
 
@@ -63,47 +48,31 @@ start-nil (suc l) = refl
 -- keys above a number that is not below low are none of those before low
 start-above : (low k : ℕ) (xs : List ℕ) → low ≤ k → risesFrom k xs ≡ true → startOf low xs ≡ 0
 start-above low k [] h r = start-nil low
-start-above low k (x ∷ xs) h r = start-first low x xs (omega (arith, rises-cons k x xs r .0))
+start-above low k (x ∷ xs) h r = start-first low x xs (omega (arith, rises-head k x xs r))
 
 -- ---- an entry in the range, or not
-
-between-in : (low high k : ℕ) → low ≤ k → k ≤ high → between low high k ≡ true
-unfolding between
-between-in low high k h l = rw (between, le-leb low k h, le-leb k high l)
-
-between-above : (low high k : ℕ) → high < k → between low high k ≡ false
-unfolding between
-between-above low high k h = go (leb low k)
-  where
-    go : (t : Bool) → t && leb k high ≡ false
-    go true = lt-leb k high h
-    go false = refl
-
-between-below : (low high k : ℕ) → k < low → between low high k ≡ false
-unfolding between
-between-below low high k h = rw (between, lt-leb low k h)
 
 module _ {B : Type 0} where
   cut-above : (low high k : ℕ) (xs : List (Entry B)) → high ≤ k → risesFrom k (keys xs) ≡ true → cut low high xs ≡ []
   unfolding cut keys
   cut-above low high k [] h r = refl
   cut-above low high k (x ∷ xs) h r =
-      let g = rises-cons k (x .key) (keys xs) r in
-      rw (cut, between-above low high (x .key) (omega (arith, g .0))) (cut-above low high (x .key) xs (omega (arith, g .0)) (g .1))
+      let above = rises-head k (x .key) (keys xs) r in
+      rw (cut, between-above low high (x .key) (omega arith)) (cut-above low high (x .key) xs (omega arith) (rises-tail k (x .key) (keys xs) r))
 
   pub cut-range : (low high : ℕ) (xs : List (Entry B)) → rising (keys xs) ≡ true
       → cut low high xs ≡ take (spotOf high (keys xs) - startOf low (keys xs)) (drop (startOf low (keys xs)) xs)
   unfolding cut keys
   cut-range low high [] r = rw (drop-nil {A = Entry B} (startOf low [])) (sym (take-nil {A = Entry B} (spotOf high [] - startOf low [])))
-  cut-range low high (x ∷ xs) r = go (leb (x .key) high) refl (leb low (x .key)) refl (cut-range low high xs (rises-rising (x .key) (keys xs) (rising-rises (x .key) (keys xs) r)))
+  cut-range low high (x ∷ xs) r = go (leb (x .key) high) refl (leb low (x .key)) refl (cut-range low high xs (rising-of-rises (x .key) (keys xs) (rising-from (x .key) (keys xs) r)))
     where
       go : (t : Bool) → leb (x .key) high ≡ t → (u : Bool) → leb low (x .key) ≡ u
           → cut low high xs ≡ take (spotOf high (keys xs) - startOf low (keys xs)) (drop (startOf low (keys xs)) xs)
           → cut low high (x ∷ xs) ≡ take (spotOf high (x .key ∷ keys xs) - startOf low (x .key ∷ keys xs)) (drop (startOf low (x .key ∷ keys xs)) (x ∷ xs))
       go false e u f ih =
           rw (cut, between-above low high (x .key) (leb-false (x .key) high e), spot-first high (x .key) (keys xs) (leb-false (x .key) high e), zero-sub)
-          (cut-above low high (x .key) xs (omega (arith, leb-false (x .key) high e)) (rising-rises (x .key) (keys xs) r))
+          (cut-above low high (x .key) xs (omega (arith, leb-false (x .key) high e)) (rising-from (x .key) (keys xs) r))
       go true e true f ih =
-          rw (cut, between-in low high (x .key) (leb-true low (x .key) f) (leb-true (x .key) high e), spot-cons high (x .key) (keys xs) (leb-true (x .key) high e), start-first low (x .key) (keys xs) (leb-true low (x .key) f), sub-zero, ih, start-above low (x .key) (keys xs) (leb-true low (x .key) f) (rising-rises (x .key) (keys xs) r), sub-zero)
+          rw (cut, between-of low high (x .key) (leb-true low (x .key) f) (leb-true (x .key) high e), spot-cons high (x .key) (keys xs) (leb-true (x .key) high e), start-first low (x .key) (keys xs) (leb-true low (x .key) f), sub-zero, ih, start-above low (x .key) (keys xs) (leb-true low (x .key) f) (rising-from (x .key) (keys xs) r), sub-zero)
       go true e false f ih =
           rw (cut, between-below low high (x .key) (leb-false low (x .key) f), spot-cons high (x .key) (keys xs) (leb-true (x .key) high e), start-cons low (x .key) (keys xs) (leb-false low (x .key) f), suc-sub-suc, ih)
