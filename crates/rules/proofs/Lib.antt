@@ -79,3 +79,14 @@ pub mod SplitWay
 pub mod PutIn
 pub mod Plans
 pub mod Inserts
+-- the calls that read
+pub mod Enters
+pub mod Looks
+pub mod Walks
+pub mod Lists
+-- histories
+pub mod Pasts
+pub mod Fates
+pub mod Survivals
+pub mod Ended
+pub mod Histories

@@ -12,10 +12,12 @@ use Rattle.rules.specs.Layout.{pageSize, fewestPages, mostPages, lastKey
 use Rattle.rules.specs.Table.{number0}
 use Rattle.rules.specs.Call.{Left}
 use Rattle.rules.specs.Open.{opening}
+use Rattle.rules.specs.Lookup.{lookup}
 use Rattle.rules.specs.Newest.{newest}
 use Rattle.rules.specs.List.{ListLeft, list}
 use Rattle.rules.specs.History.{Event, State, looks, asksNewest, lists, step, run, start, AllTyped, crashed, crashedInSync, content, latest, earliest}
 use Rattle.rules.specs.declared.Opened.{Opened}
+use Rattle.rules.specs.declared.Looked.{Looked}
 use Rattle.rules.specs.declared.Newest.{Newest}
 use Rattle.rules.specs.declared.Listed.{Listed}
 
@@ -68,12 +70,15 @@ pub record Survives (m : State) : Type 0 where
       → (k : ℕ) → k ≤ lastKey → after m (m .stable) k ≡ earliest (m .past k)
   pub all-written : (s : List ℕ) → s ≡ crashed (replicate mostPages true) m → opening (m .working) s .answer ≡ Opened.Done
       → (k : ℕ) → k ≤ lastKey → after m s k ≡ latest (m .past k)
+  pub all-written-in-sync : (s : List ℕ) → s ≡ crashedInSync (replicate mostPages true) m
+      → opening (m .working) s .answer ≡ Opened.Done → (k : ℕ) → k ≤ lastKey → after m s k ≡ latest (m .past k)
 
 -- between crashes, while the last opening was done
 pub record Serves (m : State) : Type 0 where
   -- the store is a map: a lookup answers by what was inserted
   pub looks-up : (k : ℕ) → k ≤ lastKey → content (m .session) (m .working) (m .stable) k ≡ latest (m .past k)
   -- no reading call meets damage, and none changes a later answer
+  pub lookup-whole : (model serial issue : ℕ) → lookup (m .working) (m .stable) (m .session) model serial issue .answer ≡ Looked.Damaged → ⊥
   pub newest-whole : (model serial : ℕ) → newest (m .working) (m .stable) (m .session) model serial .answer ≡ Newest.Damaged → ⊥
   pub list-whole : (from : ℕ) (ks xs : List ℕ) → list (m .working) (m .stable) (m .session) from ks xs .answer ≡ Listed.Damaged → ⊥
   pub newest-stays : (e : Event) → Reads e → (model serial : ℕ)
@@ -94,7 +99,7 @@ pub record Lent (n : ℕ) (w s : List ℕ) : Type 0 where
   pub bytes : Bytes w
   pub bytes′ : Bytes s
 
-pub Demand3 : Type 0
+unfoldable pub Demand3 : Type 0
 Demand3 =
     (n : ℕ) (w s : List ℕ) → Lent n w s → (h : List Event) → AllTyped h
     → Survives (run h (start w s)) × (((run h (start w s)) .session .n ≡ n) → Serves (run h (start w s)))
