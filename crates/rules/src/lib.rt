@@ -30,7 +30,8 @@ pub struct Asked {
 }
 
 // What is handed in and handed back with each call: the number of pages, the counter, and for each page whether it
-// is free and whether it is waiting.
+// is free and whether it is waiting. It is laid out as C lays it out, for callers in C.
+#[repr(C)]
 pub struct Session {
     pub n: u16,
     pub c: u32,
