@@ -1,0 +1,196 @@
+-- The descent as the loop goes through it: what is left to do is the rules' descent from the place at hand.
+-- Assumes nothing.
+use mathlib.Core.Path.{_≡_, refl, sym, ap, _∙_, subst}
+use mathlib.Core.Bool.{Bool, true, false}
+use mathlib.Core.List.{List, [], _∷_}
+use mathlib.Core.Option.{Option, some, none}
+use Prim.Native.Nat.{ℕ, zero, suc, _+_, _-_, _*_, _^_, _≤_, _<_}
+use native.Mathlib.Omega.{arith}
+use native.Mathlib.Numerals.{add-one}
+use lib.Dec.{eqb}
+use lib.ListN.{length}
+use borrow.Author.Tests.{ne-eqb}
+use Rattle.fields.specs.Field.{Bytes}
+use Rattle.rules.specs.Layout.{pageSize, leafKind, lastKey}
+use Rattle.rules.specs.Test.{mem, between}
+use Rattle.rules.specs.Page.{View, Page, isLeaf}
+use Rattle.rules.specs.Table.{read, root0, previous0, birth0, fit0}
+use Rattle.rules.specs.Place.{rootPlace, kids, pick}
+use Rattle.rules.specs.Enter as entry
+use Rattle.rules.specs.Walk as rules
+use Rattle.rules.specs.declared.Place.{Place}
+use Rattle.rules.proofs.Tests.{every-true, between-low, between-high}
+use Rattle.rules.proofs.Views.{Shaped, leaf-of-kind, inner-of-kind, shaped-read}
+use Rattle.rules.proofs.Asks.{pick-leaf}
+use Rattle.head.specs.declared.Head.{Head}
+use Rattle.head.proofs.Headers.{headOf}
+use Rattle.enter.specs.Entering as enters
+use Rattle.enter.specs.declared.Entered.{Entered}
+use Rattle.enter.specs.declared.Above.{Above}
+use Rattle.enter.proofs.Told.{enter-same, told-table, told-page, told-damaged}
+use Rattle.way.specs.Ways.{Leads, stepOf, firstOf, restOf, wayFor, thenOf, aboveIn, walking, wayOr, told}
+use Rattle.way.specs.declared.Step.{Step}
+use Rattle.way.specs.declared.Way.{Way}
+use Rattle.way.proofs.Stood.{Ready, ready-root, ready-next, Stood, stood-here}
+
+-- ── The numbers above, as the code keeps them ───────────────────────────────────────────────────────────────────
+
+numbers-above : (ss : List rules.Step) (i : ℕ) → length ss ≤ 2 → 1 ≤ i
+    → mem i (enters.aboveOf (aboveIn (wayFor ss))) ≡ mem i (rules.numbers ss)
+unfolding mem rules.numbers
+numbers-above [] i h o = rw (ne-eqb i 0 (λ q. omega arith))
+numbers-above (s ∷ []) i h o = rw (ne-eqb i 0 (λ q. omega arith))
+numbers-above (s ∷ (u ∷ [])) i h o = refl
+numbers-above (s ∷ (u ∷ (v ∷ ss))) i h o = absurd (omega arith)
+
+-- one step more of the rules' is one step more of the code's
+then-for : (ss : List rules.Step) (s : rules.Step) → thenOf (wayFor ss) (stepOf s) ≡ wayFor (s ∷ ss)
+then-for ss s = rw add-one
+
+-- ── One step of the rules' descent ──────────────────────────────────────────────────────────────────────────────
+
+module _ (level n c k : ℕ) (above : List rules.Step) (t : List ℕ) (e : Place) where
+  descend-none : entry.enter n c (rules.numbers above) t e .page ≡ none
+      → rules.descend (suc level) n c k above t e ≡ rules.noWay (entry.enter n c (rules.numbers above) t e .table)
+  unfolding rules.descend
+  descend-none h = rw (rules.descend, h)
+
+  module _ (p : Page) (h : entry.enter n c (rules.numbers above) t e .page ≡ some p) where
+    descend-leaf : pick k (kids e (p .view)) ≡ none
+        → rules.descend (suc level) n c k above t e
+        ≡ record { table = entry.enter n c (rules.numbers above) t e .table; steps = some (record { place = e; page = p } ∷ above) }
+    unfolding rules.descend
+    descend-leaf q = rw (rules.descend, h, q)
+
+    descend-inner : (d : Place) → pick k (kids e (p .view)) ≡ some d
+        → rules.descend (suc level) n c k above t e
+        ≡ rules.descend level n c k (record { place = e; page = p } ∷ above) (entry.enter n c (rules.numbers above) t e .table) d
+    unfolding rules.descend
+    descend-inner d q = rw (rules.descend, h, q)
+
+-- ── Where the loop stands ───────────────────────────────────────────────────────────────────────────────────────
+
+pub record Descent (n c k : ℕ) (t₀ t : List ℕ) (w : Way) (e : Place) (level : ℕ) : Type 0 where
+  pub above : List rules.Step
+  pub way : w ≡ wayFor above
+  pub rest : rules.wayOf n c k t₀ ≡ rules.descend level n c k above t e
+  pub deep : level + length above ≡ 3
+  pub ready : Ready n c k t e
+
+-- a table with a fit page 0 has a page
+pub has-zero : (n : ℕ) (t : List ℕ) → length t ≡ n * pageSize → fit0 n t ≡ true → pageSize ≤ length t
+unfolding fit0
+has-zero n t l f =
+    let r = every-true _ f .1 .1 .0 in
+    omega (arith, between-low 1 (n - 1) (root0 t) r, between-high 1 (n - 1) (root0 t) r)
+
+-- at the root
+pub begins : (n c k : ℕ) (t : List ℕ) (e : Place) (w : Way) → length t ≡ n * pageSize → fit0 n t ≡ true → Bytes t
+    → e ≡ rootPlace t → w ≡ wayFor [] → c < 256 ^ 4 → k ≤ lastKey → Descent n c k t t w e 3
+unfolding rules.wayOf
+begins n c k t e w l f b g v m h = record {
+  above = [];
+  way = v;
+  rest = ap (rules.descend 3 n c k [] t) (sym g);
+  deep = refl;
+  ready = subst (Ready n c k t) (sym g) (ready-root n c k t l f b m h);
+}
+
+-- below the last level, where nothing can stand
+pub runs-out : {n c k : ℕ} {t₀ t : List ℕ} {w : Way} {e : Place} {level : ℕ} → Descent n c k t₀ t w e level → level ≡ 0
+    → walking t (wayFor []) ≡ told (rules.wayOf n c k t₀)
+unfolding rules.descend told wayOr
+runs-out {n} {c} {k} {t = t} {e = e} d z =
+    sym (ap told (d .rest ∙ ap (λ (l : ℕ). rules.descend l n c k (d .above) t e) z))
+
+-- ── One turn of the loop ────────────────────────────────────────────────────────────────────────────────────────
+
+module _ {n c k : ℕ} {t₀ t : List ℕ} {w : Way} {e : Place} {level : ℕ} (d : Descent n c k t₀ t w e level) (o : 0 < level) (a : Above) (g : a ≡ aboveIn w) where
+  -- what the code enters by is what the rules enter by
+  as-rules : entry.enter n c (enters.aboveOf a) t e ≡ entry.enter n c (rules.numbers (d .above)) t e
+  as-rules =
+      ap (λ (b : Above). entry.enter n c (enters.aboveOf b) t e) (g ∙ ap aboveIn (d .way))
+      ∙ enter-same n c (enters.aboveOf (aboveIn (wayFor (d .above)))) (rules.numbers (d .above)) t e
+      (numbers-above (d .above) (e .child) (omega (arith, d .deep)) (d .ready .child-from))
+
+  one-level : rules.descend level n c k (d .above) t e ≡ rules.descend (suc (level - 1)) n c k (d .above) t e
+  one-level = let q : level ≡ suc (level - 1) = omega arith in ap (λ (l : ℕ). rules.descend l n c k (d .above) t e) q
+
+  pub damaged : (u : List ℕ) → enters.entering u Entered.Damaged ≡ enters.told (entry.enter n c (enters.aboveOf a) t e)
+      → walking u (wayFor []) ≡ told (rules.wayOf n c k t₀)
+  unfolding told wayOr
+  damaged u h =
+      let y = entry.enter n c (rules.numbers (d .above)) t e in
+      let i = h ∙ ap enters.told as-rules in
+      ap (λ (x : List ℕ). walking x (wayFor [])) (told-table y i)
+      ∙ sym (ap told (d .rest ∙ (one-level ∙ descend-none (level - 1) n c k (d .above) t e (told-damaged y i))))
+
+  module _ (u : List ℕ) (h : Head) (f : enters.entering u (Entered.Page h) ≡ enters.told (entry.enter n c (enters.aboveOf a) t e)) where
+    page : (p : Page) × (entry.enter n c (rules.numbers (d .above)) t e .page ≡ some p) × (h ≡ headOf p)
+    page = told-page h (entry.enter n c (rules.numbers (d .above)) t e) (f ∙ ap enters.told as-rules)
+
+    table : u ≡ entry.enter n c (rules.numbers (d .above)) t e .table
+    table = told-table (entry.enter n c (rules.numbers (d .above)) t e) (f ∙ ap enters.told as-rules)
+
+    stood : Stood n k (entry.enter n c (rules.numbers (d .above)) t e .table) (record { place = e; page = page .0 })
+    stood = stood-here (d .ready) (rules.numbers (d .above)) (page .0) (page .1)
+
+    -- the page found, read in the table left
+    here : read u (e .child) ≡ page .0
+    here = ap (λ (x : List ℕ). read x (e .child)) table ∙ stood .here
+
+    pub head-here : h ≡ headOf (read u (e .child))
+    head-here = page .2 ∙ ap headOf (sym here)
+
+    kind-here : h .kind ≡ page .0 .view .kind
+    unfolding headOf
+    kind-here = ap (λ (x : Head). x .kind) (page .2)
+
+    then-here : thenOf w (record { place = e; head = h }) ≡ wayFor (record { place = e; page = page .0 } ∷ d .above)
+    then-here =
+        ap (λ (x : Way). thenOf x (record { place = e; head = h })) (d .way)
+        ∙ (ap (λ (x : Head). thenOf (wayFor (d .above)) (record { place = e; head = x })) (page .2)
+        ∙ then-for (d .above) (record { place = e; page = page .0 }))
+
+    -- a leaf ends the way
+    pub ends : h .kind ≡ leafKind → walking u (thenOf w (record { place = e; head = h })) ≡ told (rules.wayOf n c k t₀)
+    unfolding told wayOr
+    ends q =
+        let v = page .0 .view in
+        let s = subst (λ (x : Page). Shaped (x .view)) here (shaped-read u (e .child)) in
+        let o = pick-leaf k e v s (leaf-of-kind v (sym kind-here ∙ q)) in
+        ap (λ (x : List ℕ). walking x (thenOf w (record { place = e; head = h }))) table
+        ∙ (ap (walking (entry.enter n c (rules.numbers (d .above)) t e .table)) then-here
+        ∙ sym (ap told (d .rest ∙ (one-level ∙ descend-leaf (level - 1) n c k (d .above) t e (page .0) (page .1) o))))
+
+    module _ (q : h .kind ≡ leafKind → ⊥) where
+      inner-here : isLeaf (page .0 .view) ≡ false
+      inner-here = inner-of-kind (page .0 .view) (λ r. q (kind-here ∙ r))
+
+      -- an inner page leads on
+      pub leads : Leads k e (read u (e .child) .view)
+      leads =
+          let s = stood .fits .sound in
+          let l : Leads k e (page .0 .view) = record {
+            inner = inner-here;
+            kind = s .kind-from;
+            room = s .children-room;
+            rise = s .children-rise;
+            starts = s .starts inner-here;
+            low = d .ready .low;
+            high = d .ready .high;
+          } in
+          subst (λ (x : Page). Leads k e (x .view)) (sym here) l
+
+      pub goes-on : (b : Place) → pick k (kids e (read u (e .child) .view)) ≡ some b
+          → Descent n c k t₀ u (thenOf w (record { place = e; head = h })) b (level - 1)
+      goes-on b r =
+          let q′ : pick k (kids e (page .0 .view)) ≡ some b = ap (λ (x : Page). pick k (kids e (x .view))) (sym here) ∙ r in
+          record {
+            above = record { place = e; page = page .0 } ∷ d .above;
+            way = then-here;
+            rest = d .rest ∙ (one-level ∙ (descend-inner (level - 1) n c k (d .above) t e (page .0) (page .1) b q′
+                ∙ ap (λ (x : List ℕ). rules.descend (level - 1) n c k (record { place = e; page = page .0 } ∷ d .above) x b) (sym table)));
+            deep = omega (arith, d .deep);
+            ready = subst (λ (x : List ℕ). Ready n c k x b) (sym table) (ready-next (d .ready) (rules.numbers (d .above)) (page .0) (page .1) b q′);
+          }

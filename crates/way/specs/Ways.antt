@@ -1,0 +1,75 @@
+-- The rules' way as the code hands it back: each step by its place and its page's header, at most three.
+use Prim.Native.Nat.{ℕ, _+_, _≤_}
+use mathlib.Core.Path.{_≡_}
+use mathlib.Core.Bool.{true, false}
+use mathlib.Core.List.{List, [], _∷_}
+use mathlib.Core.Option.{Option, some, none}
+use lib.ListN.{length}
+use Rattle.rules.specs.Layout.{innerRoom}
+use Rattle.rules.specs.Entry.{keys, rising}
+use Rattle.rules.specs.Page.{View, Page, isLeaf}
+use Rattle.rules.specs.Sound.{startsAt}
+use Rattle.rules.specs.Walk as rules
+use Rattle.rules.specs.declared.Place.{Place}
+use Rattle.head.proofs.Headers.{headOf}
+use Rattle.enter.specs.declared.Above.{Above}
+use Rattle.way.specs.declared.Step.{Step}
+use Rattle.way.specs.declared.Way.{Way}
+
+abbrev pub noStep : Step
+noStep = record {
+  place = record { child = 0; previous = 0; birth = 0; low = 0; high = 0; want = 0 };
+  head = record { kind = 0; count = 0; birth = 0; built = 0; touched = 0; low = 0; high = 0 };
+}
+
+abbrev pub stepOf : rules.Step → Step
+stepOf s = record { place = s .place; head = headOf (s .page) }
+
+abbrev pub firstOf : List rules.Step → Step
+firstOf [] = noStep
+firstOf (s ∷ ss) = stepOf s
+
+abbrev pub restOf : List rules.Step → List rules.Step
+restOf [] = []
+restOf (s ∷ ss) = ss
+
+-- steps, leaf first
+abbrev pub wayFor : List rules.Step → Way
+wayFor ss = record { len = length ss; leaf = firstOf ss; parent = firstOf (restOf ss); top = firstOf (restOf (restOf ss)) }
+
+-- one step more
+abbrev pub thenOf : Way → Step → Way
+thenOf w s = record { len = w .len + 1; leaf = s; parent = w .leaf; top = w .parent }
+
+-- what stands above the next step
+abbrev pub aboveIn : Way → Above
+aboveIn w = record { parent = w .leaf .place .child; top = w .parent .place .child }
+
+-- ── What is left and handed back ────────────────────────────────────────────────────────────────────────────────
+
+pub record Walking : Type 0 where
+  pub table : List ℕ
+  pub way : Way
+
+abbrev pub walking : List ℕ → Way → Walking
+walking t w = record { table = t; way = w }
+
+-- no steps: a damaged place was met
+unfoldable pub wayOr : Option (List rules.Step) → Way
+wayOr none = wayFor []
+wayOr (some ss) = wayFor ss
+
+unfoldable pub told : rules.Way → Walking
+told w = record { table = w .table; way = wayOr (w .steps) }
+
+-- ── An inner page that leads on ─────────────────────────────────────────────────────────────────────────────────
+
+-- what a page entered at a place must be for a key of its range to lead further down
+pub record Leads (k : ℕ) (e : Place) (v : View) : Type 0 where
+  pub inner : isLeaf v ≡ false
+  pub kind : 1 ≤ v .kind
+  pub room : length (v .children) ≤ innerRoom
+  pub rise : rising (keys (v .children)) ≡ true
+  pub starts : startsAt (e .low) (v .children) ≡ true
+  pub low : e .low ≤ k
+  pub high : k ≤ e .high

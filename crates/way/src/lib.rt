@@ -1,0 +1,177 @@
+// The way of one key: the pages that a call for one key enters, from the root to a leaf, mending as it goes.
+//
+// `way_of` leaves the table as the rules' `wayOf` leaves it, and hands back each page entered: the place that asked for
+// it and its header, the leaf first. A way is at most three pages long. A way of no pages met a damaged place.
+//
+// Below stand `enter`, which enters one place, and `seek`, which finds a key on a page.
+use enter::Above;
+use enter::Entered;
+use head::Head;
+use rules::Place;
+ghost use mathlib.Core.Path.{_≡_};
+ghost use mathlib.Core.Bool.{true};
+ghost use mathlib.Core.List.{[]};
+ghost use mathlib.Core.Option.{some};
+ghost use Prim.Native.Nat.{_+_, _*_, _-_, _≤_, _<_};
+ghost use lib.ListN.{length, drop};
+ghost use Rattle.rules.specs.Layout.{pageSize, headerSize, childSize};
+ghost use Rattle.rules.specs.Entry.{keys, rising};
+ghost use Rattle.rules.specs.Page.{readEach, childIn};
+ghost use Rattle.rules.specs.Table.{read, fit0};
+ghost use Rattle.rules.specs.Place.{placesIn, highBefore, kids, pick};
+ghost use Rattle.rules.specs.Walk.{wayOf};
+ghost use Rattle.entries.specs.Spot.{keysIn, spotOf};
+ghost use Rattle.head.proofs.Headers.{headOf};
+ghost use Rattle.way.specs.Ways.{Leads, noStep, wayFor, thenOf, aboveIn, walking, told};
+
+const LEAF: u16 = 1;
+
+// How many levels there can be.
+const TOP: usize = 3;
+
+// A page entered: the place that asked for it, and its header.
+pub struct Step {
+    pub place: Place,
+    pub head: Head,
+}
+
+// The pages entered, the last one first: a leaf at the end of a whole way, its parent, and the page above that. `len`
+// says how many there are.
+pub struct Way {
+    pub len: usize,
+    pub leaf: Step,
+    pub parent: Step,
+    pub top: Step,
+}
+
+fn no_step() -> Step
+    ensures { λ r. ⌜ r ≡ noStep ⌝ }
+{
+    Step {
+        place: Place {
+            child: 0,
+            previous: 0,
+            birth: 0,
+            low: 0,
+            high: 0,
+            want: 0,
+        },
+        head: Head {
+            kind: 0,
+            count: 0,
+            birth: 0,
+            built: 0,
+            touched: 0,
+            low: 0,
+            high: 0,
+        },
+    }
+}
+
+// A way of no pages.
+fn no_way() -> Way
+    ensures { λ r. ⌜ r ≡ wayFor [] ⌝ }
+{
+    let none = no_step();
+    Way {
+        len: 0,
+        leaf: none,
+        parent: none,
+        top: none,
+    }
+}
+
+// One page more.
+fn then(way: Way, step: Step) -> Way
+    requires { ⌜ way .len < 3 ⌝ }
+    ensures { λ r. ⌜ r ≡ thenOf way step ⌝ }
+{
+    let parent = way.leaf;
+    let top = way.parent;
+    Way {
+        len: way.len + 1,
+        leaf: step,
+        parent,
+        top,
+    }
+}
+
+// The pages above the next one.
+fn above(way: Way) -> Above
+    ensures { λ r. ⌜ r ≡ aboveIn way ⌝ }
+{
+    Above {
+        parent: way.leaf.place.child,
+        top: way.parent.place.child,
+    }
+}
+
+// Where the range of a page's entry ends: below the next one's key, or where the page's own range ends.
+fn end_before(page: &[u8], j: usize, count: usize, high: u64) -> u64
+    requires { ⌜ (1 ≤ j) × (headerSize + childSize * count ≤ length (now page)) × (length (now page) ≤ pageSize)
+        × (rising (keys (readEach childIn childSize count (drop headerSize (now page)))) ≡ true) ⌝ }
+    ensures { λ r. ⌜ r ≡ highBefore high (drop j (readEach childIn childSize count (drop headerSize (now (page .entry))))) ⌝ }
+{
+    if j < count {
+        return head::child_key(page, j) - 1;
+    }
+    high
+}
+
+// The place that an inner page's entries ask for at a key.
+fn place_in(page: &[u8], kind: u16, count: usize, high: u64, key: u64) -> Place
+    requires { ⌜ (1 ≤ kind) × (headerSize + childSize * count ≤ length (now page)) × (length (now page) ≤ pageSize)
+        × (rising (keys (readEach childIn childSize count (drop headerSize (now page)))) ≡ true) × (key ≤ high)
+        × (1 ≤ spotOf key (keysIn childSize count (now page))) ⌝ }
+    ensures { λ r. ⌜ pick key (placesIn (kind - 1) high (readEach childIn childSize count (drop headerSize (now (page .entry)))))
+        ≡ some r ⌝ }
+{
+    let spot = seek::seek(page, entries::CHILD, count, key);
+    let link = head::read_link(page, spot - 1);
+    Place {
+        child: link.child,
+        previous: link.previous,
+        birth: link.birth,
+        low: link.key,
+        high: end_before(page, spot, count, high),
+        want: kind - 1,
+    }
+}
+
+// The same below a page that was entered.
+fn place_below(table: &[u8], e: Place, head: Head, key: u64) -> Place
+    requires { ⌜ ((e .child + 1) * pageSize ≤ length (now table)) × (head ≡ headOf (read (now table) (e .child)))
+        × (Leads key e (read (now table) (e .child) .view)) ⌝ }
+    ensures { λ r. ⌜ pick key (kids e (read (now (table .entry)) (e .child) .view)) ≡ some r ⌝ }
+{
+    let from = e.child as usize * entries::PAGE;
+    let to = from + entries::PAGE;
+    place_in(
+        &table[from..to],
+        head.kind,
+        head.count as usize,
+        e.high,
+        key,
+    )
+}
+
+pub fn way_of(t: &mut [u8], n: usize, c: u32, key: u64) -> Way
+    requires { ⌜ (length (now t) ≡ n * pageSize) × (fit0 n (now t) ≡ true) ⌝ }
+    ensures { λ r. ⌜ walking (now (t .exit)) r ≡ told (wayOf n c key (now (t .entry))) ⌝ }
+{
+    let mut way = no_way();
+    let mut e = head::root_place(t);
+    let mut level = TOP;
+    while 0 < level {
+        let Entered::Page(head) = enter::enter(t, n, c, above(way), e) else {
+            return no_way();
+        };
+        way = then(way, Step { place: e, head });
+        if head.kind == LEAF {
+            return way;
+        }
+        e = place_below(t, e, head, key);
+        level -= 1;
+    }
+    no_way()
+}
