@@ -1,0 +1,97 @@
+// Lookup: the record of a certificate.
+//
+// `lookup` asks nothing and tests everything, in document 01's order: lengths, the key's parts, page 0, then the way of
+// the key. Answer, session and every byte lent are those of the rules' `lookup`; what the walk mended stays mended, also
+// behind a refusal. The record is that of an entry with the whole key: where the last key not above it is another one,
+// the certificate is missing.
+//
+// Below stand `tables`, which tests lengths, `keys`, `way`, which walks, and `seek`, which finds a key on a page.
+use rules::Looked;
+use rules::Looking;
+use rules::Session;
+use way::Step;
+ghost use mathlib.Core.Path.{_≡_};
+ghost use mathlib.Core.Bool.{true};
+ghost use Prim.Native.Nat.{_+_, _*_, _≤_, _<_};
+ghost use lib.ListN.{length, drop};
+ghost use Rattle.rules.specs.Layout.{pageSize, headerSize, certSize};
+ghost use Rattle.rules.specs.Entry.{keys, find, rising};
+ghost use Rattle.rules.specs.Page.{readEach, certIn};
+ghost use Rattle.rules.specs.Table.{read, fit0};
+ghost use Rattle.rules.specs.Walk.{wayOf};
+ghost use Rattle.rules.specs.Lookup;
+ghost use Rattle.head.proofs.Headers.{headOf};
+ghost use Rattle.lookup.specs.Looks.{Holds, lookedIn, leaving, looked, lookedAlong};
+
+// What stands under a key in a leaf.
+fn find_in(page: &[u8], count: usize, key: u64) -> Looked
+    requires { ⌜ (headerSize + certSize * count ≤ length (now page)) × (length (now page) ≤ pageSize)
+        × (rising (keys (readEach certIn certSize count (drop headerSize (now page)))) ≡ true) ⌝ }
+    ensures { λ r. ⌜ r ≡ lookedIn (find key (readEach certIn certSize count (drop headerSize (now (page .entry))))) ⌝ }
+{
+    let spot = seek::seek(page, entries::CERT, count, key);
+    if spot == 0 {
+        return Looked::Missing;
+    }
+    if head::cert_key(page, spot - 1) != key {
+        return Looked::Missing;
+    }
+    Looked::Found(head::cert_record(page, spot - 1))
+}
+
+// The same in the leaf at the end of a way.
+fn find_at(table: &[u8], leaf: Step, key: u64) -> Looked
+    requires { ⌜ ((leaf .place .child + 1) * pageSize ≤ length (now table))
+        × (leaf .head ≡ headOf (read (now table) (leaf .place .child))) × (Holds (read (now table) (leaf .place .child) .view)) ⌝ }
+    ensures { λ r. ⌜ r ≡ lookedIn (find key (read (now (table .entry)) (leaf .place .child) .view .certs)) ⌝ }
+{
+    let from = leaf.place.child as usize * entries::PAGE;
+    let to = from + entries::PAGE;
+    find_in(&table[from..to], leaf.head.count as usize, key)
+}
+
+// A key looked for along its way.
+fn look(t: &mut [u8], n: usize, c: u32, key: u64) -> Looked
+    requires { ⌜ (length (now t) ≡ n * pageSize) × (fit0 n (now t) ≡ true) ⌝ }
+    ensures { λ r. ⌜ looked (now (t .exit)) r ≡ lookedAlong key (wayOf n c key (now (t .entry))) ⌝ }
+{
+    let way = way::way_of(t, n, c, key);
+    if way.len == 0 {
+        return Looked::Damaged;
+    }
+    find_at(t, way.leaf, key)
+}
+
+pub fn lookup(
+    working: &mut [u8],
+    stable: &[u8],
+    session: Session,
+    model: u16,
+    serial: u32,
+    issue: u16,
+) -> Looking
+    ensures { λ r. ⌜ leaving r (now (working .exit)) (now (stable .entry))
+        ≡ Lookup.lookup (now (working .entry)) (now (stable .entry)) session model serial issue ⌝ }
+{
+    if !tables::lengths_for(session.n, working, stable) {
+        return Looking {
+            answer: Looked::Length,
+            session,
+        };
+    }
+    if !keys::good_parts(model, serial, issue) {
+        return Looking {
+            answer: Looked::BadKey,
+            session,
+        };
+    }
+    let n = session.n as usize;
+    if !head::fit0(working, n) {
+        return Looking {
+            answer: Looked::Damaged,
+            session,
+        };
+    }
+    let answer = look(working, n, session.c, keys::key_of(model, serial, issue));
+    Looking { answer, session }
+}
