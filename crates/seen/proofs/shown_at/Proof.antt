@@ -1,0 +1,50 @@
+-- `seen::shown_at`: each return is one of the three things that a place can show.
+-- Assumes nothing.
+use mathlib.Core.Path.{ap, sym, _∙_}
+use Rattle.seen.specs.declared.Run.{Run}
+use Rattle.seen.specs.declared.Shown.{Shown}
+use Rattle.seen.proofs.Shows.{shown-fitting, shown-lost, shown-damaged, runs-fitting, runs-lost}
+use borrow.Author.Needs.{needs}
+use Rattle.seen.proofs.shown_at.Statement.{statement}
+use Rattle.seen.proofs.shown_at.Tie as tie
+
+fits-at-requires : tie.Need-fits-at-requires
+fits-at-requires c κs = search needs
+
+cast-run-in : tie.Need-cast-run-in
+cast-run-in c = search needs
+
+run-in-requires : tie.Need-run-in-requires
+run-in-requires c κs = runs-fitting (c .before .before .before .before .args .n) (c .before .before .before .before .args .table .now) (c .before .before .before .before .args .e) (c .before .before .before .before .pre) (sym (c .before .before .fits-at .ensures) ∙ c .before .if1 .taken)
+
+returns : tie.Need-returns
+returns c = ap (λ (r : Run). Shown.Entries r) (c .run-in .ensures) ∙ shown-fitting (c .before .before .before .before .before .args .n) (c .before .before .before .before .before .args .table .now) (c .before .before .before .before .before .args .e) (sym (c .before .before .before .fits-at .ensures) ∙ c .before .before .if1 .taken)
+
+mendable-at-requires : tie.Need-mendable-at-requires
+mendable-at-requires c κs = search needs
+
+cast-run-in-2 : tie.Need-cast-run-in-2
+cast-run-in-2 c = search needs
+
+run-in-requires-2 : tie.Need-run-in-requires-2
+run-in-requires-2 c κs = runs-lost (c .before .before .before .before .before .before .args .n) (c .before .before .before .before .before .before .args .table .now) (c .before .before .before .before .before .before .args .e) (c .before .before .before .before .before .before .pre) (sym (c .before .before .mendable-at .ensures) ∙ c .before .if2 .taken)
+
+returns-2 : tie.Need-returns-2
+returns-2 c = ap (λ (r : Run). Shown.Entries r) (c .run-in2 .ensures) ∙ shown-lost (c .before .before .before .before .before .before .before .args .n) (c .before .before .before .before .before .before .before .args .table .now) (c .before .before .before .before .before .before .before .args .e) (sym (c .before .before .before .before .before .fits-at .ensures) ∙ c .before .before .before .before .if1 .left) (sym (c .before .before .before .mendable-at .ensures) ∙ c .before .before .if2 .taken)
+
+returns-3 : tie.Need-returns-3
+returns-3 c = shown-damaged (c .before .before .before .before .before .args .n) (c .before .before .before .before .before .args .table .now) (c .before .before .before .before .before .args .e) (sym (c .before .before .before .fits-at .ensures) ∙ c .before .before .if1 .left) (sym (c .before .mendable-at .ensures) ∙ c .if2 .left)
+
+pub shown-at-spec : {M : Type 1} → statement M
+shown-at-spec =
+    tie.close
+    (tie.spec
+    fits-at-requires
+    cast-run-in
+    run-in-requires
+    returns
+    mendable-at-requires
+    cast-run-in-2
+    run-in-requires-2
+    returns-2
+    returns-3)

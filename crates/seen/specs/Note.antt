@@ -1,0 +1,53 @@
+-- What a walk notes of a tree: the tree's lists of numbers as marks. Noting one tree after the other is noting them
+-- joined, so a walk may hand its notes on from page to page.
+use Prim.Native.Nat.{ℕ}
+use mathlib.Core.Bool.{Bool, true, false, not, _&&_}
+use mathlib.Core.List.{List, [], _∷_}
+use lib.Dec.{eqb}
+use lib.ListN.{getD, set, replicate}
+use Rattle.rules.specs.Layout.{mostPages}
+use Rattle.rules.specs.Tree.{Tree}
+use Rattle.seen.specs.declared.Seen.{Seen}
+
+-- each number of a list is marked
+unfoldable pub mark : List Bool → List ℕ → List Bool
+mark m [] = m
+mark m (i ∷ is) = mark (set m i true) is
+
+-- none of them was marked before, and none comes twice
+unfoldable pub unmarked : List Bool → List ℕ → Bool
+unmarked m [] = true
+unmarked m (i ∷ is) = not (getD m i false) && unmarked (set m i true) is
+
+abbrev pub seenOf : Bool → List Bool → List Bool → Seen
+seenOf whole children spared = record { whole = whole; children = children; spared = spared }
+
+unfoldable pub note : Seen → Tree → Seen
+note s t = record {
+  whole = s .whole && (t .whole && unmarked (s .children) (t .children));
+  children = mark (s .children) (t .children);
+  spared = mark (s .spared) (t .spared);
+}
+
+-- before a walk nothing is noted
+unfoldable pub nothing : Seen
+nothing = record { whole = true; children = replicate mostPages false; spared = replicate mostPages false }
+
+-- a place by itself: its child, and the page that shows it if that is another one
+unfoldable pub named : ℕ → ℕ → Tree
+named child page = record {
+  whole = true;
+  children = child ∷ [];
+  spared = elim (eqb page child) [ true ↦ [] | false ↦ page ∷ [] ];
+  certs = [];
+}
+
+-- no number is marked in both lists
+unfoldable pub apart : List Bool → List Bool → Bool
+apart [] ys = true
+apart (x ∷ xs) [] = true
+apart (x ∷ xs) (y ∷ ys) = not (x && y) && apart xs ys
+
+-- what opening asks of the tree, by the marks
+unfoldable pub goodMarks : Seen → Bool
+goodMarks s = s .whole && apart (s .children) (s .spared)
