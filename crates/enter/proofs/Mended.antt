@@ -8,8 +8,6 @@ use mathlib.Core.Logic.{_≢_}
 use Prim.Native.Nat.{ℕ, _+_, _*_, _^_, _≤_, _<_}
 use native.Mathlib.Omega.{arith}
 use lib.ListN.{length}
-use mir.Syntax.{w16, w32, w64}
-use mir.Val.{Fits}
 use Rattle.fields.specs.Field.{Bytes}
 use Rattle.rules.specs.Layout.{pageSize, leafRoom, innerRoom}
 use Rattle.rules.specs.Test.{mem}
@@ -22,10 +20,10 @@ use Rattle.rules.specs.declared.Place.{Place}
 use Rattle.head.specs.Head.{headIn}
 use Rattle.head.specs.declared.Head.{Head}
 use Rattle.head.proofs.Headers.{headOf, headIn-page}
-use Rattle.rules.proofs.All as each
-use Rattle.rules.proofs.Entries.{length-cut, cut-nil}
-use Rattle.rules.proofs.Pages.{Shaped, WideView, Wide, wide-fresh, room-pageBytes}
-use Rattle.rules.proofs.Tables.{Has, has-page, Room, wide-read, length-build, read-build-same, read-build-other}
+use Rattle.rules.proofs.Entries.{length-cut}
+use Rattle.rules.proofs.Pages.{Wide, room-pageBytes}
+use Rattle.rules.proofs.Tables.{has-page, Room, wide-read, read-build-same}
+use Rattle.rules.proofs.Widths.{wide-mended}
 use Rattle.rules.proofs.Places.{Mendable, mendable-true}
 use Rattle.enter.specs.Entering.{entering, told}
 use Rattle.enter.specs.declared.Entered.{Entered}
@@ -38,49 +36,23 @@ pub record Narrow (c : ℕ) (e : Place) : Type 0 where
   pub low : e .low < 256 ^ 8
   pub high : e .high < 256 ^ 8
 
--- what is known of a place that the code holds
-pub narrow-of : {c : ℕ} {e : Place} → Fits w32 c
-    → Fits w16 (e .child) × (Fits w16 (e .previous) × (Fits w32 (e .birth) × (Fits w64 (e .low) × (Fits w64 (e .high) × (Fits w16 (e .want) × Unit {0})))))
-    → Narrow c e
-narrow-of h f = record {
-  counter = omega arith;
-  birth = omega (arith, f .1 .1 .0);
-  low = omega (arith, f .1 .1 .1 .0);
-  high = omega (arith, f .1 .1 .1 .1 .0);
-}
-
-wide-cut : (low high : ℕ) {v : View} → WideView v → WideView (cutView low high v)
-unfolding cutView isLeaf count
-wide-cut low high {v} w = record {
-  shaped = record {
-    leaf = λ h. rw (w .shaped .leaf h) (cut-nil low high);
-    inner = λ h. rw (w .shaped .inner h) (cut-nil low high);
-  };
-  kind = w .kind;
-  count = let k = w .count in omega (arith, length-cut low high (v .certs), length-cut low high (v .children));
-  certs = each.all-cut low high (w .certs);
-  children = each.all-cut low high (w .children);
-}
-
 module _ (n c : ℕ) (t : List ℕ) (e : Place) (b : Bytes t) (w : Narrow c e) where
-  pub wide-mended : Wide (mended c e (read t (e .previous)))
-  unfolding mended
-  wide-mended =
-      wide-fresh (wide-cut (e .low) (e .high) (wide-read t (e .previous) b .view)) (w .counter) (w .birth) (w .low) (w .high)
+  wide : Wide (mended c e (read t (e .previous)))
+  wide = wide-mended (w .counter) (wide-read t (e .previous) b) e (w .birth) (w .low) (w .high)
 
   pub room-mended : mendable n e (read t (e .previous)) ≡ true → Room (mended c e (read t (e .previous)))
   unfolding mended fresh cutView
   room-mended m =
       let q = read t (e .previous) in
       let s = mendable-true n e q m .sound in
-      room-pageBytes (mended c e q) (wide-mended .view .shaped)
+      room-pageBytes (mended c e q) (wide .view .shaped)
       (omega (arith, length-cut (e .low) (e .high) (q .view .certs), s .certs-room))
       (omega (arith, length-cut (e .low) (e .high) (q .view .children), s .children-room))
 
   pub read-mended : length t ≡ n * pageSize → e .child < n → mendable n e (read t (e .previous)) ≡ true
       → read (build t (e .child) (mended c e (read t (e .previous)))) (e .child) ≡ mended c e (read t (e .previous))
   read-mended l h m =
-      read-build-same t (e .child) (mended c e (read t (e .previous))) (has-page t n (e .child) l h) (room-mended m) wide-mended
+      read-build-same t (e .child) (mended c e (read t (e .previous))) (has-page t n (e .child) l h) (room-mended m) wide
 
 -- what is read of a page is its header
 pub head-read : (t : List ℕ) (i : ℕ) {h : Head} → h ≡ headIn (pageAt t i) → h ≡ headOf (read t i)

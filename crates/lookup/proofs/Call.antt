@@ -1,35 +1,18 @@
 -- What a lookup answers, test after test. Assumes nothing.
 use mathlib.Core.Path.{_≡_, refl, sym, ap, _∙_}
-use mathlib.Core.Bool.{Bool, true, false, _&&_}
+use mathlib.Core.Bool.{true, false}
 use mathlib.Core.List.{List}
 use mathlib.Core.Option.{Option, some, none}
-use Prim.Native.Nat.{ℕ, _+_, _*_, _/_, _%_, _≤_}
-use native.Mathlib.Nat.{div-add-mod'}
-use native.Mathlib.Omega.{arith}
-use borrow.Author.Tests.{eqb-true}
-use lib.Dec.{eqb}
-use lib.ListN.{length}
-use Rattle.rules.specs.Layout.{pageSize, fewestPages, mostPages}
+use Prim.Native.Nat.{ℕ}
 use Rattle.rules.specs.Key.{keyOf, goodParts}
-use Rattle.rules.specs.Table.{goodLengths, pages, fit0}
+use Rattle.rules.specs.Table.{fit0}
 use Rattle.rules.specs.Walk.{Step, Way, wayOf}
 use Rattle.rules.specs.Call.{lengthsFor}
 use Rattle.rules.specs.Lookup.{lookup, lookupKey, lookupLeft, foundIn}
 use Rattle.rules.specs.declared.Session.{Session}
 use Rattle.rules.specs.declared.Looked.{Looked}
 use Rattle.rules.specs.declared.Looking.{Looking}
-use Rattle.rules.proofs.Tests.{and-left, and-right, every-true, between-low}
 use Rattle.lookup.specs.Looks.{leaving, looked, answerOn, lookedAlong, Look}
-
--- tables of a good length have as many pages as the session says
-pub long : (s : Session) (w t : List ℕ) → lengthsFor s w t ≡ true → (length w ≡ s .n * pageSize) × (fewestPages ≤ s .n)
-unfolding lengthsFor goodLengths pages
-long s w t h =
-    let g = every-true _ (and-left (goodLengths w t) (eqb (s .n) (pages w)) h) in
-    let e = eqb-true (s .n) (length w / pageSize) (and-right (goodLengths w t) (eqb (s .n) (pages w)) h) in
-    let z = eqb-true (length w % pageSize) 0 (g .1 .0) in
-    let b = between-low fewestPages mostPages (length w / pageSize) (g .1 .1 .0) in
-    (omega (arith, div-add-mod' (length w) pageSize, e, z), omega (arith, b, e))
 
 module _ (w t : List ℕ) (s : Session) (model serial issue : ℕ) where
   pub bad-length : lengthsFor s w t ≡ false

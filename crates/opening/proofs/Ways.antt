@@ -6,16 +6,16 @@ use Prim.Native.Nat.{ℕ, _+_, _*_, _≤_, _<_}
 use native.Mathlib.Omega.{arith}
 use borrow.Author.Tests.{le-leb, lt-leb}
 use lib.ListN.{length}
-use Rattle.rules.specs.Layout.{pageSize, mostPages, lastNumber}
+use Rattle.rules.specs.Layout.{pageSize, fewestPages, mostPages, lastNumber}
 use Rattle.rules.specs.Table.{pages, goodLengths, fit0, number0, setNumber}
 use Rattle.rules.specs.Tree.{treeOf, goodTree}
 use Rattle.rules.specs.Marks.{opened}
 use Rattle.rules.specs.Open.{openRefused, openDone, opening}
 use Rattle.rules.specs.declared.Opened.{Opened}
 use Rattle.rules.specs.declared.Session.{Session}
+use Rattle.rules.proofs.Lengths.{Tables, pages-of, goodLengths-true}
 use Rattle.marks.specs.Opened.{openedBy}
 use Rattle.marks.proofs.Opening.{openedBy-opened}
-use Rattle.rules.proofs.Lengths.{Tables, goodLengths-true}
 use Rattle.seen.specs.Note.{note, nothing, goodMarks}
 use Rattle.seen.specs.declared.Seen.{Seen}
 use Rattle.seen.proofs.Wholes.{good-notes, noted-child, noted-spared, within-treeOf}
@@ -30,20 +30,21 @@ module _ (w s : List ℕ) where
     l : Tables (pages w) w s
     l = goodLengths-true w s e
 
+    -- both tables have as many pages
+    n : pages s ≡ pages w
+    n = pages-of s (pages w) (l .stable)
+
     pub same : length w ≡ length s
     same = l .working ∙ sym (l .stable)
 
     pub whole : length s ≡ pages s * pageSize
-    unfolding pages
-    whole = omega (arith, same, l .working)
+    whole = omega (arith, n, l .stable)
 
     pub few : pages s ≤ mostPages
-    unfolding pages
-    few = omega (arith, same, l .most)
+    few = omega (arith, n, l .most)
 
-    pub some : 4 ≤ pages s
-    unfolding pages
-    some = omega (arith, same, l .least)
+    pub some : fewestPages ≤ pages s
+    some = omega (arith, n, l .least)
 
     pub unfit : fit0 (pages s) s ≡ false → left (refusedWith Opened.Damaged) w s ≡ opening w s
     unfolding opening openRefused

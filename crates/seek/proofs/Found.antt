@@ -8,10 +8,11 @@ use Prim.Native.Nat.{ℕ, zero, suc, _+_, _-_, _≤_, _<_}
 use native.Mathlib.Omega.{arith}
 use borrow.Author.Tests.{leb-true, leb-false}
 use lib.Dec.{leb}
-use lib.ListN.{length, drop, getD, drop-of-length-le}
+use lib.ListN.{length, getD}
 use Rattle.rules.specs.Test.{between}
 use Rattle.rules.specs.Entry.{Entry, Child, Below, keys, find, rising}
 use Rattle.rules.specs.Place.{highBefore, placeOf, placesIn, pick}
+use Rattle.rules.specs.declared.Place.{Place}
 use Rattle.rules.proofs.Rises.{rises-head, rising-from, rising-tail, length-keys}
 use Rattle.rules.proofs.Entries.{find-tail, find-below, find-at}
 use Rattle.rules.proofs.Tests.{between-above}
@@ -19,7 +20,6 @@ use Rattle.rules.proofs.Picks.{pick-here, pick-later}
 use Rattle.entries.specs.Spot.{spotOf}
 use Rattle.entries.proofs.Cut.{spot-cons, spot-first}
 use Rattle.entries.proofs.KeysIn.{spot-bound}
-use lib.Seq.{drop-cons}
 
 -- ── The spot among one entry and others ─────────────────────────────────────────────────────────────────────────
 
@@ -82,8 +82,9 @@ module _ {B : Type 0} where
 
 -- ── In an inner page ────────────────────────────────────────────────────────────────────────────────────────────
 
-pub pick-spot : (want high k j : ℕ) (xs : List Child) (d : Child) → rising (keys xs) ≡ true → k ≤ high
-    → spotOf k (keys xs) ≡ suc j → pick k (placesIn want high xs) ≡ some (placeOf want (highBefore high (drop (suc j) xs)) (getD xs j d))
+-- the place that the entry before the spot asks for
+pub pick-spot : (want high k j : ℕ) (xs : List Child) (d : Place) → rising (keys xs) ≡ true → k ≤ high
+    → spotOf k (keys xs) ≡ suc j → pick k (placesIn want high xs) ≡ some (getD (placesIn want high xs) j d)
 unfolding placesIn keys placeOf highBefore
 pick-spot want high k j [] d r q h = absurd (omega (arith, h, spot-nil k))
 pick-spot want high k zero (x ∷ xs) d r q h =
@@ -106,16 +107,7 @@ pick-spot want high k (suc j) (x ∷ xs) d r q h =
         between-above (x .key) (y .key - 1) k (omega (arith, up, spot-suc k (y .key) j (keys ys) s .0))
 
 -- the same, told by the spot itself
-pub pick-at : (want high k s : ℕ) (xs : List Child) (d : Child) → rising (keys xs) ≡ true → k ≤ high → 1 ≤ s
-    → spotOf k (keys xs) ≡ s → pick k (placesIn want high xs) ≡ some (placeOf want (highBefore high (drop s xs)) (getD xs (s - 1) d))
+pub pick-at : (want high k s : ℕ) (xs : List Child) (d : Place) → rising (keys xs) ≡ true → k ≤ high → 1 ≤ s
+    → spotOf k (keys xs) ≡ s → pick k (placesIn want high xs) ≡ some (getD (placesIn want high xs) (s - 1) d)
 pick-at want high k zero xs d r q o h = absurd (omega arith)
 pick-at want high k (suc j) xs d r q o h = let e : suc j - 1 ≡ j = omega arith in rw e (pick-spot want high k j xs d r q h)
-
--- where a child's range ends
-pub high-next : (high j : ℕ) (xs : List Child) (d : Child) → j < length xs → highBefore high (drop j xs) ≡ getD xs j d .key - 1
-unfolding highBefore
-high-next high j xs d h = rw (drop-cons xs j d h)
-
-pub high-last : (high j : ℕ) (xs : List Child) → length xs ≤ j → highBefore high (drop j xs) ≡ high
-unfolding highBefore
-high-last high j xs h = rw (drop-of-length-le xs h)

@@ -1,16 +1,18 @@
 -- Entries of a page one by one: the first of a run and those behind it, and how many pass a search. Assumes nothing.
 use Prim.Native.Nat.{ℕ, zero, suc, _+_, _*_, _-_, _≤_, _<_}
 use native.Mathlib.Omega.{arith}
-use mathlib.Core.Path.{_≡_, refl, ap, sym, _∙_}
+use mathlib.Core.Path.{_≡_, refl, ap, _∙_}
 use mathlib.Core.List.{List, [], _∷_}
-use lib.ListN.{length, take, drop}
+use lib.ListN.{length, getD, take, drop}
 use lib.Seq.{drop-drop}
 use Rattle.rules.specs.Layout.{headerSize, childSize}
 use Rattle.rules.specs.Page.{readEach, childIn}
 use Rattle.rules.specs.Table.{pageAt}
-use Rattle.rules.specs.Place.{highBefore, placesIn}
+use Rattle.rules.specs.Entry.{Child}
+use Rattle.rules.specs.Place.{highBefore, placeOf, placesIn}
 use Rattle.rules.proofs.Each.{length-readEach, take-readEach, drop-readEach}
-use Rattle.head.specs.Head.{childAt}
+use Rattle.head.specs.Head.{childAt, nowhere}
+use Rattle.head.proofs.Kids.{kid-at}
 use Rattle.seen.specs.declared.Run.{Run}
 use Rattle.seen.specs.Run.{entriesIn, upTo, endOf, placeIn, places, restOf}
 use Rattle.seen.proofs.Cuts.{upTo-in, upTo-out, upTo-nil}
@@ -85,13 +87,16 @@ module _ (t : List ℕ) (page : ℕ) where
 -- ── A run's first entry ─────────────────────────────────────────────────────────────────────────────────────────
 
 module _ (t : List ℕ) (high : ℕ) (r : Run) where
-  pub end-last : r .left ≡ 1 → high ≡ endOf t high r
-  unfolding endOf highBefore
-  end-last h = sym (ap (highBefore high) (entries-none t (r .page) (r .first + 1) (r .left - 1) (omega arith)))
-
-  pub end-next : 1 < r .left → childAt (pageAt t (r .page)) (r .first + 1) .key - 1 ≡ endOf t high r
-  unfolding endOf highBefore
-  end-next h = sym (ap (highBefore high) (entries-more t (r .page) (r .first + 1) (r .left - 1) (omega arith)))
+  -- what is read as the entry at its index, among those up to the run's end
+  pub place-kid : 0 < r .left
+      → getD (placesIn (r .want) high (readEach childIn childSize (r .first + r .left) (drop headerSize (pageAt t (r .page))))) (r .first) nowhere
+      ≡ placeIn t high r
+  unfolding placeIn endOf entriesIn
+  place-kid h =
+      let k : r .first + r .left - (r .first + 1) ≡ r .left - 1 = omega arith in
+      kid-at (pageAt t (r .page)) (r .first + r .left) high (r .want) (r .first) nowhere (omega arith)
+      ∙ ap (λ (xs : List Child). placeOf (r .want) (highBefore high xs) (childAt (pageAt t (r .page)) (r .first)))
+      (drop-entries t (r .page) (r .first + 1) (r .first + r .left) ∙ ap (entriesIn t (r .page) (r .first + 1)) k)
 
   pub places-none : r .left ≡ 0 → places t high r ≡ []
   unfolding places placesIn

@@ -19,9 +19,11 @@ unfoldable pub unmarked : List Bool → List ℕ → Bool
 unmarked m [] = true
 unmarked m (i ∷ is) = not (getD m i false) && unmarked (set m i true) is
 
+-- notes as they are lent from page to page, in parts
 abbrev pub seenOf : Bool → List Bool → List Bool → Seen
 seenOf whole children spared = record { whole = whole; children = children; spared = spared }
 
+-- what is noted of a tree, after what was noted before it
 unfoldable pub note : Seen → Tree → Seen
 note s t = record {
   whole = s .whole && (t .whole && unmarked (s .children) (t .children));

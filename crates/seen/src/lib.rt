@@ -8,7 +8,7 @@
 // Below stand `sound`, which tests a page against a place, `head`, which reads headers and entries, and `rules`.
 use head::child_key_at;
 use head::head_at;
-use head::link_at;
+use head::kid_at;
 use head::root_place;
 use rules::Place;
 use sound::fits_at;
@@ -20,7 +20,7 @@ ghost use lib.ListN.{length, set, getD};
 ghost use Rattle.rules.specs.Layout.{pageSize, innerRoom};
 ghost use Rattle.rules.specs.Tree.{tree, treeOf, treeEach};
 ghost use Rattle.seen.specs.Note.{seenOf, note, nothing, named, goodMarks};
-ghost use Rattle.seen.specs.Run.{entriesIn, upTo, runOf, shownOf, endOf, placeIn, places, restOf, Runs, Lies};
+ghost use Rattle.seen.specs.Run.{entriesIn, upTo, runOf, shownOf, placeIn, places, restOf, Runs, Lies};
 
 // How many numbers have marks, the kind of a leaf, and the level that the root is walked at.
 const MOST: usize = 128;
@@ -151,35 +151,12 @@ fn name_place(
     still
 }
 
-// Where the range of a run's first entry ends: before the next entry's key, or with the run's own range.
-fn end_of(table: &[u8], r: Run, high: u64) -> u64
-    requires { ⌜ ((r .page + 1) * pageSize ≤ length (now table)) × ((r .first + r .left ≤ innerRoom) × (0 < r .left)) ⌝ }
-    ensures { λ k. ⌜ k ≡ endOf (now (table .entry)) high r ⌝ }
-{
-    if r.left == 1 {
-        return high;
-    }
-    let key = child_key_at(table, r.page, r.first + 1);
-    if key == 0 {
-        return 0;
-    }
-    key - 1
-}
-
-// The place that a run's first entry asks for.
+// The place that a run's first entry asks for: its range ends before the next entry's key, or with the run's own.
 fn place_in(table: &[u8], r: Run, high: u64) -> Place
     requires { ⌜ ((r .page + 1) * pageSize ≤ length (now table)) × ((r .first + r .left ≤ innerRoom) × (0 < r .left)) ⌝ }
     ensures { λ e. ⌜ e ≡ placeIn (now (table .entry)) high r ⌝ }
 {
-    let link = link_at(table, r.page, r.first);
-    Place {
-        child: link.child,
-        previous: link.previous,
-        birth: link.birth,
-        low: link.key,
-        high: end_of(table, r, high),
-        want: r.want,
-    }
+    kid_at(table, r.page, r.first + r.left, r.first, r.want, high)
 }
 
 fn rest_of(r: Run) -> Run

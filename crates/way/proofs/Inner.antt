@@ -1,4 +1,4 @@
--- An inner page's entries read one by one: where a child's range ends, and the place that a key leads to.
+-- An inner page's entries by their keys: the place that a key leads to.
 -- Assumes nothing.
 use mathlib.Core.Path.{_≡_, refl, sym, ap, _∙_}
 use mathlib.Core.Bool.{Bool, true, false}
@@ -7,61 +7,30 @@ use mathlib.Core.Option.{some, none}
 use Prim.Native.Nat.{ℕ, zero, suc, _+_, _-_, _*_, _≤_, _<_}
 use native.Mathlib.Omega.{arith}
 use lib.ListN.{length, drop, getD}
-use lib.Seq.{drop-drop}
 use Rattle.fields.specs.Field.{leAt}
 use Rattle.rules.specs.Layout.{headerSize, childSize, leafKind, innerRoom, pageSize}
-use Rattle.rules.specs.Entry.{Entry, Child, Below, keys, rising}
+use Rattle.rules.specs.Entry.{Child, keys, rising}
 use Rattle.rules.specs.Page.{View, Page, readEach, childIn, viewIn, pageIn}
-use Rattle.rules.specs.Place.{highBefore, placeOf, placesIn, kids, pick}
+use Rattle.rules.specs.Place.{placesIn, kids, pick}
 use Rattle.rules.specs.declared.Place.{Place}
-use Rattle.rules.proofs.Each.{length-readEach, readEach-at}
-use Rattle.rules.proofs.Rises.{rising-at, length-keys}
+use Rattle.rules.proofs.Each.{length-readEach}
 use Rattle.rules.proofs.Sounds.{starts-first}
 use Rattle.rules.proofs.Views.{inner-kind}
-use Rattle.head.specs.Head.{childAt, linkOf}
 use Rattle.head.specs.declared.Head.{Head}
-use Rattle.head.specs.declared.Link.{Link}
 use Rattle.head.proofs.Headers.{headOf, view-inner, kind-view, count-view}
 use Rattle.entries.specs.Spot.{keysIn, spotOf}
 use Rattle.entries.proofs.KeysIn.{keys-children, length-keysIn, spot-bound}
 use Rattle.seek.proofs.Spots.{spot-above}
-use Rattle.seek.proofs.Found.{pick-at, high-next, high-last}
+use Rattle.seek.proofs.Found.{pick-at}
 use Rattle.way.specs.Ways.{Leads}
 
 -- the first so many entries of an inner page
 abbrev pub childrenIn : ℕ → List ℕ → List Child
 childrenIn count b = readEach childIn childSize count (drop headerSize b)
 
-keys-at : {B : Type 0} (xs : List (Entry B)) (j : ℕ) (d : Entry B) → j < length xs → getD (keys xs) j 0 ≡ getD xs j d .key
-unfolding keys
-keys-at [] j d h = absurd (omega arith)
-keys-at (x ∷ xs) zero d h = refl
-keys-at (x ∷ xs) (suc j) d h = keys-at xs j d (omega arith)
-
 module _ (b : List ℕ) (count : ℕ) where
   length-children : length (childrenIn count b) ≡ count
   length-children = length-readEach childIn childSize count (drop headerSize b)
-
-  child-at : (j : ℕ) (d : Child) → j < count → getD (childrenIn count b) j d ≡ childAt b j
-  unfolding childAt
-  child-at j d h = rw (readEach-at childIn childSize count (drop headerSize b) j d h, drop-drop)
-
-  -- no key is 0 but the first
-  pub key-above : (j : ℕ) → rising (keys (childrenIn count b)) ≡ true → 1 ≤ j → j < count → 1 ≤ childAt b j .key
-  key-above j r o h =
-      let xs = childrenIn count b in
-      let l : length (keys xs) ≡ count = length-keys xs ∙ length-children in
-      let up = rising-at (keys xs) 0 j 0 r (omega arith) (omega (arith, l)) in
-      let here : getD (keys xs) j 0 ≡ childAt b j .key = keys-at xs j (childAt b 0) (omega (arith, length-children)) ∙ ap (λ (x : Child). x .key) (child-at j (childAt b 0) h) in
-      omega (arith, up, here)
-
-  pub end-next : (high j : ℕ) → j < count → childAt b j .key - 1 ≡ highBefore high (drop j (childrenIn count b))
-  end-next high j h =
-      sym (high-next high j (childrenIn count b) (childAt b 0) (omega (arith, length-children))
-      ∙ ap (λ (x : Child). x .key - 1) (child-at j (childAt b 0) h))
-
-  pub end-last : (high j : ℕ) → count ≤ j → high ≡ highBefore high (drop j (childrenIn count b))
-  end-last high j h = sym (high-last high j (childrenIn count b) (omega (arith, length-children)))
 
   spot-within : (k : ℕ) → spotOf k (keysIn childSize count b) ≤ count
   spot-within k = rw (length-keysIn childSize count b) at (spot-bound k (keysIn childSize count b))
@@ -73,18 +42,11 @@ module _ (b : List ℕ) (count : ℕ) where
   pub rising-keysIn : rising (keys (childrenIn count b)) ≡ true → rising (keysIn childSize count b) ≡ true
   rising-keysIn r = rw (keys-children count b) at r
 
-  pub pick-in : (want high k s end : ℕ) (l : Link) → rising (keys (childrenIn count b)) ≡ true → k ≤ high → 1 ≤ s
-      → s ≡ spotOf k (keysIn childSize count b) → l ≡ linkOf (childAt b (s - 1)) → end ≡ highBefore high (drop s (childrenIn count b))
-      → pick k (placesIn want high (childrenIn count b)) ≡ some (record { child = l .child; previous = l .previous; birth = l .birth; low = l .key; high = end; want = want })
-  unfolding placeOf linkOf
-  pick-in want high k s end l r q o e f g =
-      pick-at want high k s (childrenIn count b) (childAt b 0) r q o (ap (spotOf k) (keys-children count b) ∙ sym e)
-      ∙ ap (λ (x : Child). some (placeOf want (highBefore high (drop s (childrenIn count b))) x)) (child-at (s - 1) (childAt b 0) (entry-before k s e o))
-      ∙ ap (λ (h : ℕ). some (placeOf want h (childAt b (s - 1)))) (sym g)
-      ∙ ap (λ (y : Link). some (of y)) (sym f)
-    where
-      of : Link → Place
-      of y = record { child = y .child; previous = y .previous; birth = y .birth; low = y .key; high = end; want = want }
+  pub pick-in : (want high k s : ℕ) (d r : Place) → rising (keys (childrenIn count b)) ≡ true → k ≤ high → 1 ≤ s
+      → s ≡ spotOf k (keysIn childSize count b) → r ≡ getD (placesIn want high (childrenIn count b)) (s - 1) d
+      → pick k (placesIn want high (childrenIn count b)) ≡ some r
+  pick-in want high k s d r h q o e f =
+      pick-at want high k s (childrenIn count b) d h q o (ap (spotOf k) (keys-children count b) ∙ sym e) ∙ ap some (sym f)
 
 -- ── A page that leads on ────────────────────────────────────────────────────────────────────────────────────────
 

@@ -18,7 +18,7 @@ ghost use Rattle.rules.specs.Layout.{pageSize, headerSize, childSize};
 ghost use Rattle.rules.specs.Entry.{keys, rising};
 ghost use Rattle.rules.specs.Page.{readEach, childIn};
 ghost use Rattle.rules.specs.Table.{read, fit0};
-ghost use Rattle.rules.specs.Place.{placesIn, highBefore, kids, pick};
+ghost use Rattle.rules.specs.Place.{placesIn, kids, pick};
 ghost use Rattle.rules.specs.Walk.{wayOf};
 ghost use Rattle.entries.specs.Spot.{keysIn, spotOf};
 ghost use Rattle.head.proofs.Headers.{headOf};
@@ -106,18 +106,6 @@ fn above(way: Way) -> Above
     }
 }
 
-// Where the range of a page's entry ends: below the next one's key, or where the page's own range ends.
-fn end_before(page: &[u8], j: usize, count: usize, high: u64) -> u64
-    requires { ⌜ (1 ≤ j) × (headerSize + childSize * count ≤ length (now page)) × (length (now page) ≤ pageSize)
-        × (rising (keys (readEach childIn childSize count (drop headerSize (now page)))) ≡ true) ⌝ }
-    ensures { λ r. ⌜ r ≡ highBefore high (drop j (readEach childIn childSize count (drop headerSize (now (page .entry))))) ⌝ }
-{
-    if j < count {
-        return head::child_key(page, j) - 1;
-    }
-    high
-}
-
 // The place that an inner page's entries ask for at a key.
 fn place_in(page: &[u8], kind: u16, count: usize, high: u64, key: u64) -> Place
     requires { ⌜ (1 ≤ kind) × (headerSize + childSize * count ≤ length (now page)) × (length (now page) ≤ pageSize)
@@ -127,15 +115,7 @@ fn place_in(page: &[u8], kind: u16, count: usize, high: u64, key: u64) -> Place
         ≡ some r ⌝ }
 {
     let spot = seek::seek(page, entries::CHILD, count, key);
-    let link = head::read_link(page, spot - 1);
-    Place {
-        child: link.child,
-        previous: link.previous,
-        birth: link.birth,
-        low: link.key,
-        high: end_before(page, spot, count, high),
-        want: kind - 1,
-    }
+    head::kid(page, count, spot - 1, kind - 1, high)
 }
 
 // The same below a page that was entered.

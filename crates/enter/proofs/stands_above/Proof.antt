@@ -1,15 +1,13 @@
+-- `enter::stands_above`: one of two numbers.
+-- Assumes nothing.
 use mathlib.Core.Path.{sym}
 use Rattle.enter.proofs.Told.{two-first, two-second}
 use Rattle.enter.proofs.stands_above.Statement.{statement}
 use Rattle.enter.proofs.stands_above.Tie as tie
-use Rattle.enter.proofs.stands_above.Reads as reads
-use Rattle.enter.proofs.stands_above.Lts as lts
 
--- src/lib.rt:35:9
 returns : tie.Need-returns
 returns c = sym (two-first (c .before .before .args .child) (c .before .before .args .above .parent) (c .before .before .args .above .top) (c .if1 .taken))
 
--- src/lib.rt:31:1
 returns-2 : tie.Need-returns-2
 returns-2 c = sym (two-second (c .before .before .before .args .child) (c .before .before .before .args .above .parent) (c .before .before .before .args .above .top) (c .before .if1 .left))
 

@@ -1,18 +1,15 @@
+-- `keys::good_parts`: one part after the other.
+-- Assumes nothing.
 use Rattle.keys.proofs.Parts.{no-model, no-serial, only-issue}
 use Rattle.keys.proofs.good_parts.Statement.{statement}
 use Rattle.keys.proofs.good_parts.Tie as tie
-use Rattle.keys.proofs.good_parts.Reads as reads
-use Rattle.keys.proofs.good_parts.Lts as lts
 
--- src/lib.rt:20:9
 returns : tie.Need-returns
 returns c = no-model (c .before .args .model) (c .before .args .serial) (c .before .args .issue) (c .if1 .taken)
 
--- src/lib.rt:23:9
 returns-2 : tie.Need-returns-2
 returns-2 c = no-serial (c .before .before .args .model) (c .before .before .args .serial) (c .before .before .args .issue) (c .before .if1 .left) (c .if2 .taken)
 
--- src/lib.rt:16:1
 returns-3 : tie.Need-returns-3
 returns-3 c = only-issue (c .before .before .args .model) (c .before .before .args .serial) (c .before .before .args .issue) (c .before .if1 .left) (c .if2 .left)
 

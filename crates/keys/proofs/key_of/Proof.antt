@@ -1,27 +1,22 @@
+-- `keys::key_of`: the sum as it stands.
+-- Assumes nothing.
 use Rattle.rules.specs.Key.{keyOf}
 use borrow.Author.Needs.{needs}
 use Rattle.keys.proofs.key_of.Statement.{statement}
 use Rattle.keys.proofs.key_of.Tie as tie
-use Rattle.keys.proofs.key_of.Reads as reads
-use Rattle.keys.proofs.key_of.Lts as lts
 
--- src/lib.rt:31:5
 mul-result : tie.Need-mul-result
 mul-result c = search needs
 
--- src/lib.rt:31:28
 mul-result-2 : tie.Need-mul-result-2
 mul-result-2 c = search needs
 
--- src/lib.rt:31:5
 add-result : tie.Need-add-result
 add-result c = search needs
 
--- src/lib.rt:31:5
 add-result-2 : tie.Need-add-result-2
 add-result-2 c = search needs
 
--- src/lib.rt:28:1
 returns : tie.Need-returns
 unfolding keyOf
 returns c = search needs

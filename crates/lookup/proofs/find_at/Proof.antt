@@ -1,5 +1,7 @@
-use mathlib.Core.Path.{_≡_, ap, sym, _∙_}
-use Rattle.rules.specs.Entry.{find, Cert}
+-- `lookup::find_at`: the same on a page of the table.
+-- Assumes nothing.
+use mathlib.Core.Path.{ap, sym, _∙_}
+use Rattle.rules.specs.Entry.{find}
 use Rattle.rules.specs.Page.{pageIn}
 use Rattle.rules.specs.Table.{pageAt, read}
 use Rattle.rules.proofs.Tables.{length-pageAt}
@@ -10,44 +12,32 @@ use native.Mathlib.Omega.{arith}
 use borrow.Author.Needs.{needs}
 use Rattle.lookup.proofs.find_at.Statement.{statement}
 use Rattle.lookup.proofs.find_at.Tie as tie
-use Rattle.lookup.proofs.find_at.Reads as reads
-use Rattle.lookup.proofs.find_at.Lts as lts
-use Rattle.lookup.proofs.find_in.Reads as find-in-reads
 
--- src/lib.rt:51:16
 cast-from : tie.Need-cast-from
 cast-from c = search needs
 
--- src/lib.rt:51:16
 mul-from : tie.Need-mul-from
 mul-from c = search needs
 
--- src/lib.rt:52:14
 add-to : tie.Need-add-to
 add-to c = search needs
 
--- src/lib.rt:53:13
 sub-find-in : tie.Need-sub-find-in
 sub-find-in c = search needs
 
--- src/lib.rt:53:13
 part-find-in-start : tie.Need-part-find-in-start
 part-find-in-start c = search needs
 
--- src/lib.rt:53:13
 part-find-in-end : tie.Need-part-find-in-end
 part-find-in-end c = search needs
 
--- src/lib.rt:53:31
 cast-find-in : tie.Need-cast-find-in
 cast-find-in c = search needs
 
--- src/lib.rt:53:5
 find-in-requires : tie.Need-find-in-requires
 unfolding read pageIn
 find-in-requires c κs = let b = pageAt (c .before .before .before .before .args .table .now) (c .before .before .before .before .args .leaf .place .child) in let l = length-pageAt (c .before .before .before .before .args .table .now) (c .before .before .before .before .args .leaf .place .child) (omega arith) in rw (page-part (c .before .before .before .before .args .table .now) (c .before .before .before .before .args .leaf .place .child)) (omega (arith, l, holds-room b (c .before .before .before .before .args .leaf .head) (c .before .before .before .before .pre .1) (c .before .before .before .before .pre .2)), omega (arith, l), holds-rise b (c .before .before .before .before .args .leaf .head) (c .before .before .before .before .pre .1) (c .before .before .before .before .pre .2))
 
--- src/lib.rt:44:1
 returns : tie.Need-returns
 unfolding read pageIn
 returns c = let b = pageAt (c .before .before .before .before .before .args .table .now) (c .before .before .before .before .before .args .leaf .place .child) in rw (page-part (c .before .before .before .before .before .args .table .now) (c .before .before .before .before .before .args .leaf .place .child)) at (c .find-in .ensures) ∙ ap (λ xs. lookedIn (find (c .before .before .before .before .before .args .key) xs)) (sym (certs-are b (c .before .before .before .before .before .args .leaf .head) (c .before .before .before .before .before .pre .1) (c .before .before .before .before .before .pre .2)))

@@ -1,4 +1,5 @@
-use mathlib.Core.Path.{_≡_, ap, sym, _∙_}
+-- `lookup::look`: the leaf at the end of the way, where there is one.
+-- Assumes nothing.
 use Rattle.rules.specs.Walk.{wayOf}
 use Rattle.way.proofs.Stood.{way-stands}
 use Rattle.lookup.proofs.Along.{no-leaf, ended, leaf-below, leaf-head, leaf-holds, looked-leaf}
@@ -6,32 +7,22 @@ use native.Mathlib.Omega.{arith}
 use borrow.Author.Needs.{needs}
 use Rattle.lookup.proofs.look.Statement.{statement}
 use Rattle.lookup.proofs.look.Tie as tie
-use Rattle.lookup.proofs.look.Reads as reads
-use Rattle.lookup.proofs.look.Lts as lts
-use Rattle.lookup.proofs.find_at.Reads as find-at-reads
-use Rattle.way.proofs.way_of.Reads as way-of-reads
 
--- src/lib.rt:61:9
 way-of-requires : tie.Need-way-of-requires
 way-of-requires c κs = search needs
 
--- src/lib.rt:63:9
 same-length : tie.Need-same-length
 same-length c = omega (arith, c .before .before .before .before .way-of .kept .0)
 
--- src/lib.rt:63:9
 returns : tie.Need-returns
 returns c = no-leaf (c .before .before .before .before .before .before .before .args .n) (c .before .before .before .before .before .before .before .args .key) (wayOf (c .before .before .before .before .before .before .before .args .n) (c .before .before .before .before .before .before .before .args .c) (c .before .before .before .before .before .before .before .args .key) (c .before .before .before .before .before .before .before .args .t .now)) (c .before .before .before .before .way-of .last .0) (c .before .before .before .before .way-of .result) (c .before .before .before .before .way-of .ensures) (way-stands (c .before .before .before .before .before .before .before .args .n) (c .before .before .before .before .before .before .before .args .c) (c .before .before .before .before .before .before .before .args .key) (c .before .before .before .before .before .before .before .args .t .now) (c .before .before .before .before .before .before .before .pre .0) (c .before .before .before .before .before .before .before .pre .1) (c .before .before .before .before .before .before .slice-known .given) (omega (arith, c .before .before .before .before .before .before .before .fits .c)) (omega (arith, c .before .before .before .before .before .before .before .fits .key))) (c .if1 .taken)
 
--- src/lib.rt:65:5
 find-at-requires : tie.Need-find-at-requires
 find-at-requires c κs = let x = wayOf (c .before .before .before .before .before .before .before .before .args .n) (c .before .before .before .before .before .before .before .before .args .c) (c .before .before .before .before .before .before .before .before .args .key) (c .before .before .before .before .before .before .before .before .args .t .now) in let a = way-stands (c .before .before .before .before .before .before .before .before .args .n) (c .before .before .before .before .before .before .before .before .args .c) (c .before .before .before .before .before .before .before .before .args .key) (c .before .before .before .before .before .before .before .before .args .t .now) (c .before .before .before .before .before .before .before .before .pre .0) (c .before .before .before .before .before .before .before .before .pre .1) (c .before .before .before .before .before .before .before .slice-known .given) (omega (arith, c .before .before .before .before .before .before .before .before .fits .c)) (omega (arith, c .before .before .before .before .before .before .before .before .fits .key)) in let d = ended (c .before .before .before .before .before .before .before .before .args .n) (c .before .before .before .before .before .before .before .before .args .key) x (c .before .before .before .before .before .way-of .last .0) (c .before .before .before .before .before .way-of .result) (c .before .before .before .before .before .way-of .ensures) a (c .before .if1 .left) in (omega (arith, c .before .before .before .before .before .way-of .kept .0, c .before .before .before .before .before .before .before .before .pre .0, leaf-below (c .before .before .before .before .before .before .before .before .args .n) (c .before .before .before .before .before .before .before .before .args .key) x (c .before .before .before .before .before .way-of .last .0) (c .before .before .before .before .before .way-of .result) (c .before .before .before .before .before .way-of .ensures) a d), leaf-head (c .before .before .before .before .before .before .before .before .args .n) (c .before .before .before .before .before .before .before .before .args .key) x (c .before .before .before .before .before .way-of .last .0) (c .before .before .before .before .before .way-of .result) (c .before .before .before .before .before .way-of .ensures) a d, leaf-holds (c .before .before .before .before .before .before .before .before .args .n) (c .before .before .before .before .before .before .before .before .args .key) x (c .before .before .before .before .before .way-of .last .0) (c .before .before .before .before .before .way-of .result) (c .before .before .before .before .before .way-of .ensures) a d)
 
--- src/lib.rt:57:1
 same-length-2 : tie.Need-same-length-2
 same-length-2 c = omega (arith, c .before .before .before .before .before .before .way-of .kept .0)
 
--- src/lib.rt:57:1
 returns-2 : tie.Need-returns-2
 returns-2 c = let x = wayOf (c .before .before .before .before .before .before .before .before .before .args .n) (c .before .before .before .before .before .before .before .before .before .args .c) (c .before .before .before .before .before .before .before .before .before .args .key) (c .before .before .before .before .before .before .before .before .before .args .t .now) in let a = way-stands (c .before .before .before .before .before .before .before .before .before .args .n) (c .before .before .before .before .before .before .before .before .before .args .c) (c .before .before .before .before .before .before .before .before .before .args .key) (c .before .before .before .before .before .before .before .before .before .args .t .now) (c .before .before .before .before .before .before .before .before .before .pre .0) (c .before .before .before .before .before .before .before .before .before .pre .1) (c .before .before .before .before .before .before .before .before .slice-known .given) (omega (arith, c .before .before .before .before .before .before .before .before .before .fits .c)) (omega (arith, c .before .before .before .before .before .before .before .before .before .fits .key)) in let d = ended (c .before .before .before .before .before .before .before .before .before .args .n) (c .before .before .before .before .before .before .before .before .before .args .key) x (c .before .before .before .before .before .before .way-of .last .0) (c .before .before .before .before .before .before .way-of .result) (c .before .before .before .before .before .before .way-of .ensures) a (c .before .before .if1 .left) in looked-leaf (c .before .before .before .before .before .before .before .before .before .args .n) (c .before .before .before .before .before .before .before .before .before .args .key) x (c .before .before .before .before .before .before .way-of .last .0) (c .before .before .before .before .before .before .way-of .result) (c .before .before .before .before .before .before .way-of .ensures) a d (c .find-at .result) (c .find-at .ensures)
 

@@ -1,21 +1,19 @@
--- `seen::place_in`: the first entry, with the end of its range.
+-- `seen::place_in`: the entry at the run's first index, among those up to the run's end.
 -- Assumes nothing.
-use Rattle.rules.specs.Place.{placeOf}
-use Rattle.head.specs.Head.{linkOf}
-use Rattle.seen.specs.Run.{placeIn}
+use mathlib.Core.Path.{_∙_}
+use Rattle.seen.proofs.Spans.{place-kid}
 use borrow.Author.Needs.{needs}
 use Rattle.seen.proofs.place_in.Statement.{statement}
 use Rattle.seen.proofs.place_in.Tie as tie
 
-link-at-requires : tie.Need-link-at-requires
-link-at-requires c κs = search needs
+add-kid-at : tie.Need-add-kid-at
+add-kid-at c = search needs
 
-end-of-requires : tie.Need-end-of-requires
-end-of-requires c κs = search needs
+kid-at-requires : tie.Need-kid-at-requires
+kid-at-requires c κs = search needs
 
 returns : tie.Need-returns
-unfolding placeIn placeOf linkOf
-returns c = rw (c .before .link-at .ensures, c .end-of .ensures)
+returns c = c .kid-at .ensures ∙ place-kid (c .before .before .before .args .table .now) (c .before .before .before .args .high) (c .before .before .before .args .r) (c .before .before .before .pre .1 .1)
 
 pub place-in-spec : {M : Type 1} → statement M
-place-in-spec = tie.close (tie.spec link-at-requires end-of-requires returns)
+place-in-spec = tie.close (tie.spec add-kid-at kid-at-requires returns)

@@ -1,4 +1,6 @@
-use mathlib.Core.Path.{_≡_, ap, _∙_}
+-- `way::place_below`: the same on a page of the table.
+-- Assumes nothing.
+use mathlib.Core.Path.{ap, _∙_}
 use Rattle.rules.specs.Page.{pageIn}
 use Rattle.rules.specs.Place.{pick}
 use Rattle.rules.specs.Table.{pageAt, read}
@@ -9,44 +11,32 @@ use native.Mathlib.Omega.{arith}
 use borrow.Author.Needs.{needs}
 use Rattle.way.proofs.place_below.Statement.{statement}
 use Rattle.way.proofs.place_below.Tie as tie
-use Rattle.way.proofs.place_below.Reads as reads
-use Rattle.way.proofs.place_below.Lts as lts
-use Rattle.way.proofs.place_in.Reads as place-in-reads
 
--- src/lib.rt:157:16
 cast-from : tie.Need-cast-from
 cast-from c = search needs
 
--- src/lib.rt:157:16
 mul-from : tie.Need-mul-from
 mul-from c = search needs
 
--- src/lib.rt:158:14
 add-to : tie.Need-add-to
 add-to c = search needs
 
--- src/lib.rt:159:14
 sub-place-in : tie.Need-sub-place-in
 sub-place-in c = search needs
 
--- src/lib.rt:159:14
 part-place-in-start : tie.Need-part-place-in-start
 part-place-in-start c = search needs
 
--- src/lib.rt:159:14
 part-place-in-end : tie.Need-part-place-in-end
 part-place-in-end c = search needs
 
--- src/lib.rt:159:43
 cast-place-in : tie.Need-cast-place-in
 cast-place-in c = search needs
 
--- src/lib.rt:159:5
 place-in-requires : tie.Need-place-in-requires
 unfolding read pageIn
 place-in-requires c κs = let b = pageAt (c .before .before .before .before .args .table .now) (c .before .before .before .before .args .e .child) in let l = length-pageAt (c .before .before .before .before .args .table .now) (c .before .before .before .before .args .e .child) (omega arith) in let f = c .before .before .before .before .pre .1 in let g = c .before .before .before .before .pre .2 in rw (page-part (c .before .before .before .before .args .table .now) (c .before .before .before .before .args .e .child)) (leads-kind b (c .before .before .before .before .args .head) (c .before .before .before .before .args .key) (c .before .before .before .before .args .e) f g, omega (arith, l, leads-room b (c .before .before .before .before .args .head) (c .before .before .before .before .args .key) (c .before .before .before .before .args .e) f g), omega (arith, l), leads-rise b (c .before .before .before .before .args .head) (c .before .before .before .before .args .key) (c .before .before .before .before .args .e) f g, g .high, leads-spot b (c .before .before .before .before .args .head) (c .before .before .before .before .args .key) (c .before .before .before .before .args .e) f g)
 
--- src/lib.rt:150:1
 returns : tie.Need-returns
 unfolding read pageIn
 returns c = let b = pageAt (c .before .before .before .before .before .args .table .now) (c .before .before .before .before .before .args .e .child) in ap (pick (c .before .before .before .before .before .args .key)) (leads-kids b (c .before .before .before .before .before .args .head) (c .before .before .before .before .before .args .key) (c .before .before .before .before .before .args .e) (c .before .before .before .before .before .pre .1) (c .before .before .before .before .before .pre .2)) ∙ rw (page-part (c .before .before .before .before .before .args .table .now) (c .before .before .before .before .before .args .e .child)) at (c .place-in .ensures)
