@@ -1,0 +1,5 @@
+pub mod Tests
+pub mod Notes
+pub mod Keeps
+pub mod Steps
+pub mod Roots

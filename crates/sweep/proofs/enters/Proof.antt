@@ -1,0 +1,25 @@
+use borrow.Author.Tests.{not-true, not-false, lt-ltb, le-ltb, le-leb, lt-leb}
+use Rattle.sweep.specs.Sweeps.{entersBy}
+use Rattle.sweep.proofs.Tests.{first-fails, second-fails, third-fails, fourth-decides}
+use native.Mathlib.Omega.{arith}
+use Rattle.sweep.proofs.enters.Statement.{statement}
+use Rattle.sweep.proofs.enters.Tie as tie
+
+returns : tie.Need-returns
+unfolding entersBy
+returns c = first-fails _ _ _ _ (not-true (c .before .before .args .s .whole) (c .if1 .taken))
+
+returns-2 : tie.Need-returns-2
+unfolding entersBy
+returns-2 c = second-fails _ _ _ _ (not-false (c .before .before .before .before .before .args .s .whole) (c .before .before .before .if1 .left)) (le-ltb (c .before .before .before .before .before .args .s .count) (c .before .before .before .before .before .args .a .room) (c .if2 .taken))
+
+returns-3 : tie.Need-returns-3
+unfolding entersBy
+returns-3 c = third-fails _ _ _ _ (not-false (c .before .before .before .before .before .before .before .before .args .s .whole) (c .before .before .before .before .before .before .if1 .left)) (lt-ltb (c .before .before .before .before .before .before .before .before .args .s .count) (c .before .before .before .before .before .before .before .before .args .a .room) (omega (arith, c .before .before .before .if2 .left))) (lt-leb (c .before .before .before .before .before .before .before .before .args .e .low) (c .before .before .before .before .before .before .before .before .args .a .high) (c .if3 .taken))
+
+returns-4 : tie.Need-returns-4
+unfolding entersBy
+returns-4 c = fourth-decides _ _ _ _ (not-false (c .before .before .before .before .before .before .before .before .before .before .args .s .whole) (c .before .before .before .before .before .before .before .before .if1 .left)) (lt-ltb (c .before .before .before .before .before .before .before .before .before .before .args .s .count) (c .before .before .before .before .before .before .before .before .before .before .args .a .room) (omega (arith, c .before .before .before .before .before .if2 .left))) (le-leb (c .before .before .before .before .before .before .before .before .before .before .args .e .low) (c .before .before .before .before .before .before .before .before .before .before .args .a .high) (omega (arith, c .before .before .if3 .left)))
+
+pub enters-spec : {M : Type 1} → statement M
+enters-spec = tie.close (tie.spec returns returns-2 returns-3 returns-4)
