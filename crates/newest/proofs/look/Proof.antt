@@ -1,0 +1,20 @@
+use Rattle.rules.specs.Walk.{walkOf}
+use Rattle.newest.proofs.Answers.{seen-told}
+use borrow.Author.Needs.{needs}
+use Rattle.newest.proofs.look.Statement.{statement}
+use Rattle.newest.proofs.look.Tie as tie
+
+sweep-requires : tie.Need-sweep-requires
+sweep-requires c κs = search needs
+
+answer-requires : tie.Need-answer-requires
+answer-requires c κs = search needs
+
+same-length : tie.Need-same-length
+same-length c = search needs
+
+returns : tie.Need-returns
+returns c = seen-told (c .before .before .before .sweep .last .0) (c .before .before .before .sweep .result) (c .answer .result) (walkOf (c .before .before .before .before .before .before .args .n) (c .before .before .before .before .before .before .args .c) (c .before .before .before .before .before .before .args .a) (c .before .before .before .before .before .before .args .t .now)) (c .before .before .before .sweep .ensures) (c .answer .ensures)
+
+pub look-spec : {M : Type 1} → statement M
+look-spec = tie.close (tie.spec sweep-requires answer-requires same-length returns)
