@@ -1,0 +1,3 @@
+pub mod ByHead
+pub mod Halved
+pub mod Grown

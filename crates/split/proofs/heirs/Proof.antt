@@ -1,0 +1,12 @@
+use Rattle.split.proofs.ByHead.{heirs-leaf, heirs-inner}
+use Rattle.split.proofs.heirs.Statement.{statement}
+use Rattle.split.proofs.heirs.Tie as tie
+
+returns : tie.Need-returns
+returns c = heirs-leaf (c .before .before .before .args .c) (c .before .before .before .args .head) (c .before .if1 .taken)
+
+returns-2 : tie.Need-returns-2
+returns-2 c = heirs-inner (c .before .before .args .c) (c .before .before .args .head) (c .if1 .left)
+
+pub heirs-spec : {M : Type 1} → statement M
+heirs-spec = tie.close (tie.spec returns returns-2)
