@@ -1,0 +1,68 @@
+-- What is known of a way that was walked, and of the numbers chosen for new pages.
+use Prim.Native.Nat.{ℕ, _^_, _*_, _≤_, _<_}
+use mathlib.Core.Path.{_≡_}
+use mathlib.Core.Bool.{Bool, true, false}
+use mathlib.Core.List.{List, [], _∷_}
+use mathlib.Core.Option.{some}
+use lib.ListN.{length}
+use Rattle.fields.specs.Field.{Bytes}
+use Rattle.rules.specs.Layout.{pageSize, mostPages, topKind, lastKey}
+use Rattle.rules.specs.Test.{mem, distinct}
+use Rattle.rules.specs.Table.{read}
+use Rattle.rules.specs.Place.{kids, pick}
+use Rattle.rules.specs.Walk.{Step, numbers}
+use Rattle.rules.specs.Insert.{full, rootSplits, tooHigh, newPages}
+use Rattle.rules.specs.declared.Place.{Place}
+use Rattle.rules.proofs.All.{All}
+use Rattle.rules.proofs.Places.{Fits}
+use Rattle.head.specs.declared.Head.{Head}
+use Rattle.head.proofs.Headers.{headOf}
+use Rattle.split.specs.Split.{stepAt}
+
+-- a table of n pages, and a counter and a key that fit their fields
+pub record Whole (n c : ℕ) (t : List ℕ) : Type 0 where
+  pub long : length t ≡ n * pageSize
+  pub few : n ≤ mostPages
+  pub bytes : Bytes t
+  pub counter : c < 256 ^ 4
+
+-- a page on the key's way stands in the table and fits the place that asked for it, whose range holds the key
+pub record Stands (n k : ℕ) (t : List ℕ) (s : Step) : Type 0 where
+  pub page : 1 ≤ s .place .child
+  pub below : s .place .child < n
+  pub previous : s .place .previous < n
+  pub reads : read t (s .place .child) ≡ s .page
+  pub fits : Fits n (s .place) (s .page)
+  pub low : s .place .low ≤ k
+  pub high : k ≤ s .place .high
+
+-- steps from the leaf up to the root, each asked for by the one above it
+abbrev pub Leads : ℕ → ℕ → List ℕ → List Step → Type 0
+Leads n k t [] = ⊥
+Leads n k t (s ∷ []) = Stands n k t s × (s .place .low ≡ 0) × (s .place .high ≡ lastKey)
+Leads n k t (s ∷ (u ∷ above)) =
+    Stands n k t s
+    × (mem (s .place .child) (numbers (u ∷ above)) ≡ false)
+    × (pick k (kids (u .place) (u .page .view)) ≡ some (s .place))
+    × Leads n k t (u ∷ above)
+
+-- a page that a new one may take: another than page 0 and those that were entered
+pub record Fresh (n : ℕ) (entered : List ℕ) (i : ℕ) : Type 0 where
+  pub page : 1 ≤ i
+  pub below : i < n
+  pub apart : mem i entered ≡ false
+
+-- numbers enough for the new pages
+pub record Chosen (n : ℕ) (way : List Step) (new : List ℕ) : Type 0 where
+  pub fresh : All (Fresh n (numbers way)) new
+  pub apart : distinct new ≡ true
+  pub enough : newPages way ≤ length new
+  pub room : rootSplits way ≡ true → tooHigh way ≡ false
+
+-- a root that stands, by its place and header, with numbers for its halves and a new root where it is full
+pub record RootReady (c k : ℕ) (t : List ℕ) (e : Place) (h : Head) (lower upper new : ℕ) : Type 0 where
+  pub n : ℕ
+  pub whole : Whole n c t
+  pub leads : Leads n k t (stepAt t e ∷ [])
+  pub head : h ≡ headOf (read t (e .child))
+  pub chosen : full (read t (e .child) .view) ≡ true → Chosen n (stepAt t e ∷ []) (lower ∷ (upper ∷ (new ∷ [])))
