@@ -1,0 +1,41 @@
+use mathlib.Core.Path.{sym, _∙_}
+use Rattle.dry.proofs.Sources.{source-above, source-child, source-previous, source-none}
+use borrow.Author.Needs.{needs}
+use Rattle.dry.proofs.source_at.Statement.{statement}
+use Rattle.dry.proofs.source_at.Tie as tie
+use Rattle.dry.proofs.helps_child.Reads as helps-child-reads
+use Rattle.dry.proofs.keeps_child.Reads as keeps-child-reads
+use Rattle.dry.proofs.stands_above.Reads as stands-above-reads
+
+stands-above-requires : tie.Need-stands-above-requires
+stands-above-requires c κs = search needs
+
+returns : tie.Need-returns
+returns c = source-above (c .before .before .before .before .args .n) _ (c .before .before .before .before .args .table .now) (c .before .before .before .before .args .marks .now) (c .before .before .before .before .args .e) (sym (c .before .stands-above .ensures) ∙ c .if1 .taken)
+
+keeps-child-requires : tie.Need-keeps-child-requires
+keeps-child-requires c κs = search needs
+
+returns-2 : tie.Need-returns-2
+returns-2 c = source-child (c .before .before .before .before .before .before .args .n) _ (c .before .before .before .before .before .before .args .table .now) (c .before .before .before .before .before .before .args .marks .now) (c .before .before .before .before .before .before .args .e) (sym (c .before .before .before .stands-above .ensures) ∙ c .before .before .if1 .left) (sym (c .before .keeps-child .ensures) ∙ c .if2 .taken)
+
+helps-child-requires : tie.Need-helps-child-requires
+helps-child-requires c κs = search needs
+
+returns-3 : tie.Need-returns-3
+returns-3 c = source-previous (c .before .before .before .before .before .before .before .before .args .n) _ (c .before .before .before .before .before .before .before .before .args .table .now) (c .before .before .before .before .before .before .before .before .args .marks .now) (c .before .before .before .before .before .before .before .before .args .e) (sym (c .before .before .before .before .before .stands-above .ensures) ∙ c .before .before .before .before .if1 .left) (sym (c .before .before .before .keeps-child .ensures) ∙ c .before .before .if2 .left) (sym (c .before .helps-child .ensures) ∙ c .if3 .taken)
+
+returns-4 : tie.Need-returns-4
+returns-4 c = source-none (c .before .before .before .before .before .before .before .before .args .n) _ (c .before .before .before .before .before .before .before .before .args .table .now) (c .before .before .before .before .before .before .before .before .args .marks .now) (c .before .before .before .before .before .before .before .before .args .e) (sym (c .before .before .before .before .before .stands-above .ensures) ∙ c .before .before .before .before .if1 .left) (sym (c .before .before .before .keeps-child .ensures) ∙ c .before .before .if2 .left) (sym (c .before .helps-child .ensures) ∙ c .if3 .left)
+
+pub source-at-spec : {M : Type 1} → statement M
+source-at-spec =
+    tie.close
+    (tie.spec
+    stands-above-requires
+    returns
+    keeps-child-requires
+    returns-2
+    helps-child-requires
+    returns-3
+    returns-4)
