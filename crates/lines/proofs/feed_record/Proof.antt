@@ -1,0 +1,33 @@
+-- `lines::feed_record` meets its contract. Assumes nothing.
+use mathlib.Core.Path.{sym, _∙_}
+use Rattle.lines.specs.Reader.{fedOf}
+use Rattle.lines.specs.Line.{most32}
+use Rattle.lines.proofs.Feeds.{fed-space, fed-to, fed-not}
+use borrow.Author.Needs.{needs}
+use Rattle.lines.proofs.feed_record.Statement.{statement}
+use Rattle.lines.proofs.feed_record.Tie as tie
+
+returns : tie.Need-returns
+unfolding fedOf
+returns c = sym (fed-space most32 _ (c .before .args .begun) (c .before .args .v) (c .before .args .b) (c .if1 .taken))
+
+grow-requires : tie.Need-grow-requires
+grow-requires c κs = search needs
+
+enum-known-n : tie.Need-enum-known-n
+enum-known-n c = search needs
+
+enum-told : tie.Need-enum-told
+enum-told c = search needs
+
+returns-2 : tie.Need-returns-2
+unfolding fedOf
+returns-2 c = sym (fed-not most32 _ _ (c .before .before .before .before .args .begun) (c .before .before .before .before .args .v) (c .before .before .before .before .args .b) (c .before .before .before .if1 .left) (sym (c .before .before .grow .ensures) ∙ c .enum-told .given .1))
+
+returns-3 : tie.Need-returns-3
+unfolding fedOf
+returns-3 c = sym (fed-to most32 _ _ (c .before .before .before .before .before .args .begun) (c .before .before .before .before .before .args .v) (c .before .before .before .before .before .args .b) (c .before .n .given .0 .0) (c .before .before .before .before .if1 .left) (sym (c .before .before .before .grow .ensures) ∙ c .before .n .given .1))
+
+pub feed-record-spec : {M : Type 1} → statement M
+feed-record-spec =
+    tie.close (tie.spec returns grow-requires enum-known-n enum-told returns-2 returns-3)
