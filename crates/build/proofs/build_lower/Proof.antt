@@ -8,32 +8,22 @@ use native.Mathlib.Omega.{arith}
 use borrow.Author.Needs.{needs}
 use Rattle.build.proofs.build_lower.Statement.{statement}
 use Rattle.build.proofs.build_lower.Tie as tie
-use Rattle.build.proofs.build_lower.Reads as reads
-use Rattle.build.proofs.build_lower.Lts as lts
-use Rattle.build.proofs.lower_page.Reads as lower-page-reads
-use Rattle.build.proofs.store.Reads as store-reads
 
--- src/lib.rt:185:13
 mul-a : tie.Need-mul-a
 mul-a c = search needs
 
--- src/lib.rt:186:15
 add-end : tie.Need-add-end
 add-end c = search needs
 
--- src/lib.rt:187:27
 sub-lower-page : tie.Need-sub-lower-page
 sub-lower-page c = search needs
 
--- src/lib.rt:187:27
 part-lower-page-start : tie.Need-part-lower-page-start
 part-lower-page-start c = search needs
 
--- src/lib.rt:187:27
 part-lower-page-end : tie.Need-part-lower-page-end
 part-lower-page-end c = search needs
 
--- src/lib.rt:187:16
 lower-page-requires : tie.Need-lower-page-requires
 unfolding read pageIn
 lower-page-requires c κs =
@@ -41,15 +31,12 @@ lower-page-requires c κs =
     let pre = c .before .before .before .pre in
     rw (page-part (a .table .now) (a .from)) (length-pageAt (a .table .now) (a .from) (omega arith), pre .1)
 
--- src/lib.rt:188:5
 store-requires : tie.Need-store-requires
 store-requires c κs = search needs
 
--- src/lib.rt:181:1
 same-length : tie.Need-same-length
 same-length c = search needs
 
--- src/lib.rt:181:1
 returns : tie.Need-returns
 unfolding build read
 returns c =

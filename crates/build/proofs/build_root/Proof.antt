@@ -4,24 +4,16 @@ use Rattle.rules.specs.Table.{build}
 use borrow.Author.Needs.{needs}
 use Rattle.build.proofs.build_root.Statement.{statement}
 use Rattle.build.proofs.build_root.Tie as tie
-use Rattle.build.proofs.build_root.Reads as reads
-use Rattle.build.proofs.build_root.Lts as lts
-use Rattle.build.proofs.root_page.Reads as root-page-reads
-use Rattle.build.proofs.store.Reads as store-reads
 
--- src/lib.rt:207:16
 root-page-requires : tie.Need-root-page-requires
 root-page-requires c κs = search needs
 
--- src/lib.rt:208:5
 store-requires : tie.Need-store-requires
 store-requires c κs = search needs
 
--- src/lib.rt:203:1
 same-length : tie.Need-same-length
 same-length c = search needs
 
--- src/lib.rt:203:1
 returns : tie.Need-returns
 unfolding build
 returns c =

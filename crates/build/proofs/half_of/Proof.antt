@@ -4,15 +4,11 @@ use borrow.Author.Tests.{eq-eqb, ne-eqb}
 use Rattle.build.specs.Range.{halfOf}
 use Rattle.build.proofs.half_of.Statement.{statement}
 use Rattle.build.proofs.half_of.Tie as tie
-use Rattle.build.proofs.half_of.Reads as reads
-use Rattle.build.proofs.half_of.Lts as lts
 
--- src/lib.rt:98:1
 returns : tie.Need-returns
 unfolding halfOf
 returns c = rw (eq-eqb (c .before .args .kind) 1 (c .if1 .taken), halfOf)
 
--- src/lib.rt:98:1
 returns-2 : tie.Need-returns-2
 unfolding halfOf
 returns-2 c = rw (ne-eqb (c .before .args .kind) 1 (c .if1 .left), halfOf)

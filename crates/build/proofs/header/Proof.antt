@@ -6,45 +6,31 @@ use mathlib.Core.Path.{sym}
 use borrow.Author.Needs.{needs}
 use Rattle.build.proofs.header.Statement.{statement}
 use Rattle.build.proofs.header.Tie as tie
-use Rattle.build.proofs.header.Reads as reads
-use Rattle.build.proofs.header.Lts as lts
-use Rattle.fields.proofs.put16.Reads as put16-reads
-use Rattle.fields.proofs.put32.Reads as put32-reads
-use Rattle.fields.proofs.put64.Reads as put64-reads
 
--- src/lib.rt:37:5
 put16-requires : tie.Need-put16-requires
 put16-requires c κs = search needs
 
--- src/lib.rt:38:5
 put16-requires-2 : tie.Need-put16-requires-2
 put16-requires-2 c κs = search needs
 
--- src/lib.rt:39:5
 put32-requires : tie.Need-put32-requires
 put32-requires c κs = search needs
 
--- src/lib.rt:40:5
 put32-requires-2 : tie.Need-put32-requires-2
 put32-requires-2 c κs = search needs
 
--- src/lib.rt:41:5
 put32-requires-3 : tie.Need-put32-requires-3
 put32-requires-3 c κs = search needs
 
--- src/lib.rt:42:5
 put64-requires : tie.Need-put64-requires
 put64-requires c κs = search needs
 
--- src/lib.rt:43:5
 put64-requires-2 : tie.Need-put64-requires-2
 put64-requires-2 c κs = search needs
 
--- src/lib.rt:33:1
 same-length : tie.Need-same-length
 same-length c = search needs
 
--- src/lib.rt:33:1
 returns : tie.Need-returns
 unfolding headerOf
 returns c =

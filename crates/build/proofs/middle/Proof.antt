@@ -6,26 +6,16 @@ use native.Mathlib.Omega.{arith}
 use borrow.Author.Needs.{needs}
 use Rattle.build.proofs.middle.Statement.{statement}
 use Rattle.build.proofs.middle.Tie as tie
-use Rattle.build.proofs.middle.Reads as reads
-use Rattle.build.proofs.middle.Lts as lts
-use Rattle.build.proofs.half_of.Reads as half-of-reads
-use Rattle.entries.proofs.size_of.Reads as size-of-reads
-use Rattle.fields.proofs.get16.Reads as get16-reads
-use Rattle.fields.proofs.get64.Reads as get64-reads
 
--- src/lib.rt:109:9
 get16-requires : tie.Need-get16-requires
 get16-requires c κs = search needs
 
--- src/lib.rt:110:34
 size-of-requires : tie.Need-size-of-requires
 size-of-requires c κs = search needs
 
--- src/lib.rt:110:59
 half-of-requires : tie.Need-half-of-requires
 half-of-requires c κs = search needs
 
--- src/lib.rt:110:34
 mul-get64 : tie.Need-mul-get64
 mul-get64 c =
     let a = c .before .before .before .before .args in
@@ -34,7 +24,6 @@ mul-get64 c =
     let pre = c .before .before .before .before .pre in
     omega (arith, middle-fits (a .page .now) (get16 .result) (size-of .result) (c .half-of .result) (pre .1) (get16 .ensures) (size-of .ensures) (c .half-of .ensures))
 
--- src/lib.rt:110:25
 add-get64 : tie.Need-add-get64
 add-get64 c =
     let a = c .before .before .before .before .args in
@@ -43,7 +32,6 @@ add-get64 c =
     let pre = c .before .before .before .before .pre in
     omega (arith, middle-fits (a .page .now) (get16 .result) (size-of .result) (c .half-of .result) (pre .1) (get16 .ensures) (size-of .ensures) (c .half-of .ensures))
 
--- src/lib.rt:110:5
 get64-requires : tie.Need-get64-requires
 get64-requires c κs =
     let a = c .before .before .before .before .args in
@@ -52,7 +40,6 @@ get64-requires c κs =
     let pre = c .before .before .before .before .pre in
     omega (arith, middle-fits (a .page .now) (get16 .result) (size-of .result) (c .half-of .result) (pre .1) (get16 .ensures) (size-of .ensures) (c .half-of .ensures))
 
--- src/lib.rt:105:1
 returns : tie.Need-returns
 returns c =
     let size-of = c .before .before .size-of in

@@ -8,38 +8,28 @@ use native.Mathlib.Omega.{arith}
 use borrow.Author.Needs.{needs}
 use Rattle.build.proofs.middle_at.Statement.{statement}
 use Rattle.build.proofs.middle_at.Tie as tie
-use Rattle.build.proofs.middle_at.Reads as reads
-use Rattle.build.proofs.middle_at.Lts as lts
-use Rattle.build.proofs.middle.Reads as middle-reads
 
--- src/lib.rt:175:13
 mul-a : tie.Need-mul-a
 mul-a c = search needs
 
--- src/lib.rt:176:15
 add-end : tie.Need-add-end
 add-end c = search needs
 
--- src/lib.rt:177:12
 sub-middle : tie.Need-sub-middle
 sub-middle c = search needs
 
--- src/lib.rt:177:12
 part-middle-start : tie.Need-part-middle-start
 part-middle-start c = search needs
 
--- src/lib.rt:177:12
 part-middle-end : tie.Need-part-middle-end
 part-middle-end c = search needs
 
--- src/lib.rt:177:5
 middle-requires : tie.Need-middle-requires
 unfolding read pageIn
 middle-requires c κs =
     let a = c .before .before .args in
     rw (page-part (a .table .now) (a .i)) (length-pageAt (a .table .now) (a .i) (omega arith), c .before .before .pre .1)
 
--- src/lib.rt:171:1
 returns : tie.Need-returns
 unfolding read pageIn
 returns c =

@@ -4,10 +4,7 @@ use Rattle.rules.specs.Page.{blank}
 use mathlib.Core.Path.{refl}
 use Rattle.build.proofs.zeros.Statement.{statement}
 use Rattle.build.proofs.zeros.Tie as tie
-use Rattle.build.proofs.zeros.Reads as reads
-use Rattle.build.proofs.zeros.Lts as lts
 
--- src/lib.rt:33:1
 returns : tie.Need-returns
 unfolding blank
 returns c = refl

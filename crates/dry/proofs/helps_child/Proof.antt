@@ -3,8 +3,6 @@ use Rattle.dry.proofs.Marks.{helps-marked, helps-lies}
 use borrow.Author.Needs.{needs}
 use Rattle.dry.proofs.helps_child.Statement.{statement}
 use Rattle.dry.proofs.helps_child.Tie as tie
-use Rattle.dry.proofs.is_marked.Reads as is-marked-reads
-use Rattle.sound.proofs.mendable_at.Reads as mendable-at-reads
 
 cast-is-marked : tie.Need-cast-is-marked
 cast-is-marked c = search needs

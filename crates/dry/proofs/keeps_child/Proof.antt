@@ -3,8 +3,6 @@ use Rattle.dry.proofs.Marks.{keeps-marked, keeps-lies}
 use borrow.Author.Needs.{needs}
 use Rattle.dry.proofs.keeps_child.Statement.{statement}
 use Rattle.dry.proofs.keeps_child.Tie as tie
-use Rattle.dry.proofs.is_marked.Reads as is-marked-reads
-use Rattle.sound.proofs.fits_at.Reads as fits-at-reads
 
 cast-is-marked : tie.Need-cast-is-marked
 cast-is-marked c = search needs

@@ -3,9 +3,6 @@ use Rattle.dry.proofs.Sources.{source-above, source-child, source-previ
 use borrow.Author.Needs.{needs}
 use Rattle.dry.proofs.source_at.Statement.{statement}
 use Rattle.dry.proofs.source_at.Tie as tie
-use Rattle.dry.proofs.helps_child.Reads as helps-child-reads
-use Rattle.dry.proofs.keeps_child.Reads as keeps-child-reads
-use Rattle.dry.proofs.stands_above.Reads as stands-above-reads
 
 stands-above-requires : tie.Need-stands-above-requires
 stands-above-requires c κs = search needs

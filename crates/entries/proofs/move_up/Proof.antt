@@ -10,8 +10,6 @@ use lib.Seq.{sets}
 use borrow.Author.Needs.{needs}
 use Rattle.entries.proofs.move_up.Statement.{statement}
 use Rattle.entries.proofs.move_up.Tie as tie
-use Rattle.entries.proofs.move_up.Reads as reads
-use Rattle.entries.proofs.move_up.Lts as lts
 
 abbrev Inv-loop : tie.InvT-loop
 Inv-loop page₀ at end by k₀ page k = (k ≤ end) × (at ≤ k) × (length page ≡ length page₀) × (page ≡ sets page₀ (k + by) (take (end - k) (drop k page₀)))
@@ -19,42 +17,33 @@ Inv-loop page₀ at end by k₀ page k = (k ≤ end) × (at ≤ k) × (length pa
 abbrev μ-loop : tie.MeasureT-loop
 μ-loop page₀ at end by k₀ page k = k
 
--- src/lib.rt:69:5
 loop-holds : tie.Need-loop-holds Inv-loop μ-loop
 loop-holds c = (search needs, search needs, search needs, rw sub-self)
 
--- src/lib.rt:70:9
 sub-k : tie.Need-sub-k Inv-loop μ-loop
 sub-k c = search needs
 
--- src/lib.rt:71:24
 slice-read-page : tie.Need-slice-read-page Inv-loop μ-loop
 slice-read-page c = omega arith
 
--- src/lib.rt:71:14
 add-page : tie.Need-add-page Inv-loop μ-loop
 add-page c = search needs
 
--- src/lib.rt:71:9
 slice-write-page : tie.Need-slice-write-page Inv-loop μ-loop
 slice-write-page c = omega arith
 
--- src/lib.rt:69:5
 loop-less : tie.Need-loop-less Inv-loop μ-loop
 loop-less c = search needs
 
--- src/lib.rt:69:5
 loop-again : tie.Need-loop-again Inv-loop μ-loop
 loop-again c =
     let a = c .before .before .before .args in
     let loop = c .before .before .loop in
     (search needs, search needs, search needs, moved-more (a .page .now) (loop .page) (loop .k) (loop .k - 1) (a .end) (a .by) (omega arith) (omega arith) (omega arith) (loop .inv .3))
 
--- src/lib.rt:64:1
 same-length : tie.Need-same-length Inv-loop μ-loop
 same-length c = c .before .loop .inv .2
 
--- src/lib.rt:64:1
 returns : tie.Need-returns Inv-loop μ-loop
 returns c =
     let loop = c .before .loop in

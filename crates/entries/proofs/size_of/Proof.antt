@@ -4,15 +4,11 @@ use borrow.Author.Tests.{eq-eqb, ne-eqb}
 use Rattle.entries.specs.Spot.{sizeOf}
 use Rattle.entries.proofs.size_of.Statement.{statement}
 use Rattle.entries.proofs.size_of.Tie as tie
-use Rattle.entries.proofs.size_of.Reads as reads
-use Rattle.entries.proofs.size_of.Lts as lts
 
--- src/lib.rt:28:1
 returns : tie.Need-returns
 unfolding sizeOf
 returns c = rw (eq-eqb (c .before .args .kind) 1 (c .if1 .taken), sizeOf)
 
--- src/lib.rt:28:1
 returns-2 : tie.Need-returns-2
 unfolding sizeOf
 returns-2 c = rw (ne-eqb (c .before .args .kind) 1 (c .if1 .left), sizeOf)

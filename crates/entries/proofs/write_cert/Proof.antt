@@ -5,28 +5,19 @@ use mathlib.Core.Path.{sym}
 use borrow.Author.Needs.{needs}
 use Rattle.entries.proofs.write_cert.Statement.{statement}
 use Rattle.entries.proofs.write_cert.Tie as tie
-use Rattle.entries.proofs.write_cert.Reads as reads
-use Rattle.entries.proofs.write_cert.Lts as lts
-use Rattle.fields.proofs.put32.Reads as put32-reads
-use Rattle.fields.proofs.put64.Reads as put64-reads
 
--- src/lib.rt:81:5
 put64-requires : tie.Need-put64-requires
 put64-requires c κs = search needs
 
--- src/lib.rt:82:25
 add-put32 : tie.Need-add-put32
 add-put32 c = search needs
 
--- src/lib.rt:82:5
 put32-requires : tie.Need-put32-requires
 put32-requires c κs = search needs
 
--- src/lib.rt:77:1
 same-length : tie.Need-same-length
 same-length c = search needs
 
--- src/lib.rt:77:1
 returns : tie.Need-returns
 returns c =
     let put32 = c .before .before .put32 in

@@ -5,45 +5,31 @@ use mathlib.Core.Path.{sym}
 use borrow.Author.Needs.{needs}
 use Rattle.entries.proofs.write_child.Statement.{statement}
 use Rattle.entries.proofs.write_child.Tie as tie
-use Rattle.entries.proofs.write_child.Reads as reads
-use Rattle.entries.proofs.write_child.Lts as lts
-use Rattle.fields.proofs.put16.Reads as put16-reads
-use Rattle.fields.proofs.put32.Reads as put32-reads
-use Rattle.fields.proofs.put64.Reads as put64-reads
 
--- src/lib.rt:90:5
 put64-requires : tie.Need-put64-requires
 put64-requires c κs = search needs
 
--- src/lib.rt:91:25
 add-put16 : tie.Need-add-put16
 add-put16 c = search needs
 
--- src/lib.rt:91:5
 put16-requires : tie.Need-put16-requires
 put16-requires c κs = search needs
 
--- src/lib.rt:92:25
 add-put16-2 : tie.Need-add-put16-2
 add-put16-2 c = search needs
 
--- src/lib.rt:92:5
 put16-requires-2 : tie.Need-put16-requires-2
 put16-requires-2 c κs = search needs
 
--- src/lib.rt:93:25
 add-put32 : tie.Need-add-put32
 add-put32 c = search needs
 
--- src/lib.rt:93:5
 put32-requires : tie.Need-put32-requires
 put32-requires c κs = search needs
 
--- src/lib.rt:86:1
 same-length : tie.Need-same-length
 same-length c = search needs
 
--- src/lib.rt:86:1
 returns : tie.Need-returns
 returns c =
     let put32 = c .before .before .put32 in

@@ -54,83 +54,63 @@ walk-entries-in t = (place-in-reads.Asked, place-in-reads.Learnt, walk-page-belo
 abbrev walk-page-in : ℕ → walk-page-lts.Claims
 walk-page-in t = (shown-at-reads.Asked, shown-at-reads.Learnt, name-place-reads.Asked, name-place-reads.Learnt, walk-entries-below t, walk-entries.Post)
 
--- src/lib.rt:212:9
 walk-entries-returns : (t : ℕ) → walk-entries-lts.Need-returns (walk-entries-in t) (walk-entries-at t) walk-entries.Post
 walk-entries-returns t c = run-none (tree (c .before .before .before .before .before .args .level) (c .before .before .before .before .before .args .n) (c .before .before .before .before .before .args .table .now)) (c .before .before .before .before .before .args .table .now) (c .before .before .before .before .before .args .high) (c .before .before .before .before .before .args .r) (seenOf (c .before .before .before .before .before .args .whole) (c .before .before .before .before .before .args .children .now) (c .before .before .before .before .before .args .spared .now)) (c .if1 .taken)
 
--- src/lib.rt:214:9
 walk-entries-place-in-requires : (t : ℕ) → walk-entries-lts.Need-place-in-requires (walk-entries-in t) (walk-entries-at t) walk-entries.Post
 walk-entries-place-in-requires t c κs = search needs
 
--- src/lib.rt:215:9
 walk-entries-walk-page-requires : (t : ℕ) → walk-entries-lts.Need-walk-page-requires (walk-entries-in t) (walk-entries-at t) walk-entries.Post
 walk-entries-walk-page-requires t c κs = search needs
 
--- src/lib.rt:216:35
 walk-entries-rest-of-requires : (t : ℕ) → walk-entries-lts.Need-rest-of-requires (walk-entries-in t) (walk-entries-at t) walk-entries.Post
 walk-entries-rest-of-requires t c κs = search needs
 
--- src/lib.rt:216:5
 walk-entries-walk-entries-requires : (t : ℕ) → walk-entries-lts.Need-walk-entries-requires (walk-entries-in t) (walk-entries-at t) walk-entries.Post
 walk-entries-walk-entries-requires t c κs = (omega (arith, c .before .before .before .before .before .before .before .before .before .before .before .before .before .before .before .before .pre .0, ap (λ (x : Run). x .left) (c .before .before .rest-of .ensures), c .before .before .before .before .before .before .before .before .before .before .before .if1 .left), (c .before .before .before .before .before .before .before .before .before .before .before .before .before .before .before .before .pre .1 .0, lies-rest (c .before .before .before .before .before .before .before .before .before .before .before .before .before .before .before .before .args .n) (c .before .before .before .before .before .before .before .before .before .before .before .before .before .before .before .before .args .r) (c .before .before .rest-of .result) (c .before .before .rest-of .ensures) (omega (arith, c .before .before .before .before .before .before .before .before .before .before .before .if1 .left)) (c .before .before .before .before .before .before .before .before .before .before .before .before .before .before .before .before .pre .1 .1)))
 
--- src/lib.rt:207:1
 walk-entries-same-length : (t : ℕ) → walk-entries-lts.Need-same-length (walk-entries-in t) (walk-entries-at t) walk-entries.Post
 walk-entries-same-length t c = search needs
 
--- src/lib.rt:207:1
 walk-entries-same-length-2 : (t : ℕ) → walk-entries-lts.Need-same-length-2 (walk-entries-in t) (walk-entries-at t) walk-entries.Post
 walk-entries-same-length-2 t c = search needs
 
--- src/lib.rt:207:1
 walk-entries-returns-2 : (t : ℕ) → walk-entries-lts.Need-returns-2 (walk-entries-in t) (walk-entries-at t) walk-entries.Post
 walk-entries-returns-2 t c = run-step (tree (c .before .before .before .before .before .before .before .before .before .before .before .before .before .before .before .before .before .before .before .before .before .args .level) (c .before .before .before .before .before .before .before .before .before .before .before .before .before .before .before .before .before .before .before .before .before .args .n) (c .before .before .before .before .before .before .before .before .before .before .before .before .before .before .before .before .before .before .before .before .before .args .table .now)) (c .before .before .before .before .before .before .before .before .before .before .before .before .before .before .before .before .before .before .before .before .before .args .table .now) (c .before .before .before .before .before .before .before .before .before .before .before .before .before .before .before .before .before .before .before .before .before .args .high) (c .before .before .before .before .before .before .before .before .before .before .before .before .before .before .before .before .before .before .before .before .before .args .r) (seenOf (c .before .before .before .before .before .before .before .before .before .before .before .before .before .before .before .before .before .before .before .before .before .args .whole) (c .before .before .before .before .before .before .before .before .before .before .before .before .before .before .before .before .before .before .before .before .before .args .children .now) (c .before .before .before .before .before .before .before .before .before .before .before .before .before .before .before .before .before .before .before .before .before .args .spared .now)) (c .before .before .before .before .before .before .before .before .before .before .before .before .before .before .before .place-in .result) (c .before .before .before .before .before .before .before .rest-of .result) (seenOf (c .before .before .before .before .before .before .before .before .before .before .before .before .walk-page .result) (c .before .before .before .before .before .before .before .before .before .before .before .before .walk-page .last .1 .1 .1 .1 .1 .0) (c .before .before .before .before .before .before .before .before .before .before .before .before .walk-page .last .1 .1 .1 .1 .1 .1 .0)) (seenOf (c .before .before .before .before .walk-entries .result) (c .before .before .before .before .walk-entries .last .1 .1 .1 .1 .1 .1 .0) (c .before .before .before .before .walk-entries .last .1 .1 .1 .1 .1 .1 .1 .0)) (omega (arith, c .before .before .before .before .before .before .before .before .before .before .before .before .before .before .before .before .if1 .left)) (c .before .before .before .before .before .before .before .before .before .before .before .before .before .before .before .place-in .ensures) (c .before .before .before .before .before .before .before .rest-of .ensures) (c .before .before .before .before .before .before .before .before .before .before .before .before .walk-page .ensures) (c .before .before .before .before .walk-entries .ensures)
 
--- src/lib.rt:197:9
 walk-page-returns : (t : ℕ) → walk-page-lts.Need-returns (walk-page-in t) (walk-page-at t) walk-page.Post
 walk-page-returns t c = note-broken (seenOf (c .before .before .before .before .args .whole) (c .before .before .before .before .args .children .now) (c .before .before .before .before .args .spared .now)) ∙ ap (note (seenOf (c .before .before .before .before .args .whole) (c .before .before .before .before .args .children .now) (c .before .before .before .before .args .spared .now))) (page-deep (c .before .before .before .before .args .n) (c .before .before .before .before .args .table .now) (c .before .before .before .before .args .e) (c .before .before .before .before .args .level) (c .if1 .taken))
 
--- src/lib.rt:199:29
 walk-page-shown-at-requires : (t : ℕ) → walk-page-lts.Need-shown-at-requires (walk-page-in t) (walk-page-at t) walk-page.Post
 walk-page-shown-at-requires t c κs = search needs
 
--- src/lib.rt:199:24
 walk-page-enum-known-r : (t : ℕ) → walk-page-lts.Need-enum-known-r (walk-page-in t) (walk-page-at t) walk-page.Post
 walk-page-enum-known-r t c = search needs
 
--- src/lib.rt:200:9
 walk-page-enum-told : (t : ℕ) → walk-page-lts.Need-enum-told (walk-page-in t) (walk-page-at t) walk-page.Post
 walk-page-enum-told t c = search needs
 
--- src/lib.rt:200:9
 walk-page-returns-2 : (t : ℕ) → walk-page-lts.Need-returns-2 (walk-page-in t) (walk-page-at t) walk-page.Post
 walk-page-returns-2 t c = note-broken (seenOf (c .before .before .before .before .before .before .before .args .whole) (c .before .before .before .before .before .before .before .args .children .now) (c .before .before .before .before .before .before .before .args .spared .now)) ∙ ap (note (seenOf (c .before .before .before .before .before .before .before .args .whole) (c .before .before .before .before .before .before .before .args .children .now) (c .before .before .before .before .before .before .before .args .spared .now))) (page-damaged (c .before .before .before .before .before .before .before .args .n) (c .before .before .before .before .before .before .before .args .table .now) (c .before .before .before .before .before .before .before .args .e) (c .before .before .before .before .before .before .before .pre .1) (c .before .before .before .before .before .before .before .args .level) (c .before .before .before .if1 .left) (sym (c .before .before .shown-at .ensures) ∙ c .enum-told .given .1))
 
--- src/lib.rt:202:35
 walk-page-cast-name-place : (t : ℕ) → walk-page-lts.Need-cast-name-place (walk-page-in t) (walk-page-at t) walk-page.Post
 walk-page-cast-name-place t c = search needs
 
--- src/lib.rt:202:9
 walk-page-name-place-requires : (t : ℕ) → walk-page-lts.Need-name-place-requires (walk-page-in t) (walk-page-at t) walk-page.Post
 walk-page-name-place-requires t c κs = search needs
 
--- src/lib.rt:203:28
 walk-page-sub-walk-entries : (t : ℕ) → walk-page-lts.Need-sub-walk-entries (walk-page-in t) (walk-page-at t) walk-page.Post
 walk-page-sub-walk-entries t c = search needs
 
--- src/lib.rt:203:5
 walk-page-walk-entries-requires : (t : ℕ) → walk-page-lts.Need-walk-entries-requires (walk-page-in t) (walk-page-at t) walk-page.Post
 walk-page-walk-entries-requires t c κs = let w = showing (c .before .before .before .before .before .before .before .before .before .before .before .before .before .before .before .before .before .before .args .n) (c .before .before .before .before .before .before .before .before .before .before .before .before .before .before .before .before .before .before .args .table .now) (c .before .before .before .before .before .before .before .before .before .before .before .before .before .before .before .before .before .before .args .e) (c .before .before .before .before .before .before .before .before .before .before .before .before .before .before .before .before .before .before .pre .1) (c .before .before .before .before .before .before .before .before .before .before .before .r .given .0 .0) (sym (c .before .before .before .before .before .before .before .before .before .before .before .before .before .shown-at .ensures) ∙ c .before .before .before .before .before .before .before .before .before .before .before .r .given .1) in (omega (arith, c .before .before .before .before .before .before .before .before .before .before .before .before .before .before .before .before .before .before .pre .0, w .lies .end, c .before .before .before .before .before .before .before .before .before .before .before .before .before .before .if1 .left), (c .before .before .before .before .before .before .before .before .before .before .before .before .before .before .before .before .before .before .pre .1, w .lies))
 
--- src/lib.rt:192:1
 walk-page-same-length : (t : ℕ) → walk-page-lts.Need-same-length (walk-page-in t) (walk-page-at t) walk-page.Post
 walk-page-same-length t c = search needs
 
--- src/lib.rt:192:1
 walk-page-same-length-2 : (t : ℕ) → walk-page-lts.Need-same-length-2 (walk-page-in t) (walk-page-at t) walk-page.Post
 walk-page-same-length-2 t c = search needs
 
--- src/lib.rt:192:1
 walk-page-returns-3 : (t : ℕ) → walk-page-lts.Need-returns-3 (walk-page-in t) (walk-page-at t) walk-page.Post
 walk-page-returns-3 t c = page-walk (c .before .before .before .before .before .before .before .before .before .before .before .before .before .before .before .before .before .before .before .before .before .before .before .args .n) (c .before .before .before .before .before .before .before .before .before .before .before .before .before .before .before .before .before .before .before .before .before .before .before .args .table .now) (c .before .before .before .before .before .before .before .before .before .before .before .before .before .before .before .before .before .before .before .before .before .before .before .args .e) (c .before .before .before .before .before .before .before .before .before .before .before .before .before .before .before .before .before .before .before .before .before .before .before .pre .1) (c .before .before .before .before .before .before .before .before .before .before .before .before .before .before .before .before .before .before .before .before .before .before .before .args .level) (c .before .before .before .before .before .before .before .before .before .before .before .before .before .before .before .before .r .given .0 .0) (seenOf (c .before .before .before .before .before .before .before .before .before .before .before .before .before .before .before .before .before .before .before .before .before .before .before .args .whole) (c .before .before .before .before .before .before .before .before .before .before .before .before .before .before .before .before .before .before .before .before .before .before .before .args .children .now) (c .before .before .before .before .before .before .before .before .before .before .before .before .before .before .before .before .before .before .before .before .before .before .before .args .spared .now)) (seenOf (c .before .before .before .before .before .before .before .before .before .before .before .name-place .result) (c .before .before .before .before .before .before .before .before .before .before .before .name-place .last .1 .1 .1 .0) (c .before .before .before .before .before .before .before .before .before .before .before .name-place .last .1 .1 .1 .1 .0)) (seenOf (c .before .before .before .before .walk-entries .result) (c .before .before .before .before .walk-entries .last .1 .1 .1 .1 .1 .1 .0) (c .before .before .before .before .walk-entries .last .1 .1 .1 .1 .1 .1 .1 .0)) (c .before .before .before .before .before .before .before .before .before .before .before .before .before .before .before .before .before .before .before .if1 .left) (sym (c .before .before .before .before .before .before .before .before .before .before .before .before .before .before .before .before .before .before .shown-at .ensures) ∙ c .before .before .before .before .before .before .before .before .before .before .before .before .before .before .before .before .r .given .1) (c .before .before .before .before .before .before .before .before .before .before .before .name-place .ensures) (c .before .before .before .before .walk-entries .ensures)
 

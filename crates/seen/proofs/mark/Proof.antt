@@ -2,22 +2,16 @@ use Rattle.seen.proofs.Beyond.{mark-beyond}
 use borrow.Author.Needs.{needs}
 use Rattle.seen.proofs.mark.Statement.{statement}
 use Rattle.seen.proofs.mark.Tie as tie
-use Rattle.seen.proofs.mark.Reads as reads
-use Rattle.seen.proofs.mark.Lts as lts
 
--- src/lib.rt:129:9
 returns : tie.Need-returns
 returns c = mark-beyond (c .before .args .marks .now) (c .before .args .i) (search needs)
 
--- src/lib.rt:131:5
 slice-write-marks : tie.Need-slice-write-marks
 slice-write-marks c = search needs
 
--- src/lib.rt:125:1
 same-length : tie.Need-same-length
 same-length c = search needs
 
--- src/lib.rt:125:1
 returns-2 : tie.Need-returns-2
 returns-2 c = search needs
 

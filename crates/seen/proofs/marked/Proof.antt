@@ -2,18 +2,13 @@ use Rattle.seen.proofs.Beyond.{marked-beyond}
 use borrow.Author.Needs.{needs}
 use Rattle.seen.proofs.marked.Statement.{statement}
 use Rattle.seen.proofs.marked.Tie as tie
-use Rattle.seen.proofs.marked.Reads as reads
-use Rattle.seen.proofs.marked.Lts as lts
 
--- src/lib.rt:120:9
 returns : tie.Need-returns
 returns c = marked-beyond (c .before .args .marks .now) (c .before .args .i) (search needs)
 
--- src/lib.rt:122:5
 shared-slice-read-result : tie.Need-shared-slice-read-result
 shared-slice-read-result c = search needs
 
--- src/lib.rt:116:1
 returns-2 : tie.Need-returns-2
 returns-2 c = search needs
 

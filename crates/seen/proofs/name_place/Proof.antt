@@ -4,40 +4,28 @@ use mathlib.Core.Path.{_≡_, refl}
 use borrow.Author.Needs.{needs}
 use Rattle.seen.proofs.name_place.Statement.{statement}
 use Rattle.seen.proofs.name_place.Tie as tie
-use Rattle.seen.proofs.name_place.Reads as reads
-use Rattle.seen.proofs.name_place.Lts as lts
-use Rattle.seen.proofs.mark.Reads as mark-reads
-use Rattle.seen.proofs.marked.Reads as marked-reads
 
--- src/lib.rt:139:26
 marked-requires : tie.Need-marked-requires
 marked-requires c κs = search needs
 
--- src/lib.rt:140:5
 mark-requires : tie.Need-mark-requires
 mark-requires c κs = search needs
 
--- src/lib.rt:142:9
 same-length : tie.Need-same-length
 same-length c = search needs
 
--- src/lib.rt:142:9
 returns : tie.Need-returns
 returns c = rw (c .before .before .before .before .before .marked .ensures, c .before .before .before .mark .ensures) (note-child (seenOf (c .before .before .before .before .before .before .before .before .before .args .whole) (c .before .before .before .before .before .before .before .before .before .args .children .now) (c .before .before .before .before .before .before .before .before .before .args .spared .now)) (c .before .before .before .before .before .before .before .before .before .args .child) (c .before .before .before .before .before .before .before .before .before .args .page) (c .if1 .taken))
 
--- src/lib.rt:144:5
 mark-requires-2 : tie.Need-mark-requires-2
 mark-requires-2 c κs = search needs
 
--- src/lib.rt:136:1
 same-length-2 : tie.Need-same-length-2
 same-length-2 c = search needs
 
--- src/lib.rt:136:1
 same-length-3 : tie.Need-same-length-3
 same-length-3 c = search needs
 
--- src/lib.rt:136:1
 returns-2 : tie.Need-returns-2
 returns-2 c = rw (c .before .before .before .before .before .before .before .before .before .marked .ensures, c .before .before .before .before .before .before .before .mark .ensures, c .before .before .mark2 .ensures) (note-lost (seenOf (c .before .before .before .before .before .before .before .before .before .before .before .before .before .args .whole) (c .before .before .before .before .before .before .before .before .before .before .before .before .before .args .children .now) (c .before .before .before .before .before .before .before .before .before .before .before .before .before .args .spared .now)) (c .before .before .before .before .before .before .before .before .before .before .before .before .before .args .child) (c .before .before .before .before .before .before .before .before .before .before .before .before .before .args .page) (c .before .before .before .before .if1 .left))
 

@@ -5,28 +5,19 @@ use Rattle.seen.specs.Note.{note, nothing}
 use borrow.Author.Needs.{needs}
 use Rattle.seen.proofs.walk.Statement.{statement}
 use Rattle.seen.proofs.walk.Tie as tie
-use Rattle.seen.proofs.walk.Reads as reads
-use Rattle.seen.proofs.walk.Lts as lts
-use Rattle.head.proofs.root_place.Reads as root-place-reads
-use Rattle.seen.proofs.walk_page.Reads as walk-page-reads
 
--- src/lib.rt:224:9
 root-place-requires : tie.Need-root-place-requires
 root-place-requires c κs = search needs
 
--- src/lib.rt:227:54
 slice-aggregate-walk-page : tie.Need-slice-aggregate-walk-page
 slice-aggregate-walk-page c = search needs
 
--- src/lib.rt:227:69
 slice-aggregate-walk-page-2 : tie.Need-slice-aggregate-walk-page-2
 slice-aggregate-walk-page-2 c = search needs
 
--- src/lib.rt:227:9
 walk-page-requires : tie.Need-walk-page-requires
 walk-page-requires c κs = search needs
 
--- src/lib.rt:220:1
 returns : tie.Need-returns
 unfolding treeOf nothing
 returns c = c .before .before .walk-page .ensures ∙ ap (λ (e : Place). note nothing (tree 3 (c .before .before .before .before .before .before .before .args .n) (c .before .before .before .before .before .before .before .args .table .now) e)) (c .before .before .before .before .before .root-place .ensures)
