@@ -14,7 +14,6 @@ use Rattle.rules.specs.Layout.{pageSize, headerSize, leafKind, certSize, childS
 use Rattle.rules.specs.Table.{setPage}
 use Rattle.rules.specs.Page.{View, Page, viewIn, count, fresh, headerBytes, pageBytes, buildBytes, blank, over, writeEach, certIn, certBytes, childIn, childBytes, readEach}
 use Rattle.rules.specs.Entry.{Child}
-use Rattle.rules.specs.Format.{emptyLeaf}
 use Rattle.rules.specs.Walk.{Step}
 use Rattle.rules.specs.Insert.{rootOver, newChild}
 use Rattle.rules.proofs.EntryBytes.{length-childBytes}
@@ -125,10 +124,6 @@ pub root-bytes : (kind c : ℕ) (x : Child)
 unfolding rootView writeEach count
 root-bytes kind c x =
     build-bytes kind c c 0 lastKey (rootView kind x) (childBytes x) refl (append-nil (childBytes x)) (rw (length-childBytes x) (omega arith))
-
-pub leaf-bytes : (c : ℕ) → buildBytes (fresh c c 0 lastKey emptyLeaf) ≡ sets blank 0 (headerOf leafKind 0 c c 0 lastKey)
-unfolding emptyLeaf writeEach count
-leaf-bytes c = build-bytes leafKind c c 0 lastKey emptyLeaf [] refl refl (omega arith)
 
 -- the root that insert grows is one of these
 pub root-over : (s : Step) → rootOver s ≡ rootView (s .page .view .kind + 1) (newChild (s .place .birth) (s .place .low) (s .place .child) (s .place .previous))

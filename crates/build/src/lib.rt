@@ -1,4 +1,4 @@
-// Pages that a call builds: the page that mending makes, the halves of a split page, a new root, an empty leaf.
+// Pages that a call builds: the page that mending makes, the halves of a split page and a new root.
 //
 // Each is built whole in 512 bytes of its own and then stored as one page of the table, so every byte behind the last
 // entry is zero and no other page changes. A half and a mended page are the same thing: a range of another page's
@@ -10,13 +10,16 @@
 use entries::BIRTH;
 use entries::BUILT;
 use entries::COUNT;
-use entries::HEADER;
 use entries::HIGH;
 use entries::KIND;
-use entries::LEAF;
 use entries::LOW;
-use entries::PAGE;
 use entries::TOUCHED;
+use rules::HEADER;
+use rules::INNER_HALF;
+use rules::LAST_KEY;
+use rules::LEAF;
+use rules::LEAF_HALF;
+use rules::PAGE;
 use rules::Place;
 ghost use mathlib.Core.Path.{_≡_};
 ghost use Prim.Native.Nat.{_+_, _*_, _-_, _≤_};
@@ -26,17 +29,8 @@ ghost use Rattle.rules.specs.Layout.{pageSize, headerSize, lastKey};
 ghost use Rattle.rules.specs.Page.{count, viewIn, pageIn, blank, buildBytes, fresh};
 ghost use Rattle.rules.specs.Table.{setPage, read, build};
 ghost use Rattle.rules.specs.Place.{cutView, mended};
-ghost use Rattle.rules.specs.Format.{emptyLeaf};
 ghost use Rattle.rules.specs.Insert.{divide, newChild, lowerPage, upperPage};
 ghost use Rattle.build.specs.Range.{headerOf, rangeView, rootView, halfOf, Roomy, Ordered, Divides};
-
-// How many entries of a full page its lower half takes.
-const LEAF_HALF: usize = 20;
-
-const INNER_HALF: usize = 15;
-
-// The largest key, where the range of a root ends.
-const LAST_KEY: u64 = 18446744073709551615;
 
 // How many numbers there are from `first` up to `past`; none where `past` is below.
 fn span(first: usize, past: usize) -> usize
@@ -150,15 +144,6 @@ fn root_page(kind: u16, key: u64, child: u16, previous: u16, birth: u32, c: u32)
     page
 }
 
-// A leaf over every key with no entry.
-fn leaf_page(c: u32) -> [u8; PAGE]
-    ensures { λ r. ⌜ r ≡ buildBytes (fresh c c 0 lastKey emptyLeaf) ⌝ }
-{
-    let mut page = zeros();
-    header(&mut page, LEAF, 0, c, c, 0, LAST_KEY);
-    page
-}
-
 // Page i of a table becomes this one.
 fn store(table: &mut [u8], i: usize, page: &[u8; PAGE])
     requires { ⌜ (i + 1) * pageSize ≤ length (now table) ⌝ }
@@ -229,14 +214,5 @@ pub fn build_root(
     ensures { λ r. ⌜ now (table .exit) ≡ build (now (table .entry)) to (fresh c c 0 lastKey (rootView kind (newChild birth key child previous))) ⌝ }
 {
     let page = root_page(kind, key, child, previous, birth, c);
-    store(table, to, &page);
-}
-
-// A page becomes an empty leaf over every key.
-pub fn build_leaf(table: &mut [u8], to: usize, c: u32)
-    requires { ⌜ (to + 1) * pageSize ≤ length (now table) ⌝ }
-    ensures { λ r. ⌜ now (table .exit) ≡ build (now (table .entry)) to (fresh c c 0 lastKey emptyLeaf) ⌝ }
-{
-    let page = leaf_page(c);
     store(table, to, &page);
 }

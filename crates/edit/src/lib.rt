@@ -6,12 +6,12 @@
 // Below stand `fields`, numbers in bytes; `entries`, entries as runs of bytes; and `rules`, whose `changed` every
 // contract here is an equation with.
 
-use entries::CERT;
-use entries::CHILD;
 use entries::COUNT;
-use entries::HEADER;
-use entries::PAGE;
 use entries::TOUCHED;
+use rules::CERT;
+use rules::CHILD;
+use rules::HEADER;
+use rules::PAGE;
 ghost use mathlib.Core.Path.{_≡_};
 ghost use Prim.Native.Nat.{_+_, _*_, _≤_};
 ghost use lib.ListN.{length};

@@ -6,6 +6,11 @@
 //
 // Below stand `fields`, numbers in bytes, and `rules`, which says what the bytes of a page mean.
 
+use rules::CERT;
+use rules::CHILD;
+use rules::HEADER;
+use rules::LEAF;
+use rules::PAGE;
 ghost use mathlib.Core.Path.{_≡_};
 ghost use Prim.Native.Nat.{_+_, _*_, _-_, _≤_};
 ghost use lib.ListN.{length, take, drop};
@@ -14,17 +19,6 @@ ghost use Rattle.rules.specs.Layout.{headerSize, certSize, childSize};
 ghost use Rattle.rules.specs.Page.{certBytes, childBytes};
 ghost use Rattle.rules.specs.Insert.{newChild};
 ghost use Rattle.entries.specs.Spot.{sizeOf, keysIn, spotOf, startOf, newCert};
-
-// A page, its header, an entry of a leaf and one of an inner page, in bytes; and the kind that a leaf has.
-pub const PAGE: usize = 512;
-
-pub const HEADER: usize = 32;
-
-pub const CERT: usize = 12;
-
-pub const CHILD: usize = 16;
-
-pub const LEAF: u16 = 1;
 
 // Where the fields of a page's header stand.
 pub const KIND: usize = 0;

@@ -11,17 +11,13 @@ ghost use Rattle.rules.specs.Format;
 ghost use Rattle.rules.specs.Page.{blank, buildBytes};
 ghost use Rattle.format.specs.Formats.{formatting, named, firstLeaf};
 use rules::Formatted;
+use rules::LAST_KEY;
+use rules::LEAF;
+use rules::PAGE;
+use rules::ZERO;
 
-// Where page 1 lies.
-const PAGE: usize = 512;
-
-const PAGE_END: usize = 1024;
-
-const ZERO_KIND: u16 = 9;
-
-const LEAF_KIND: u16 = 1;
-
-const LAST_KEY: u64 = 18446744073709551615;
+// Where page 1 ends.
+const PAGE_END: usize = 2 * PAGE;
 
 // What stands in page 1 as birth, built and touched; the first opening takes the number behind it.
 const FIRST: u32 = 1;
@@ -33,7 +29,7 @@ fn name_root(stable: &mut [u8], n: u16)
     requires { ⌜ 16 ≤ length (now stable) ⌝ }
     ensures { λ r. ⌜ now (stable .exit) ≡ named n (now (stable .entry)) ⌝ }
 {
-    fields::put16(stable, 0, ZERO_KIND);
+    fields::put16(stable, 0, ZERO);
     fields::put16(stable, 2, n);
     fields::put32(stable, 4, NUMBER);
     fields::put16(stable, 8, 1);
@@ -46,7 +42,7 @@ fn empty_leaf(page: &mut [u8])
     requires { ⌜ now page ≡ blank ⌝ }
     ensures { λ r. ⌜ now (page .exit) ≡ buildBytes firstLeaf ⌝ }
 {
-    fields::put16(page, 0, LEAF_KIND);
+    fields::put16(page, 0, LEAF);
     fields::put32(page, 4, FIRST);
     fields::put32(page, 8, FIRST);
     fields::put32(page, 12, FIRST);

@@ -10,7 +10,7 @@ use Rattle.rules.specs.Page.{certIn, childIn}
 use Rattle.rules.specs.Table.{kind0, n0, number0, root0, previous0, birth0}
 use Rattle.rules.specs.declared.Place.{Place}
 use Rattle.head.specs.declared.Head.{Head}
-use Rattle.head.specs.declared.Link.{Link}
+use Rattle.head.specs.declared.ChildEntry.{ChildEntry}
 use Rattle.head.specs.declared.Zero.{Zero}
 
 unfoldable pub headIn : List ℕ → Head
@@ -32,8 +32,8 @@ unfoldable pub childAt : List ℕ → ℕ → Child
 childAt b j = childIn (drop (headerSize + childSize * j) b)
 
 -- an inner page's entry as one flat value
-unfoldable pub linkOf : Child → Link
-linkOf x = record {
+unfoldable pub entryOf : Child → ChildEntry
+entryOf x = record {
   key = x .key;
   child = x .value .child;
   previous = x .value .previous;

@@ -10,7 +10,13 @@ use fields::get32;
 use fields::get64;
 use fields::put16;
 use fields::put32;
+use rules::CERT;
+use rules::CHILD;
+use rules::HEADER;
+use rules::LAST_KEY;
+use rules::PAGE;
 use rules::Place;
+use rules::ZERO;
 ghost use mathlib.Core.Path.{_≡_};
 ghost use Prim.Native.Nat.{_+_, _*_, _≤_, _<_};
 ghost use lib.ListN.{length, drop, getD};
@@ -18,21 +24,7 @@ ghost use Rattle.rules.specs.Layout.{pageSize, headerSize, certSize, childSize,
 ghost use Rattle.rules.specs.Table.{pageAt, fit0, number0, setNumber, setRoot};
 ghost use Rattle.rules.specs.Page.{readEach, childIn};
 ghost use Rattle.rules.specs.Place.{rootPlace, highBefore, placesIn};
-ghost use Rattle.head.specs.Head.{headIn, certAt, childAt, linkOf, zeroIn, nowhere};
-
-// A page, its header, and an entry of a leaf and of an inner page, in bytes.
-pub const PAGE: usize = 512;
-
-const HEADER: usize = 32;
-
-const CERT: usize = 12;
-
-const CHILD: usize = 16;
-
-// Page 0's kind, and the largest key.
-const ZERO: u16 = 9;
-
-const LAST_KEY: u64 = 18446744073709551615;
+ghost use Rattle.head.specs.Head.{headIn, certAt, childAt, entryOf, zeroIn, nowhere};
 
 // The header of a page.
 pub struct Head {
@@ -46,7 +38,7 @@ pub struct Head {
 }
 
 // An entry of an inner page: the child's low, and what the page says of the child.
-pub struct Link {
+pub struct ChildEntry {
     pub key: u64,
     pub child: u16,
     pub previous: u16,
@@ -129,11 +121,11 @@ pub fn child_birth(page: &[u8], j: usize) -> u32
     get32(page, HEADER + CHILD * j + 12)
 }
 
-pub fn read_link(page: &[u8], j: usize) -> Link
+pub fn child_entry(page: &[u8], j: usize) -> ChildEntry
     requires { ⌜ headerSize + childSize * (j + 1) ≤ length (now page) ⌝ }
-    ensures { λ r. ⌜ r ≡ linkOf (childAt (now (page .entry)) j) ⌝ }
+    ensures { λ r. ⌜ r ≡ entryOf (childAt (now (page .entry)) j) ⌝ }
 {
-    Link {
+    ChildEntry {
         key: child_key(page, j),
         child: child_number(page, j),
         previous: child_previous(page, j),
@@ -162,12 +154,12 @@ pub fn kid(page: &[u8], count: usize, j: usize, want: u16, high: u64) -> Place
     requires { ⌜ (j < count) × (headerSize + childSize * count ≤ length (now page)) ⌝ }
     ensures { λ r. ⌜ r ≡ getD (placesIn want high (readEach childIn childSize count (drop headerSize (now (page .entry))))) j nowhere ⌝ }
 {
-    let link = read_link(page, j);
+    let entry = child_entry(page, j);
     Place {
-        child: link.child,
-        previous: link.previous,
-        birth: link.birth,
-        low: link.key,
+        child: entry.child,
+        previous: entry.previous,
+        birth: entry.birth,
+        low: entry.key,
         high: child_high(page, count, j, high),
         want: want,
     }
@@ -200,15 +192,6 @@ pub fn child_key_at(table: &[u8], i: usize, j: usize) -> u64
     let from = i * PAGE;
     let to = from + PAGE;
     child_key(&table[from..to], j)
-}
-
-pub fn link_at(table: &[u8], i: usize, j: usize) -> Link
-    requires { ⌜ ((i + 1) * pageSize ≤ length (now table)) × (j < innerRoom) ⌝ }
-    ensures { λ r. ⌜ r ≡ linkOf (childAt (pageAt (now (table .entry)) i) j) ⌝ }
-{
-    let from = i * PAGE;
-    let to = from + PAGE;
-    read_link(&table[from..to], j)
 }
 
 pub fn kid_at(table: &[u8], i: usize, count: usize, j: usize, want: u16, high: u64) -> Place

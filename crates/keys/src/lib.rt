@@ -4,13 +4,10 @@
 // key is too large and no two certificates share one.
 //
 // Below stands `rules`.
+use rules::MODEL;
+use rules::SERIAL;
 ghost use mathlib.Core.Path.{_≡_};
 ghost use Rattle.rules.specs.Key.{keyOf, goodParts};
-
-// What a key counts model and serial by.
-const MODEL: u64 = 281474976710656;
-
-const SERIAL: u64 = 65536;
 
 // No part of the key is zero.
 pub fn good_parts(model: u16, serial: u32, issue: u16) -> bool

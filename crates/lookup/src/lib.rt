@@ -29,7 +29,7 @@ fn find_in(page: &[u8], count: usize, key: u64) -> Looked
         × (rising (keys (readEach certIn certSize count (drop headerSize (now page)))) ≡ true) ⌝ }
     ensures { λ r. ⌜ r ≡ lookedIn (find key (readEach certIn certSize count (drop headerSize (now (page .entry))))) ⌝ }
 {
-    let spot = seek::seek(page, entries::CERT, count, key);
+    let spot = seek::seek(page, rules::CERT, count, key);
     if spot == 0 {
         return Looked::Missing;
     }
@@ -45,8 +45,8 @@ fn find_at(table: &[u8], leaf: Step, key: u64) -> Looked
         × (leaf .head ≡ headOf (read (now table) (leaf .place .child))) × (Holds (read (now table) (leaf .place .child) .view)) ⌝ }
     ensures { λ r. ⌜ r ≡ lookedIn (find key (read (now (table .entry)) (leaf .place .child) .view .certs)) ⌝ }
 {
-    let from = leaf.place.child as usize * entries::PAGE;
-    let to = from + entries::PAGE;
+    let from = leaf.place.child as usize * rules::PAGE;
+    let to = from + rules::PAGE;
     find_in(&table[from..to], leaf.head.count as usize, key)
 }
 

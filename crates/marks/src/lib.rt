@@ -12,10 +12,8 @@ ghost use Rattle.rules.specs.Test.{mem};
 ghost use Rattle.rules.specs.Marks.{turned, isPage, freePages};
 ghost use Rattle.marks.specs.Opened.{openedBy};
 ghost use Rattle.marks.specs.Lowest.{enteredBy, countsFree, freeFrom, firstOf, lowestOf};
+use rules::MOST;
 use rules::Session;
-
-// How many marks a session has of each sort.
-const MOST: usize = 128;
 
 fn is_page(n: u16, i: usize) -> bool
     ensures { λ r. ⌜ r ≡ isPage n i ⌝ }

@@ -11,14 +11,12 @@ ghost use Rattle.rules.specs.Layout.{mostPages};
 ghost use Rattle.rules.specs.Open.{opening};
 ghost use Rattle.marks.specs.Opened.{openedBy};
 ghost use Rattle.opening.specs.Opens.{left, refusedWith};
-use head::PAGE;
+use rules::LAST_NUMBER;
 use rules::Opened;
 use rules::Opening;
+use rules::PAGE;
 use rules::Session;
 use seen::Seen;
-
-// The largest number that opens.
-const LAST_NUMBER: u32 = 4294967293;
 
 // What a refused opening hands back.
 fn refused(answer: Opened) -> Opening

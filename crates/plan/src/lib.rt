@@ -8,21 +8,17 @@
 use head::Head;
 use marks::Chosen;
 use marks::Entered;
+use rules::INNER_ROOM;
+use rules::LEAF;
+use rules::LEAF_ROOM;
 use rules::Session;
+use rules::TOP;
 use way::Way;
 ghost use mathlib.Core.Path.{_≡_};
 ghost use Prim.Native.Nat.{_≤_, _<_};
 ghost use lib.ListN.{take, getD};
 ghost use Rattle.rules.specs.Layout.{mostPages};
 ghost use Rattle.plan.specs.Plan.{headsOf, fullBy, splitsBy, lateBy, tooSoonBy, enteredOf, needBy, stuckBy, chosenBy, planBy};
-
-const LEAF: u16 = 1;
-
-const TOP: u16 = 3;
-
-const LEAF_ROOM: u16 = 40;
-
-const INNER_ROOM: u16 = 30;
 
 pub enum Planned {
     Present,

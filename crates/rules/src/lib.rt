@@ -3,13 +3,58 @@
 // specs/ is what a reader has to believe. It says in short definitions that compute what every page byte means,
 // when a page is sound, what mending makes, which pages a call enters, and what each of the seven calls answers and
 // leaves. proofs/ holds laws about those definitions, the bench cases and the theorem about crashes.
-// This file declares a place, what a walk is asked for, the session with its moves, and one enum of answers for each
+// This file declares the numbers of document 01, a place, what a walk is asked for, the session with its moves, and one enum of answers for each
 // call.
 //
 // Below stands `fields`: numbers in bytes.
 ghost use mathlib.Core.Path.{_≡_};
 ghost use Prim.Native.Nat.{_<_};
 ghost use Rattle.rules.specs.Marks.{taken, freed, waits, raised};
+
+// The numbers of document 01 that code needs, named here once. specs/Layout.antt has them too, for the rules; a number
+// that differs from its twin there breaks the proof of whoever uses it.
+
+// A page, its header, and an entry of a leaf and of an inner page, in bytes.
+pub const PAGE: usize = 512;
+
+pub const HEADER: usize = 32;
+
+pub const CERT: usize = 12;
+
+pub const CHILD: usize = 16;
+
+// The kinds: a leaf, the highest inner page, page 0. The root is walked at the level of the highest kind.
+pub const LEAF: u16 = 1;
+
+pub const TOP: u16 = 3;
+
+pub const ZERO: u16 = 9;
+
+pub const LEVELS: usize = 3;
+
+// How many entries a leaf and an inner page hold, and how many of them a lower half takes.
+pub const LEAF_ROOM: u16 = 40;
+
+pub const INNER_ROOM: u16 = 30;
+
+pub const LEAF_HALF: usize = 20;
+
+pub const INNER_HALF: usize = 15;
+
+// How many pages a table has, at the least and at the most.
+pub const FEWEST: usize = 4;
+
+pub const MOST: usize = 128;
+
+// What a key counts model and serial by, and the largest key.
+pub const MODEL: u64 = 281474976710656;
+
+pub const SERIAL: u64 = 65536;
+
+pub const LAST_KEY: u64 = 18446744073709551615;
+
+// The largest number that opens, and the largest counter that syncs.
+pub const LAST_NUMBER: u32 = 4294967293;
 
 // A place: what a parent's entry asks of its child. want is the kind asked for; 0 asks for any, as page 0 does of the
 // root.
@@ -35,8 +80,8 @@ pub struct Asked {
 pub struct Session {
     pub n: u16,
     pub c: u32,
-    pub free: [bool; 128],
-    pub waiting: [bool; 128],
+    pub free: [bool; MOST],
+    pub waiting: [bool; MOST],
 }
 
 impl Session {

@@ -23,7 +23,7 @@ pub fn seek(page: &[u8], size: usize, count: usize, key: u64) -> usize
     let mut high = count;
     while low < high {
         let middle = low + (high - low) / 2;
-        if fields::get64(page, entries::HEADER + size * middle) > key {
+        if fields::get64(page, rules::HEADER + size * middle) > key {
             high = middle;
         } else {
             low = middle + 1;

@@ -10,6 +10,9 @@ use head::child_key_at;
 use head::head_at;
 use head::kid_at;
 use head::root_place;
+use rules::LEAF;
+use rules::LEVELS;
+use rules::MOST;
 use rules::Place;
 use sound::fits_at;
 use sound::mendable_at;
@@ -21,13 +24,6 @@ ghost use Rattle.rules.specs.Layout.{pageSize, innerRoom};
 ghost use Rattle.rules.specs.Tree.{tree, treeOf, treeEach};
 ghost use Rattle.seen.specs.Note.{seenOf, note, nothing, named, goodMarks};
 ghost use Rattle.seen.specs.Run.{entriesIn, upTo, runOf, shownOf, placeIn, places, restOf, Runs, Lies};
-
-// How many numbers have marks, the kind of a leaf, and the level that the root is walked at.
-const MOST: usize = 128;
-
-const LEAF: u16 = 1;
-
-const TOP: usize = 3;
 
 // What a walk has noted so far: whether every place was whole and no child named twice, the numbers named as child, and
 // the previous pages of lost entries.
@@ -224,7 +220,7 @@ pub fn walk(table: &[u8], n: usize) -> Seen
     let root = root_place(table);
     let mut children = [false; MOST];
     let mut spared = [false; MOST];
-    let whole = walk_page(table, n, TOP, root, true, &mut children, &mut spared);
+    let whole = walk_page(table, n, LEVELS, root, true, &mut children, &mut spared);
     Seen {
         whole,
         children,

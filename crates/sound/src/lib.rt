@@ -5,13 +5,19 @@
 // comparison with the one before it, and high is looked at once.
 //
 // Below stand `head`, which reads headers and entries, and `rules`, the definitions.
-use head::PAGE;
 use head::cert_key;
 use head::child_key;
 use head::child_number;
 use head::child_previous;
 use head::read_head;
+use rules::INNER_ROOM;
+use rules::LEAF;
+use rules::LEAF_ROOM;
+use rules::MODEL;
+use rules::PAGE;
 use rules::Place;
+use rules::SERIAL;
+use rules::TOP;
 ghost use mathlib.Core.Path.{_≡_};
 ghost use Prim.Native.Nat.{_+_, _*_, _≤_};
 ghost use lib.ListN.{length, drop};
@@ -26,21 +32,8 @@ ghost use Rattle.rules.specs.Place.{kindAsked, fits, mendable};
 ghost use Rattle.head.specs.Head.{childAt};
 ghost use Rattle.sound.specs.Pass.{certsPass, childrenPass, namesPrevious, covers};
 
-// What a key counts model and serial by, and how many serials there are.
-const MODEL: u64 = 281474976710656;
-
-const SERIAL: u64 = 65536;
-
+// How many serials there are.
 const SERIALS: u64 = 4294967296;
-
-// The kind of a leaf and the highest one, and how many entries a leaf and an inner page hold.
-const LEAF: u16 = 1;
-
-const TOP: u16 = 3;
-
-const LEAF_ROOM: u16 = 40;
-
-const INNER_ROOM: u16 = 30;
 
 // No part of the key is zero.
 fn good_key(key: u64) -> bool

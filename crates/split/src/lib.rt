@@ -8,6 +8,7 @@
 // Below stand `build`, which makes the new pages, `edit`, which makes one entry two, `head`, which names the new root
 // in page 0, and the session's own moves.
 use head::Head;
+use rules::LEAF;
 use rules::Place;
 use rules::Session;
 ghost use mathlib.Core.Path.{_≡_};
@@ -16,8 +17,6 @@ ghost use Rattle.rules.specs.Layout.{mostPages};
 ghost use Rattle.rules.specs.Marks.{taken};
 ghost use Rattle.rules.specs.Insert.{making, grow, halve};
 ghost use Rattle.split.specs.Split.{stepAt, heirsBy, previousBy, freesBy, retireBy, rootPreviousBy, sideOf, Halves, Grows};
-
-const LEAF: u16 = 1;
 
 // What a split leaves beside the table: the session, and the page that now stands on the key's way.
 pub struct Made {

@@ -11,6 +11,8 @@ use enter::Above;
 use enter::Entered;
 use head::Head;
 use rules::Asked;
+use rules::LEAF;
+use rules::LEVELS;
 use rules::Place;
 ghost use mathlib.Core.Path.{_≡_};
 ghost use mathlib.Core.Bool.{true};
@@ -23,11 +25,6 @@ ghost use Rattle.rules.specs.Walk.{Walked, walk, walkEach, walkOf};
 ghost use Rattle.rules.specs.Entry.{Entry};
 ghost use Rattle.head.proofs.Headers.{headOf};
 ghost use Rattle.sweep.specs.Sweeps.{sweeping, told, entersBy, stopped, noted, noteEach, aboveAt, Deep, Ready, placesLeft, runOf, firstOf, restOf, Lies, Known};
-
-const LEAF: u16 = 1;
-
-// The level that the root is walked at.
-const TOP: usize = 3;
 
 // What a walk has come to: whether no damaged place was met, how many certificates were found, and the last of them.
 pub struct Sofar {
@@ -227,5 +224,5 @@ pub fn sweep(t: &mut [u8], n: usize, c: u32, a: Asked) -> Sofar
     };
     let above = Above { parent: 0, top: 0 };
     let root = head::root_place(t);
-    walk_page(t, n, c, TOP, a, above, root, nothing)
+    walk_page(t, n, c, LEVELS, a, above, root, nothing)
 }

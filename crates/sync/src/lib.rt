@@ -7,15 +7,13 @@
 ghost use mathlib.Core.Path.{_≡_};
 ghost use Rattle.rules.specs.Sync;
 ghost use Rattle.sync.specs.Syncs.{left};
+use rules::LAST_NUMBER;
 use rules::Session;
 use rules::Synced;
 use rules::Syncing;
 
 // Where page 0 keeps the number.
 const NUMBER_AT: usize = 4;
-
-// The largest counter that syncs.
-const LAST_NUMBER: u32 = 4294967293;
 
 pub fn sync(working: &mut [u8], stable: &mut [u8], session: Session) -> Syncing
     ensures { λ r. ⌜ left r (now (working .exit)) (now (stable .exit)) ≡ Sync.sync (now (working .entry)) (now (stable .entry)) session ⌝ }

@@ -4,17 +4,14 @@
 // `clear` change each byte of a table.
 //
 // Below stands `rules`.
+use rules::FEWEST;
+use rules::MOST;
+use rules::PAGE;
 ghost use mathlib.Core.Path.{_≡_};
 ghost use lib.ListN.{length, replicate};
 ghost use Rattle.rules.specs.Table.{goodLengths};
 ghost use Rattle.rules.specs.Call.{lengthsFor};
 ghost use Rattle.rules.specs.declared.Session.{Session};
-
-const PAGE: usize = 512;
-
-const FEWEST: usize = 4;
-
-const MOST: usize = 128;
 
 // Two tables of the same length, of 4 to 128 whole pages.
 pub fn good_lengths(working: &[u8], stable: &[u8]) -> bool

@@ -7,6 +7,8 @@
 use enter::Above;
 use enter::Entered;
 use head::Head;
+use rules::LEAF;
+use rules::LEVELS;
 use rules::Place;
 ghost use mathlib.Core.Path.{_≡_};
 ghost use mathlib.Core.Bool.{true};
@@ -23,11 +25,6 @@ ghost use Rattle.rules.specs.Walk.{wayOf};
 ghost use Rattle.entries.specs.Spot.{keysIn, spotOf};
 ghost use Rattle.head.proofs.Headers.{headOf};
 ghost use Rattle.way.specs.Ways.{Leads, noStep, wayFor, thenOf, aboveIn, walking, told};
-
-const LEAF: u16 = 1;
-
-// How many levels there can be.
-const TOP: usize = 3;
 
 // A page entered: the place that asked for it, and its header.
 pub struct Step {
@@ -114,7 +111,7 @@ fn place_in(page: &[u8], kind: u16, count: usize, high: u64, key: u64) -> Place
     ensures { λ r. ⌜ pick key (placesIn (kind - 1) high (readEach childIn childSize count (drop headerSize (now (page .entry)))))
         ≡ some r ⌝ }
 {
-    let spot = seek::seek(page, entries::CHILD, count, key);
+    let spot = seek::seek(page, rules::CHILD, count, key);
     head::kid(page, count, spot - 1, kind - 1, high)
 }
 
@@ -124,8 +121,8 @@ fn place_below(table: &[u8], e: Place, head: Head, key: u64) -> Place
         × (Leads key e (read (now table) (e .child) .view)) ⌝ }
     ensures { λ r. ⌜ pick key (kids e (read (now (table .entry)) (e .child) .view)) ≡ some r ⌝ }
 {
-    let from = e.child as usize * entries::PAGE;
-    let to = from + entries::PAGE;
+    let from = e.child as usize * rules::PAGE;
+    let to = from + rules::PAGE;
     place_in(
         &table[from..to],
         head.kind,
@@ -141,7 +138,7 @@ pub fn way_of(t: &mut [u8], n: usize, c: u32, key: u64) -> Way
 {
     let mut way = no_way();
     let mut e = head::root_place(t);
-    let mut level = TOP;
+    let mut level = LEVELS;
     while 0 < level {
         let Entered::Page(head) = enter::enter(t, n, c, above(way), e) else {
             return no_way();

@@ -1,21 +1,21 @@
 -- `head::kid`: what entry j says, up to where its range ends.
 -- Assumes nothing.
 use Rattle.rules.specs.Place.{placeOf}
-use Rattle.head.specs.Head.{linkOf, nowhere}
+use Rattle.head.specs.Head.{entryOf, nowhere}
 use Rattle.head.proofs.Kids.{kid-at}
 use borrow.Author.Needs.{needs}
 use Rattle.head.proofs.kid.Statement.{statement}
 use Rattle.head.proofs.kid.Tie as tie
 
-read-link-requires : tie.Need-read-link-requires
-read-link-requires c κs = search needs
+child-entry-requires : tie.Need-child-entry-requires
+child-entry-requires c κs = search needs
 
 child-high-requires : tie.Need-child-high-requires
 child-high-requires c κs = search needs
 
 returns : tie.Need-returns
-unfolding placeOf linkOf
-returns c = rw (c .before .read-link .ensures, c .child-high .ensures, kid-at (c .before .before .before .args .page .now) (c .before .before .before .args .count) (c .before .before .before .args .high) (c .before .before .before .args .want) (c .before .before .before .args .j) nowhere (c .before .before .before .pre .0))
+unfolding placeOf entryOf
+returns c = rw (c .before .child-entry .ensures, c .child-high .ensures, kid-at (c .before .before .before .args .page .now) (c .before .before .before .args .count) (c .before .before .before .args .high) (c .before .before .before .args .want) (c .before .before .before .args .j) nowhere (c .before .before .before .pre .0))
 
 pub kid-spec : {M : Type 1} → statement M
-kid-spec = tie.close (tie.spec read-link-requires child-high-requires returns)
+kid-spec = tie.close (tie.spec child-entry-requires child-high-requires returns)

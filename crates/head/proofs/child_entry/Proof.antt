@@ -1,9 +1,9 @@
--- `head::read_link`: the four fields of one entry.
+-- `head::child_entry`: the four fields of one entry.
 -- Assumes nothing.
-use Rattle.head.specs.Head.{linkOf}
+use Rattle.head.specs.Head.{entryOf}
 use borrow.Author.Needs.{needs}
-use Rattle.head.proofs.read_link.Statement.{statement}
-use Rattle.head.proofs.read_link.Tie as tie
+use Rattle.head.proofs.child_entry.Statement.{statement}
+use Rattle.head.proofs.child_entry.Tie as tie
 
 child-key-requires : tie.Need-child-key-requires
 child-key-requires c κs = search needs
@@ -18,11 +18,11 @@ child-birth-requires : tie.Need-child-birth-requires
 child-birth-requires c κs = search needs
 
 returns : tie.Need-returns
-unfolding linkOf
+unfolding entryOf
 returns c = rw (c .before .before .before .child-key .ensures, c .before .before .child-number .ensures, c .before .child-previous .ensures, c .child-birth .ensures)
 
-pub read-link-spec : {M : Type 1} → statement M
-read-link-spec =
+pub child-entry-spec : {M : Type 1} → statement M
+child-entry-spec =
     tie.close
     (tie.spec
     child-key-requires
