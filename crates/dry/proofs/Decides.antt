@@ -63,7 +63,7 @@ pub record Near (level : ℕ) (above : List ℕ) (parent up : ℕ) : Type 0 wher
   pub second : 2 ≤ level → up ≡ 0
   pub third : 3 ≤ level → parent ≡ 0
 
-near-root : Near topKind [] 0 0
+pub near-root : Near topKind [] 0 0
 unfolding mem
 near-root = record {
   bound = omega arith;
@@ -72,7 +72,7 @@ near-root = record {
   third = λ o. refl;
 }
 
-near-below : {level : ℕ} {above : List ℕ} {parent up : ℕ} → Near (suc level) above parent up → (c : ℕ)
+pub near-below : {level : ℕ} {above : List ℕ} {parent up : ℕ} → Near (suc level) above parent up → (c : ℕ)
     → Near level (c ∷ above) c parent
 unfolding mem
 near-below {level} {above} {parent} {up} r c = record {

@@ -1,10 +1,13 @@
--- That the dry walk decides what the walk answers; and what one mark decides.
+-- That the dry walk decides what the walk answers; and the steps of the walk in code.
 pub mod Chains
 pub mod Passed
 pub mod Sights
 pub mod Decides
+pub mod Answers
 pub mod Lists
 pub mod Marks
 pub mod Sources
 pub mod Meets
+pub mod Tallies
 pub mod Steps
+pub mod Goes

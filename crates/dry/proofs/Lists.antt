@@ -1,53 +1,47 @@
 -- What a dry walk tells of a list, before anything is written: whether it is filled or refused, and the count.
-use Prim.Native.Nat.{ℕ, _-_, _^_, _<_, _≤_}
-use native.Mathlib.Omega.{arith}
+use Prim.Native.Nat.{ℕ, _^_, _<_}
 use mathlib.Core.Path.{_≡_, sym, ap, _∙_}
 use mathlib.Core.Bool.{true, false}
 use mathlib.Core.List.{List}
 use lib.ListN.{length}
 use Rattle.fields.specs.Field.{Bytes}
-use Rattle.rules.specs.Test.{between}
-use Rattle.rules.specs.Table.{fit0, root0}
+use Rattle.rules.specs.Table.{fit0}
 use Rattle.rules.specs.Walk.{Walked, walkOf}
 use Rattle.rules.specs.Call.{lengthsFor}
 use Rattle.rules.specs.List.{ListLeft, upFrom, listDone, listRefused, listFrom, list}
 use Rattle.rules.specs.declared.Session.{Session}
 use Rattle.rules.specs.declared.Listed.{Listed}
-use Rattle.rules.proofs.Tests.{every-true, between-low, between-high}
 use Rattle.rules.proofs.Lengths.{Tables, lengthsFor-true}
 use Rattle.dry.specs.Walk.{dryOf}
-use Rattle.dry.proofs.Decides.{dry-decides}
-
-fit0-root : (n : ℕ) (t : List ℕ) → fit0 n t ≡ true → between 1 (n - 1) (root0 t) ≡ true
-unfolding fit0
-fit0-root n t h = every-true _ h .1 .1 .0
+use Rattle.dry.proofs.Answers.{dry-whole, dry-count}
 
 module _ (s : Session) (w t : List ℕ) (start : ℕ) (ks xs : List ℕ) (bytes : Bytes w) (hc : s .c < 256 ^ 4)
     (long : lengthsFor s w t ≡ true) (fit : fit0 (s .n) w ≡ true) where
-  decided : (walkOf (s .n) (s .c) (upFrom start ks xs) w .whole ≡ dryOf (s .n) (upFrom start ks xs) w .whole)
-      × (length (walkOf (s .n) (s .c) (upFrom start ks xs) w .found) ≡ dryOf (s .n) (upFrom start ks xs) w .count)
-  decided =
+  whole : walkOf (s .n) (s .c) (upFrom start ks xs) w .whole ≡ dryOf (s .n) (upFrom start ks xs) w .whole
+  whole =
       let z = lengthsFor-true s w t long in
-      let b = fit0-root (s .n) w fit in
-      let l = between-low 1 (s .n - 1) (root0 w) b in
-      let h = between-high 1 (s .n - 1) (root0 w) b in
-      dry-decides (s .n) (s .c) (upFrom start ks xs) w (z .most) hc (z .working) bytes l (omega (arith, z .least))
+      sym (dry-whole (s .n) w fit (z .working) (s .c) (upFrom start ks xs) (z .most) bytes hc)
+
+  count : length (walkOf (s .n) (s .c) (upFrom start ks xs) w .found) ≡ dryOf (s .n) (upFrom start ks xs) w .count
+  count =
+      let z = lengthsFor-true s w t long in
+      sym (dry-count (s .n) w fit (z .working) (s .c) (upFrom start ks xs) (z .most) bytes hc)
 
   -- a whole dry walk: the list is filled, with as many as were counted
   pub list-whole : dryOf (s .n) (upFrom start ks xs) w .whole ≡ true
       → list w t s start ks xs
       ≡ listDone s (walkOf (s .n) (s .c) (upFrom start ks xs) w .table) t (walkOf (s .n) (s .c) (upFrom start ks xs) w .found) ks xs
   unfolding list listFrom
-  list-whole d = rw (list, long, fit, listFrom, decided .0 ∙ d)
+  list-whole d = rw (list, long, fit, listFrom, whole ∙ d)
 
   pub list-count : dryOf (s .n) (upFrom start ks xs) w .whole ≡ true
       → list w t s start ks xs .answer ≡ Listed.Filled (dryOf (s .n) (upFrom start ks xs) w .count)
   unfolding listDone
-  list-count d = ap (λ (x : ListLeft). x .answer) (list-whole d) ∙ ap Listed.Filled (decided .1)
+  list-count d = ap (λ (x : ListLeft). x .answer) (list-whole d) ∙ ap Listed.Filled count
 
   -- one that met damage: the list is refused, and only the mends before the damage stand
   pub list-damaged : dryOf (s .n) (upFrom start ks xs) w .whole ≡ false
       → list w t s start ks xs
       ≡ listRefused Listed.Damaged s (walkOf (s .n) (s .c) (upFrom start ks xs) w .table) t ks xs
   unfolding list listFrom
-  list-damaged d = rw (list, long, fit, listFrom, decided .0 ∙ d)
+  list-damaged d = rw (list, long, fit, listFrom, whole ∙ d)

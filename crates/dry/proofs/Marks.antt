@@ -1,18 +1,12 @@
 -- One mark, and the two tests that it decides. Assumes nothing.
-use Prim.Native.Nat.{ℕ, _≤_}
-use mathlib.Core.Path.{_≡_, sym}
+use Prim.Native.Nat.{ℕ}
+use mathlib.Core.Path.{_≡_}
 use mathlib.Core.Bool.{Bool, true, false}
 use mathlib.Core.List.{List}
-use lib.ListN.{length, List·getD-eq-default}
 use Rattle.rules.specs.Table.{read}
 use Rattle.rules.specs.Place.{fits, mendable}
 use Rattle.rules.specs.declared.Place.{Place}
 use Rattle.dry.specs.Walk.{marked, keeps, helps}
-
--- a number beyond the marks has none
-pub marked-beyond : (m : List Bool) (i : ℕ) → length m ≤ i → false ≡ marked m i
-unfolding marked
-marked-beyond m i h = sym (List·getD-eq-default m false h)
 
 module _ (n : ℕ) (t : List ℕ) (m : List Bool) (e : Place) where
   pub keeps-marked : marked m (e .child) ≡ true → false ≡ keeps n t m e

@@ -61,20 +61,20 @@ module _ (n : ℕ) (above t : List ℕ) (m : List Bool) (e : Place) where
 
   -- ── What the place shows ────────────────────────────────────────────────────────────────────────────────────────
 
-  same-page : (i j : ℕ) → Source.Page i ≡ Source.Page j → i ≡ j
+  pub same-page : (i j : ℕ) → Source.Page i ≡ Source.Page j → i ≡ j
   same-page i j h = cc
 
-  never : (i : ℕ) → Source.Damaged ≡ Source.Page i → ⊥
+  pub never : (i : ℕ) → Source.Damaged ≡ Source.Page i → ⊥
   never i h = let z : _≡_ {A = ℕ} 0 1 = cc in omega arith
 
   abbrev shownBy : ℕ → Type 0
   shownBy i = sight n above t m e ≡ some (sightOf (cutView (e .low) (e .high) (read t i .view)) (markedBy i e m))
 
-  keeps-fits : keeps n t m e ≡ true → fits n e (read t (e .child)) ≡ true
+  pub keeps-fits : keeps n t m e ≡ true → fits n e (read t (e .child)) ≡ true
   unfolding keeps
   keeps-fits k = and-right (not (marked m (e .child))) (fits n e (read t (e .child))) k
 
-  helps-mendable : helps n t m e ≡ true → mendable n e (read t (e .previous)) ≡ true
+  pub helps-mendable : helps n t m e ≡ true → mendable n e (read t (e .previous)) ≡ true
   unfolding helps
   helps-mendable l = and-right (not (marked m (e .previous))) (mendable n e (read t (e .previous))) l
 

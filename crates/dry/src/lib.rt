@@ -5,28 +5,58 @@
 // stands as it lies. So one mark for each page does instead of a copy of the table. proofs/Decides says it of the rules:
 // the dry walk is whole exactly if the walk is, and counts what the walk finds.
 //
-// The tests of one step stand here: whether a place is entered, which page shows it, what is marked then.
+// `dry_of` answers the rules' walk so told. The page walk and the entry walk call each other: each entry of an inner page
+// is walked as a page one level lower. The level falls, and within a level the entries left. The marks are lent down the
+// walk; they are all that it keeps.
 //
-// Below stand `sound`, which tests a page against a place, and `rules`.
+// Below stand `seen`, which finds the entries of a page that lie in a range, `sound`, which tests a page against a
+// place, `head`, which reads headers and entries, and `rules`.
+use head::cert_key_at;
+use head::head_at;
+use head::root_place;
 use rules::Asked;
 use rules::Place;
+use seen::Run;
+use seen::mark;
+use seen::marked;
+use seen::place_in;
+use seen::rest_of;
+use seen::run_in;
 use sound::fits_at;
 use sound::mendable_at;
 ghost use mathlib.Core.Path.{_≡_};
-ghost use Prim.Native.Nat.{_*_, _<_};
-ghost use lib.ListN.{length};
+ghost use mathlib.Core.Bool.{true};
+ghost use Prim.Native.Nat.{_+_, _*_, _≤_};
+ghost use lib.ListN.{length, drop};
 ghost use mathlib.Core.List.{[], _∷_};
-ghost use Rattle.rules.specs.Layout.{pageSize};
+ghost use Rattle.rules.specs.Layout.{pageSize, headerSize, certSize, leafRoom};
 ghost use Rattle.rules.specs.Test.{mem};
-ghost use Rattle.dry.specs.Walk.{marked, keeps, helps, meetsWith};
+ghost use Rattle.rules.specs.Page.{readEach, certIn};
+ghost use Rattle.rules.specs.Table.{pageAt, read, fit0};
+ghost use Rattle.seen.specs.Run.{places, Lies};
+ghost use Rattle.dry.specs.Walk.{keeps, helps, meetsWith, dry, dryEach, dryOf};
 ghost use Rattle.dry.specs.Source.{source, markedBy};
+ghost use Rattle.dry.specs.Count.{larger, smaller, tallied, tally, tallyAt, sofarAt, stopped};
+
+// How many numbers have marks, the kind of a leaf, and the level that the root is walked at.
+const MOST: usize = 128;
+
+const LEAF: u16 = 1;
+
+const TOP: usize = 3;
 
 // What a dry walk has found so far: whether it met no damaged place, how many certificates there are, and which numbers
 // it would have mended.
 pub struct Dry {
     pub whole: bool,
     pub count: usize,
-    pub mended: [bool; 128],
+    pub mended: [bool; MOST],
+}
+
+// The same in the course of a walk; the marks are lent from page to page.
+pub struct Sofar {
+    pub whole: bool,
+    pub count: usize,
 }
 
 // The page that shows a place: the child, or the previous page that it would be mended from. Or the place is damaged.
@@ -35,33 +65,23 @@ pub enum Source {
     Damaged,
 }
 
-// Whether a number is marked. One beyond the marks never is.
-fn is_marked(marks: &[bool], i: usize) -> bool
-    ensures { λ r. ⌜ r ≡ marked (now (marks .entry)) i ⌝ }
-{
-    if i >= marks.len() {
-        return false;
-    }
-    marks[i]
-}
-
 // Whether the child of a place fits it still.
-pub fn keeps_child(table: &[u8], n: usize, marks: &[bool], e: Place) -> bool
+fn keeps_child(table: &[u8], n: usize, marks: &[bool], e: Place) -> bool
     requires { ⌜ length (now table) ≡ n * pageSize ⌝ }
     ensures { λ r. ⌜ r ≡ keeps n (now (table .entry)) (now (marks .entry)) e ⌝ }
 {
-    if is_marked(marks, e.child as usize) {
+    if marked(marks, e.child as usize) {
         return false;
     }
     fits_at(table, e, n)
 }
 
 // Whether the previous page of a place can help it still.
-pub fn helps_child(table: &[u8], n: usize, marks: &[bool], e: Place) -> bool
+fn helps_child(table: &[u8], n: usize, marks: &[bool], e: Place) -> bool
     requires { ⌜ length (now table) ≡ n * pageSize ⌝ }
     ensures { λ r. ⌜ r ≡ helps n (now (table .entry)) (now (marks .entry)) e ⌝ }
 {
-    if is_marked(marks, e.previous as usize) {
+    if marked(marks, e.previous as usize) {
         return false;
     }
     mendable_at(table, e, n)
@@ -78,7 +98,7 @@ fn stands_above(parent: u16, top: u16, child: u16) -> bool
 }
 
 // The page that shows a place in the course of a walk.
-pub fn source_at(table: &[u8], n: usize, parent: u16, top: u16, marks: &[bool], e: Place) -> Source
+fn source_at(table: &[u8], n: usize, parent: u16, top: u16, marks: &[bool], e: Place) -> Source
     requires { ⌜ length (now table) ≡ n * pageSize ⌝ }
     ensures { λ r. ⌜ r ≡ source n (parent ∷ top ∷ []) (now (table .entry)) (now (marks .entry)) e ⌝ }
 {
@@ -95,7 +115,7 @@ pub fn source_at(table: &[u8], n: usize, parent: u16, top: u16, marks: &[bool], 
 }
 
 // Whether a place is entered: nothing was damaged so far, there is room, and its range meets the asked one.
-pub fn meets_place(a: Asked, e: Place, whole: bool, count: usize) -> bool
+fn meets_place(a: Asked, e: Place, whole: bool, count: usize) -> bool
     ensures { λ r. ⌜ r ≡ meetsWith a e whole count ⌝ }
 {
     if !whole {
@@ -111,12 +131,191 @@ pub fn meets_place(a: Asked, e: Place, whole: bool, count: usize) -> bool
 }
 
 // A place was entered by its source: a child that is not its own source is mended, and marked.
-pub fn mark_by(marks: &mut [bool], page: u16, e: Place)
-    requires { ⌜ e .child < length (now marks) ⌝ }
+fn mark_by(marks: &mut [bool], page: u16, e: Place)
     ensures { λ r. ⌜ now (marks .exit) ≡ markedBy page e (now (marks .entry)) ⌝ }
 {
     if page == e.child {
         return;
     }
-    marks[e.child as usize] = true;
+    mark(marks, e.child as usize);
+}
+
+// The narrower one of two ranges has the larger low and the smaller high.
+
+fn larger(x: u64, y: u64) -> u64
+    ensures { λ r. ⌜ r ≡ larger x y ⌝ }
+{
+    if x <= y {
+        return y;
+    }
+    x
+}
+
+fn smaller(x: u64, y: u64) -> u64
+    ensures { λ r. ⌜ r ≡ smaller x y ⌝ }
+{
+    if x <= y {
+        return x;
+    }
+    y
+}
+
+// One certificate more, if its key is asked for and there is room.
+fn tally_key(low: u64, high: u64, room: usize, key: u64, count: usize) -> usize
+    ensures { λ r. ⌜ r ≡ tallied low high room key count ⌝ }
+{
+    if key < low {
+        return count;
+    }
+    if key > high {
+        return count;
+    }
+    if count >= room {
+        return count;
+    }
+    count + 1
+}
+
+fn tally_each(
+    table: &[u8],
+    page: usize,
+    entries: usize,
+    low: u64,
+    high: u64,
+    room: usize,
+    count: usize,
+) -> usize
+    requires { ⌜ ((page + 1) * pageSize ≤ length (now table)) × (entries ≤ leafRoom) ⌝ }
+    ensures { λ r. ⌜ r ≡ tally low high room (readEach certIn certSize entries (drop headerSize (pageAt (now (table .entry)) page))) count ⌝ }
+{
+    let mut found = count;
+    let mut j = 0;
+    while j < entries {
+        found = tally_key(low, high, room, cert_key_at(table, page, j), found);
+        j += 1;
+    }
+    found
+}
+
+// The certificates of a page, as a place shows them, that are asked for.
+fn tally_page(table: &[u8], page: usize, a: Asked, e: Place, count: usize) -> usize
+    requires { ⌜ ((page + 1) * pageSize ≤ length (now table)) × (length (read (now table) page .view .certs) ≤ leafRoom) ⌝ }
+    ensures { λ r. ⌜ r ≡ tallyAt (now (table .entry)) page a e count ⌝ }
+{
+    let head = head_at(table, page);
+    if head.kind != LEAF {
+        return count;
+    }
+    let low = larger(a.low, e.low);
+    let high = smaller(a.high, e.high);
+    tally_each(table, page, head.count as usize, low, high, a.room, count)
+}
+
+// A damaged place ends the walk.
+fn stop(s: Sofar) -> Sofar
+    ensures { λ r. ⌜ r ≡ stopped s ⌝ }
+{
+    Sofar {
+        whole: false,
+        count: s.count,
+    }
+}
+
+// The page walk: what the place's source shows is counted, and walked one level lower.
+fn walk_page(
+    table: &[u8],
+    n: usize,
+    level: usize,
+    a: Asked,
+    parent: u16,
+    top: u16,
+    e: Place,
+    s: Sofar,
+    marks: &mut [bool],
+) -> Sofar
+    requires { ⌜ length (now table) ≡ n * pageSize ⌝ }
+    ensures { λ r. ⌜ sofarAt r (now (marks .exit)) ≡ dry level n a parent top (now (table .entry)) e (sofarAt s (now (marks .entry))) ⌝ }
+{
+    if level == 0 {
+        return stop(s);
+    }
+    if !meets_place(a, e, s.whole, s.count) {
+        return s;
+    }
+    let Source::Page(page) = source_at(table, n, parent, top, marks, e) else {
+        return stop(s);
+    };
+    mark_by(marks, page, e);
+    let i = page as usize;
+    let found = Sofar {
+        whole: true,
+        count: tally_page(table, i, a, e, s.count),
+    };
+    let r = run_in(table, i, e.low, e.high);
+    walk_entries(
+        table,
+        n,
+        level - 1,
+        a,
+        e.child,
+        parent,
+        r,
+        e.high,
+        found,
+        marks,
+    )
+}
+
+// The entry walk: the first entry's page, then the entries behind it.
+fn walk_entries(
+    table: &[u8],
+    n: usize,
+    level: usize,
+    a: Asked,
+    parent: u16,
+    top: u16,
+    r: Run,
+    high: u64,
+    s: Sofar,
+    marks: &mut [bool],
+) -> Sofar
+    requires { ⌜ (length (now table) ≡ n * pageSize) × Lies n r ⌝ }
+    ensures { λ x. ⌜ sofarAt x (now (marks .exit)) ≡ dryEach (dry level n a parent top (now (table .entry))) (places (now (table .entry)) high r) (sofarAt s (now (marks .entry))) ⌝ }
+{
+    if r.left == 0 {
+        return s;
+    }
+    let e = place_in(table, r, high);
+    let found = walk_page(table, n, level, a, parent, top, e, s, marks);
+    walk_entries(
+        table,
+        n,
+        level,
+        a,
+        parent,
+        top,
+        rest_of(r),
+        high,
+        found,
+        marks,
+    )
+}
+
+// The whole walk, from the root on.
+pub fn dry_of(table: &[u8], n: usize, a: Asked) -> Dry
+    requires { ⌜ (length (now table) ≡ n * pageSize) × (fit0 n (now table) ≡ true) ⌝ }
+    ensures { λ r. ⌜ r ≡ dryOf n a (now (table .entry)) ⌝ }
+{
+    let root = root_place(table);
+    let nothing = Sofar {
+        whole: true,
+        count: 0,
+    };
+    let mut mended = [false; MOST];
+    let s = walk_page(table, n, TOP, a, 0, 0, root, nothing, &mut mended);
+    Dry {
+        whole: s.whole,
+        count: s.count,
+        mended,
+    }
 }

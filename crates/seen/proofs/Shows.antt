@@ -55,7 +55,7 @@ module _ (n : ℕ) (t : List ℕ) (e : Place) where
       (ap (λ (i : ℕ). i ∷ []) (sym p) ∙ ap (beside page) (sym (ne-eqb page (e .child) (λ q. o (sym p ∙ q)))))
 
   module _ (long : length t ≡ n * pageSize) where
-    fits-inside : fits n e (read t (e .child)) ≡ true → e .child < n
+    pub fits-inside : fits n e (read t (e .child)) ≡ true → e .child < n
     fits-inside h = go (ltb (e .child) n) refl
       where
         go : (b : Bool) → ltb (e .child) n ≡ b → e .child < n

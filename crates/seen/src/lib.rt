@@ -63,7 +63,7 @@ fn up_to(table: &[u8], page: usize, from: usize, count: usize, key: u64) -> usiz
 }
 
 // The entries of a page with keys in a range; none of a leaf.
-fn run_in(table: &[u8], page: usize, low: u64, high: u64) -> Run
+pub fn run_in(table: &[u8], page: usize, low: u64, high: u64) -> Run
     requires { ⌜ Runs (now table) page ⌝ }
     ensures { λ r. ⌜ r ≡ runOf (now (table .entry)) page low high ⌝ }
 {
@@ -109,7 +109,7 @@ fn shown_at(table: &[u8], n: usize, e: Place) -> Shown
 }
 
 // Whether a number is marked. One beyond the marks never is, and marking it changes nothing.
-fn marked(marks: &[bool], i: usize) -> bool
+pub fn marked(marks: &[bool], i: usize) -> bool
     ensures { λ r. ⌜ r ≡ getD (now (marks .entry)) i false ⌝ }
 {
     if i >= marks.len() {
@@ -118,7 +118,7 @@ fn marked(marks: &[bool], i: usize) -> bool
     marks[i]
 }
 
-fn mark(marks: &mut [bool], i: usize)
+pub fn mark(marks: &mut [bool], i: usize)
     ensures { λ r. ⌜ now (marks .exit) ≡ set (now (marks .entry)) i true ⌝ }
 {
     if i >= marks.len() {
@@ -148,14 +148,14 @@ fn name_place(
 }
 
 // The place that a run's first entry asks for: its range ends before the next entry's key, or with the run's own.
-fn place_in(table: &[u8], r: Run, high: u64) -> Place
+pub fn place_in(table: &[u8], r: Run, high: u64) -> Place
     requires { ⌜ ((r .page + 1) * pageSize ≤ length (now table)) × ((r .first + r .left ≤ innerRoom) × (0 < r .left)) ⌝ }
     ensures { λ e. ⌜ e ≡ placeIn (now (table .entry)) high r ⌝ }
 {
     kid_at(table, r.page, r.first + r.left, r.first, r.want, high)
 }
 
-fn rest_of(r: Run) -> Run
+pub fn rest_of(r: Run) -> Run
     requires { ⌜ (r .first < innerRoom) × (0 < r .left) ⌝ }
     ensures { λ s. ⌜ s ≡ restOf r ⌝ }
 {

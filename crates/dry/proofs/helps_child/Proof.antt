@@ -1,24 +1,27 @@
 use mathlib.Core.Path.{sym, _∙_}
 use Rattle.dry.proofs.Marks.{helps-marked, helps-lies}
+use Rattle.dry.specs.Walk.{marked}
 use borrow.Author.Needs.{needs}
 use Rattle.dry.proofs.helps_child.Statement.{statement}
 use Rattle.dry.proofs.helps_child.Tie as tie
 
-cast-is-marked : tie.Need-cast-is-marked
-cast-is-marked c = search needs
+cast-marked : tie.Need-cast-marked
+cast-marked c = search needs
 
-is-marked-requires : tie.Need-is-marked-requires
-is-marked-requires c κs = search needs
+marked-requires : tie.Need-marked-requires
+marked-requires c κs = search needs
 
 returns : tie.Need-returns
-returns c = helps-marked (c .before .before .before .before .before .args .n) (c .before .before .before .before .before .args .table .now) (c .before .before .before .before .before .args .marks .now) (c .before .before .before .before .before .args .e) (sym (c .before .is-marked .ensures) ∙ c .if1 .taken)
+unfolding marked
+returns c = helps-marked (c .before .before .before .before .before .args .n) (c .before .before .before .before .before .args .table .now) (c .before .before .before .before .before .args .marks .now) (c .before .before .before .before .before .args .e) (sym (c .before .marked .ensures) ∙ c .if1 .taken)
 
 mendable-at-requires : tie.Need-mendable-at-requires
 mendable-at-requires c κs = search needs
 
 returns-2 : tie.Need-returns-2
-returns-2 c = c .mendable-at .ensures ∙ helps-lies (c .before .before .before .before .before .before .args .n) (c .before .before .before .before .before .before .args .table .now) (c .before .before .before .before .before .before .args .marks .now) (c .before .before .before .before .before .before .args .e) (sym (c .before .before .is-marked .ensures) ∙ c .before .if1 .left)
+unfolding marked
+returns-2 c = c .mendable-at .ensures ∙ helps-lies (c .before .before .before .before .before .before .args .n) (c .before .before .before .before .before .before .args .table .now) (c .before .before .before .before .before .before .args .marks .now) (c .before .before .before .before .before .before .args .e) (sym (c .before .before .marked .ensures) ∙ c .before .if1 .left)
 
 pub helps-child-spec : {M : Type 1} → statement M
 helps-child-spec =
-    tie.close (tie.spec cast-is-marked is-marked-requires returns mendable-at-requires returns-2)
+    tie.close (tie.spec cast-marked marked-requires returns mendable-at-requires returns-2)

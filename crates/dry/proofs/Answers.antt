@@ -1,0 +1,39 @@
+-- What the dry walk of a table whose page 0 is fit tells of the rules' walk over the same table, from the root on.
+use Prim.Native.Nat.{ℕ, _*_, _-_, _^_, _≤_, _<_}
+use native.Mathlib.Omega.{arith}
+use mathlib.Core.Path.{_≡_, sym}
+use mathlib.Core.Bool.{true}
+use mathlib.Core.List.{List}
+use lib.ListN.{length}
+use Rattle.fields.specs.Field.{Bytes}
+use Rattle.rules.specs.Layout.{pageSize, mostPages}
+use Rattle.rules.specs.Test.{between}
+use Rattle.rules.specs.Table.{fit0, root0}
+use Rattle.rules.specs.Walk.{walkOf}
+use Rattle.rules.specs.declared.Asked.{Asked}
+use Rattle.rules.proofs.Tests.{every-true, between-low, between-high}
+use Rattle.dry.specs.Walk.{dryOf}
+use Rattle.dry.proofs.Decides.{dry-decides}
+
+module _ (n : ℕ) (t : List ℕ) (fit : fit0 n t ≡ true) where
+  fit-root : between 1 (n - 1) (root0 t) ≡ true
+  unfolding fit0
+  fit-root = every-true _ fit .1 .1 .0
+
+  root-from : 1 ≤ root0 t
+  root-from = between-low 1 (n - 1) (root0 t) fit-root
+
+  root-below : root0 t < n
+  root-below = omega (arith, root-from, between-high 1 (n - 1) (root0 t) fit-root)
+
+  module _ (long : length t ≡ n * pageSize) where
+    -- page 0 is there
+    pub has-zero : pageSize ≤ length t
+    has-zero = omega (arith, long, root-below)
+
+    module _ (c : ℕ) (a : Asked) (most : n ≤ mostPages) (bytes : Bytes t) (narrow : c < 256 ^ 4) where
+      pub dry-whole : dryOf n a t .whole ≡ walkOf n c a t .whole
+      dry-whole = sym (dry-decides n c a t most narrow long bytes root-from root-below .0)
+
+      pub dry-count : dryOf n a t .count ≡ length (walkOf n c a t .found)
+      dry-count = sym (dry-decides n c a t most narrow long bytes root-from root-below .1)

@@ -1,0 +1,132 @@
+-- The steps of the page walk and the entry walk, by the run of entries that a place's source shows. Assumes nothing.
+use Prim.Native.Nat.{ℕ, zero, suc, _+_, _*_, _-_, _≤_, _<_}
+use native.Mathlib.Omega.{arith}
+use mathlib.Core.Path.{_≡_, refl, ap, sym, subst, _∙_}
+use mathlib.Core.Bool.{Bool, true, false}
+use mathlib.Core.List.{List, [], _∷_}
+use lib.ListN.{length}
+use Rattle.rules.specs.Layout.{pageSize, leafRoom}
+use Rattle.rules.specs.Test.{mem}
+use Rattle.rules.specs.Table.{read}
+use Rattle.rules.specs.Place.{kids, cutView}
+use Rattle.rules.specs.declared.Asked.{Asked}
+use Rattle.rules.specs.declared.Place.{Place}
+use Rattle.rules.proofs.Sounds.{Sound}
+use Rattle.rules.proofs.Places.{fits-true, mendable-true}
+use Rattle.seen.specs.declared.Run.{Run}
+use Rattle.seen.specs.Run.{runOf, placeIn, places, restOf, Runs, Lies}
+use Rattle.seen.proofs.Spans.{places-none, places-more}
+use Rattle.seen.proofs.Looks.{runs-sound, lies-sound, places-sound}
+use Rattle.seen.proofs.Shows.{fits-inside}
+use Rattle.dry.specs.Walk.{keeps, helps, meets, counts, breaks, dryEach, dry}
+use Rattle.dry.specs.Source.{source, markedBy}
+use Rattle.dry.specs.Count.{tally, tallyAt, sofarAt, stopped}
+use Rattle.dry.specs.declared.Dry.{Dry}
+use Rattle.dry.specs.declared.Sofar.{Sofar}
+use Rattle.dry.specs.declared.Source.{Source}
+use Rattle.dry.proofs.Sources.{source-above, source-child, source-previous, source-none, same-page, never, keeps-fits, helps-mendable}
+use Rattle.dry.proofs.Steps.{step-goes}
+
+-- ── The source of a place ───────────────────────────────────────────────────────────────────────────────────────
+
+-- a sound page of the table
+pub record Sourced (n : ℕ) (t : List ℕ) (i : ℕ) : Type 0 where
+  pub low : ℕ
+  pub high : ℕ
+  pub sound : Sound n low high (read t i .view)
+  pub inside : i < n
+
+module _ (n : ℕ) (t : List ℕ) (long : length t ≡ n * pageSize) where
+  module _ (above : List ℕ) (m : List Bool) (e : Place) where
+    sourced-child : keeps n t m e ≡ true → Sourced n t (e .child)
+    sourced-child k =
+        let f = keeps-fits n above t m e k in
+        record { low = e .low; high = e .high; sound = fits-true n e (read t (e .child)) f .sound; inside = fits-inside n t e long f }
+
+    sourced-previous : helps n t m e ≡ true → Sourced n t (e .previous)
+    sourced-previous k =
+        let q = mendable-true n e (read t (e .previous)) (helps-mendable n above t m e k) in
+        record { low = read t (e .previous) .low; high = read t (e .previous) .high; sound = q .sound; inside = q .below }
+
+    pub sourced : (i : ℕ) → source n above t m e ≡ Source.Page i → Sourced n t i
+    sourced i s = go (mem (e .child) above) refl (keeps n t m e) refl (helps n t m e) refl
+      where
+        go : (a : Bool) → mem (e .child) above ≡ a → (b : Bool) → keeps n t m e ≡ b → (d : Bool) → helps n t m e ≡ d → Sourced n t i
+        go true p b q d r = absurd (never n above t m e i (source-above n above t m e p ∙ s))
+        go false p true q d r =
+            subst (Sourced n t) (same-page n above t m e (e .child) i (source-child n above t m e p q ∙ s)) (sourced-child q)
+        go false p false q true r =
+            subst (Sourced n t) (same-page n above t m e (e .previous) i (source-previous n above t m e p q r ∙ s)) (sourced-previous r)
+        go false p false q false r = absurd (never n above t m e i (source-none n above t m e p q r ∙ s))
+
+  module _ (i : ℕ) (s : Sourced n t i) where
+    pub source-counts : ((i + 1) * pageSize ≤ length t) × (length (read t i .view .certs) ≤ leafRoom)
+    source-counts = (omega (arith, s .inside, long), s .sound .certs-room)
+
+    pub source-runs : Runs t i
+    source-runs = runs-sound n (s .low) (s .high) t i (s .sound) (s .inside) long
+
+    pub source-lies : (low high : ℕ) (r : Run) → r ≡ runOf t i low high → Lies n r
+    source-lies low high r h = subst (Lies n) (sym h) (lies-sound n (s .low) (s .high) t i (s .sound) low high (s .inside))
+
+  -- ── A page ────────────────────────────────────────────────────────────────────────────────────────────────────
+
+  module _ (a : Asked) (parent top : ℕ) (e : Place) (s : Sofar) (m : List Bool) where
+    abbrev counted : ℕ → List Bool → Dry
+    counted count marks = record { whole = true; count = count; mended = marks }
+
+    page-shows : (l i : ℕ) → meets a e (sofarAt s m) ≡ true → source n (parent ∷ top ∷ []) t m e ≡ Source.Page i
+        → dryEach (dry l n a (e .child) parent t) (places t (e .high) (runOf t i (e .low) (e .high)))
+        (counted (tallyAt t i a e (s .count)) (markedBy i e m))
+        ≡ dry (suc l) n a parent top t e (sofarAt s m)
+    unfolding counts tallyAt tally
+    page-shows l i h p =
+        let q = sourced (parent ∷ top ∷ []) m e i p in
+        ap
+        (λ (es : List Place). dryEach (dry l n a (e .child) parent t) es (counted (tallyAt t i a e (s .count)) (markedBy i e m)))
+        (sym (places-sound n (q .low) (q .high) t i (q .sound) e))
+        ∙ step-goes n a parent top t e (sofarAt s m) l i h p
+
+    -- as code takes the step
+    pub page-goes : (level i count : ℕ) (marks : List Bool) (r : Run) (x : Dry) → (level ≡ 0 → ⊥) → meets a e (sofarAt s m) ≡ true
+        → source n (parent ∷ top ∷ []) t m e ≡ Source.Page i → marks ≡ markedBy i e m → count ≡ tallyAt t i a e (s .count)
+        → r ≡ runOf t i (e .low) (e .high)
+        → x ≡ dryEach (dry (level - 1) n a (e .child) parent t) (places t (e .high) r) (counted count marks)
+        → x ≡ dry level n a parent top t e (sofarAt s m)
+    page-goes zero i count marks r x z h p u v w y = absurd (z refl)
+    page-goes (suc l) i count marks r x z h p u v w y =
+        let k : suc l - 1 ≡ l = omega arith in
+        y
+        ∙ ap (λ (j : ℕ). dryEach (dry j n a (e .child) parent t) (places t (e .high) r) (counted count marks)) k
+        ∙ ap (λ (q : Run). dryEach (dry l n a (e .child) parent t) (places t (e .high) q) (counted count marks)) w
+        ∙ ap (λ (j : ℕ). dryEach (dry l n a (e .child) parent t) (places t (e .high) (runOf t i (e .low) (e .high))) (counted j marks)) v
+        ∙ ap
+        (λ (b : List Bool). dryEach (dry l n a (e .child) parent t) (places t (e .high) (runOf t i (e .low) (e .high))) (counted (tallyAt t i a e (s .count)) b))
+        u
+        ∙ page-shows l i h p
+
+-- a walk that stops is broken
+pub stop-breaks : (s x : Sofar) (m : List Bool) → x ≡ stopped s → sofarAt x m ≡ breaks (sofarAt s m)
+unfolding breaks
+stop-breaks s x m h = ap (λ (y : Sofar). sofarAt y m) h
+
+-- ── A run of entries ────────────────────────────────────────────────────────────────────────────────────────────
+
+module _ (f : Place → Dry → Dry) (t : List ℕ) (high : ℕ) (r : Run) (d : Dry) where
+  pub run-none : r .left ≡ 0 → d ≡ dryEach f (places t high r) d
+  unfolding dryEach
+  run-none h = sym (ap (λ (es : List Place). dryEach f es d) (places-none t high r h))
+
+  run-more : 0 < r .left → dryEach f (places t high (restOf r)) (f (placeIn t high r) d) ≡ dryEach f (places t high r) d
+  unfolding dryEach
+  run-more h = sym (ap (λ (es : List Place). dryEach f es d) (places-more t high r h))
+
+  -- as code takes the step
+  pub run-step : (e : Place) (q : Run) (x y : Dry) → 0 < r .left → e ≡ placeIn t high r → q ≡ restOf r → x ≡ f e d
+      → y ≡ dryEach f (places t high q) x → y ≡ dryEach f (places t high r) d
+  run-step e q x y h p k u v =
+      v
+      ∙ ap (λ (z : Dry). dryEach f (places t high q) z) u
+      ∙ ap (λ (z : Run). dryEach f (places t high z) (f e d)) k
+      ∙ ap (λ (z : Place). dryEach f (places t high (restOf r)) (f z d)) p
+      ∙ run-more h

@@ -1,0 +1,24 @@
+use mathlib.Core.Path.{ap, _∙_}
+use Rattle.rules.specs.declared.Place.{Place}
+use Rattle.dry.specs.Walk.{dry, untouched, dryOf}
+use Rattle.dry.proofs.Answers.{has-zero}
+use borrow.Author.Needs.{needs}
+use Rattle.dry.proofs.dry_of.Statement.{statement}
+use Rattle.dry.proofs.dry_of.Tie as tie
+
+root-place-requires : tie.Need-root-place-requires
+root-place-requires c κs = has-zero (c .before .args .n) (c .before .args .table .now) (c .before .pre .1) (c .before .pre .0)
+
+slice-aggregate-walk-page : tie.Need-slice-aggregate-walk-page
+slice-aggregate-walk-page c = search needs
+
+walk-page-requires : tie.Need-walk-page-requires
+walk-page-requires c κs = search needs
+
+returns : tie.Need-returns
+unfolding untouched dryOf
+returns c = c .before .walk-page .ensures ∙ ap (λ (e : Place). dry 3 (c .before .before .before .before .before .args .n) (c .before .before .before .before .before .args .a) 0 0 (c .before .before .before .before .before .args .table .now) e untouched) (c .before .before .before .root-place .ensures)
+
+pub dry-of-spec : {M : Type 1} → statement M
+dry-of-spec =
+    tie.close (tie.spec root-place-requires slice-aggregate-walk-page walk-page-requires returns)

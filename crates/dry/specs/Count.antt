@@ -1,0 +1,40 @@
+-- How many certificates a dry walk has counted, page by page, and what it has come to.
+use Prim.Native.Nat.{ℕ, _+_, _-_}
+use mathlib.Core.Bool.{Bool, true, false, _&&_}
+use mathlib.Core.List.{List}
+use lib.Dec.{leb, ltb}
+use lib.ListN.{length, take}
+use Rattle.rules.specs.Test.{between}
+use Rattle.rules.specs.Entry.{Cert, cut}
+use Rattle.rules.specs.Table.{read}
+use Rattle.rules.specs.Place.{cutView}
+use Rattle.rules.specs.declared.Asked.{Asked}
+use Rattle.rules.specs.declared.Place.{Place}
+use Rattle.dry.specs.declared.Dry.{Dry}
+use Rattle.dry.specs.declared.Sofar.{Sofar}
+
+unfoldable pub larger : ℕ → ℕ → ℕ
+larger x y = elim (leb x y) [ true ↦ y | false ↦ x ]
+
+unfoldable pub smaller : ℕ → ℕ → ℕ
+smaller x y = elim (leb x y) [ true ↦ x | false ↦ y ]
+
+-- one certificate more, if its key is in a range and there is room
+unfoldable pub tallied : ℕ → ℕ → ℕ → ℕ → ℕ → ℕ
+tallied low high room key count = elim (between low high key && ltb count room) [ true ↦ count + 1 | false ↦ count ]
+
+-- as many more as have keys in a range, while there is room
+unfoldable pub tally : ℕ → ℕ → ℕ → List Cert → ℕ → ℕ
+tally low high room xs count = count + length (take (room - count) (cut low high xs))
+
+-- those of a page, as a place shows them
+unfoldable pub tallyAt : List ℕ → ℕ → Asked → Place → ℕ → ℕ
+tallyAt t page a e count =
+    tally (a .low) (a .high) (a .room) (cutView (e .low) (e .high) (read t page .view) .certs) count
+
+-- what a walk has come to, with the marks that are lent to it
+abbrev pub sofarAt : Sofar → List Bool → Dry
+sofarAt s m = record { whole = s .whole; count = s .count; mended = m }
+
+abbrev pub stopped : Sofar → Sofar
+stopped s = record { whole = false; count = s .count }
