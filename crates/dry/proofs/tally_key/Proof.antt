@@ -11,7 +11,7 @@ returns-2 : tie.Need-returns-2
 returns-2 c = tallied-high (c .before .before .args .low) (c .before .before .args .high) (c .before .before .args .room) (c .before .before .args .key) (c .before .before .args .count) (c .if2 .taken)
 
 returns-3 : tie.Need-returns-3
-returns-3 c = tallied-full (c .before .before .before .args .low) (c .before .before .before .args .high) (c .before .before .before .args .room) (c .before .before .before .args .key) (c .before .before .before .args .count) (c .if3 .taken)
+returns-3 c = tallied-full (c .before .before .before .args .low) (c .before .before .before .args .high) (c .before .before .before .args .room) (c .before .before .before .args .key) (c .before .before .before .args .count) (omega (arith, c .if3 .taken))
 
 add-result : tie.Need-add-result
 add-result c = search needs

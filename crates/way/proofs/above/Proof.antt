@@ -1,0 +1,9 @@
+use mathlib.Core.Path.{refl}
+use Rattle.way.proofs.above.Statement.{statement}
+use Rattle.way.proofs.above.Tie as tie
+
+returns : tie.Need-returns
+returns c = refl
+
+pub above-spec : {M : Type 1} → statement M
+above-spec = tie.close (tie.spec returns)
