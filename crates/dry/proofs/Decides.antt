@@ -2,23 +2,22 @@
 --
 -- Walks go in key order. So a page mended on the way is of a higher kind than the page now asked for, or it ends before
 -- the range now asked for (`Passed`); this one fact is carried through both walks, side by side.
-use Prim.Native.Nat.{ℕ, zero, suc, _+_, _*_, _-_, _^_, _≤_, _<_}
+use Prim.Native.Nat.{ℕ, zero, suc, _*_, _-_, _^_, _≤_, _<_}
 use native.Mathlib.Omega.{arith}
 use mathlib.Core.Path.{_≡_, refl, sym, ap, _∙_}
 use mathlib.Core.Logic.{_⊎_, inl, inr, _≢_}
 use mathlib.Core.Bool.{Bool, true, false, _||_}
-use mathlib.Core.List.{List, [], _∷_, _++_}
-use mathlib.Core.Option.{Option, some, none}
+use mathlib.Core.List.{List, [], _∷_}
+use mathlib.Core.Option.{none}
 use lib.Dec.{eqb, lit<}
 use borrow.Author.Tests.{ne-eqb}
 use lib.ListN.{length, getD, replicate, length-append, length-replicate}
 use Rattle.fields.specs.Field.{Bytes}
-use Rattle.rules.specs.Layout.{pageSize, leafKind, topKind, lastKey, mostPages}
+use Rattle.rules.specs.Layout.{pageSize, topKind, mostPages}
 use Rattle.rules.specs.Test.{mem}
 use Rattle.rules.specs.Entry.{Child}
-use Rattle.rules.specs.Page.{View, Page, isLeaf}
+use Rattle.rules.specs.Page.{View, isLeaf}
 use Rattle.rules.specs.Place.{rootPlace, highBefore, placeOf, placesIn, kids}
-use Rattle.rules.specs.Enter.{Entered, damaged, enter}
 use Rattle.rules.specs.Walk.{Walked, enters, finds, stops, walkEach, walk, walkOf}
 use Rattle.rules.specs.declared.Asked.{Asked}
 use Rattle.rules.specs.declared.Place.{Place}
@@ -26,11 +25,11 @@ use Rattle.fields.proofs.Field.{leAt-bound}
 use Rattle.rules.specs.Table.{root0, birth0}
 use Rattle.rules.proofs.Tests.{not-both}
 use Rattle.rules.proofs.Views.{inner-kind}
-use Rattle.dry.specs.Walk.{marked, Sight, sightOf, sight, meetsWith, meets, counts, breaks, dryEach, dry, untouched, dryOf}
+use Rattle.dry.specs.Walk.{marked, meetsWith, meets, counts, breaks, dryEach, dry, untouched, dryOf}
 use Rattle.dry.specs.declared.Dry.{Dry}
-use Rattle.dry.proofs.Chains.{Chain, end, link, chain-sound}
+use Rattle.dry.proofs.Chains.{Chain, link, chain-sound}
 use Rattle.dry.proofs.Passed.{Asks, Kept, Passed, passed-on}
-use Rattle.dry.proofs.Sights.{entered, Shows, Met, neither, both, met}
+use Rattle.dry.proofs.Sights.{Shows, Met, neither, both, met}
 
 -- ── Two walks side by side ──────────────────────────────────────────────────────────────────────────────────────
 

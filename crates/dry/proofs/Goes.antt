@@ -8,7 +8,6 @@ use lib.ListN.{length}
 use Rattle.rules.specs.Layout.{pageSize, leafRoom}
 use Rattle.rules.specs.Test.{mem}
 use Rattle.rules.specs.Table.{read}
-use Rattle.rules.specs.Place.{kids, cutView}
 use Rattle.rules.specs.declared.Asked.{Asked}
 use Rattle.rules.specs.declared.Place.{Place}
 use Rattle.rules.proofs.Sounds.{Sound}

@@ -6,12 +6,12 @@ use mathlib.Core.List.{List}
 use lib.ListN.{length}
 use Rattle.fields.specs.Field.{Bytes}
 use Rattle.rules.specs.Table.{fit0}
-use Rattle.rules.specs.Walk.{Walked, walkOf}
+use Rattle.rules.specs.Walk.{walkOf}
 use Rattle.rules.specs.Call.{lengthsFor}
 use Rattle.rules.specs.List.{ListLeft, upFrom, listDone, listRefused, listFrom, list}
 use Rattle.rules.specs.declared.Session.{Session}
 use Rattle.rules.specs.declared.Listed.{Listed}
-use Rattle.rules.proofs.Lengths.{Tables, lengthsFor-true}
+use Rattle.rules.proofs.Lengths.{lengthsFor-true}
 use Rattle.dry.specs.Walk.{dryOf}
 use Rattle.dry.proofs.Answers.{dry-whole, dry-count}
 

@@ -1,15 +1,14 @@
 -- Places that were passed: a page mended on the way is of a higher kind than is asked for now, or ends before the range
 -- asked for now. So it neither fits nor helps. Assumes nothing.
-use Prim.Native.Nat.{ℕ, suc, _*_, _^_, _≤_, _<_}
+use Prim.Native.Nat.{ℕ, _*_, _^_, _≤_, _<_}
 use native.Mathlib.Omega.{arith}
-use mathlib.Core.Path.{_≡_, refl, sym, ap, _∙_}
+use mathlib.Core.Path.{_≡_, refl, ap}
 use mathlib.Core.Logic.{_⊎_, inl, inr}
 use mathlib.Core.Bool.{Bool, true, false, not, _&&_}
 use mathlib.Core.List.{List}
 use lib.ListN.{length}
 use Rattle.fields.specs.Field.{Bytes}
 use Rattle.rules.specs.Layout.{pageSize, topKind, mostPages}
-use Rattle.rules.specs.Page.{Page}
 use Rattle.rules.specs.Table.{read}
 use Rattle.rules.specs.Place.{fits, mendable}
 use Rattle.rules.specs.declared.Place.{Place}

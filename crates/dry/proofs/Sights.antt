@@ -1,18 +1,18 @@
 -- Entering and its dry sight, one place: both are damaged, or both show the same and what was mended now is passed in
 -- turn. Assumes nothing.
-use Prim.Native.Nat.{ℕ, suc, _+_, _*_, _-_, _^_, _≤_, _<_}
+use Prim.Native.Nat.{ℕ, _*_, _-_, _^_, _≤_, _<_}
 use native.Mathlib.Omega.{arith}
 use mathlib.Core.Path.{_≡_, refl, sym, ap, _∙_, subst}
 use mathlib.Core.Logic.{_⊎_, inl, inr, _≢_}
 use mathlib.Core.Bool.{Bool, true, false}
 use mathlib.Core.List.{List}
-use mathlib.Core.Option.{Option, some, none}
+use mathlib.Core.Option.{some, none}
 use borrow.Author.Tests.{eqb-true, eqb-false}
 use lib.Dec.{eqb}
-use lib.ListN.{length, set, getD, length-set}
+use lib.ListN.{length, set, length-set}
 use lib.Seq.{getD-set-same, getD-set-other}
 use Rattle.fields.specs.Field.{Bytes}
-use Rattle.rules.specs.Layout.{pageSize, topKind, mostPages}
+use Rattle.rules.specs.Layout.{pageSize, mostPages}
 use Rattle.rules.specs.Test.{mem}
 use Rattle.rules.specs.Page.{View, Page, fresh}
 use Rattle.rules.specs.Table.{read, build}
@@ -26,7 +26,7 @@ use Rattle.rules.proofs.Widths.{wide-mended}
 use Rattle.rules.proofs.Tables.{Has, has-page, Room, wide-read, bytes-build, length-build, read-build-same, read-build-other}
 use Rattle.rules.proofs.Sounds.{Sound}
 use Rattle.rules.proofs.Places.{Fits, fits-true, Mendable, mendable-true, mended-view-sound}
-use Rattle.dry.specs.Walk.{marked, keeps, helps, Sight, sightOf, sightMended, sight}
+use Rattle.dry.specs.Walk.{marked, keeps, sightOf, sightMended, sight}
 use Rattle.dry.proofs.Passed.{Asks, Kept, Passed, passed-on, fits-keeps, mendable-helps, read-fits, read-helps}
 
 abbrev pub entered : List ℕ → Page → Entered

@@ -7,7 +7,7 @@ use lib.Dec.{leb, ltb}
 use lib.ListN.{length, take, getD, set, replicate}
 use Rattle.rules.specs.Layout.{topKind, mostPages}
 use Rattle.rules.specs.Test.{every, mem}
-use Rattle.rules.specs.Entry.{Cert, cut}
+use Rattle.rules.specs.Entry.{cut}
 use Rattle.rules.specs.Page.{View}
 use Rattle.rules.specs.Table.{read}
 use Rattle.rules.specs.Place.{rootPlace, kids, fits, mendable, cutView}

@@ -3,9 +3,8 @@ use mathlib.Core.Path.{ap, sym, _∙_}
 use mathlib.Core.List.{[], _∷_}
 use Rattle.seen.specs.declared.Run.{Run}
 use Rattle.seen.proofs.Trees.{lies-rest}
-use Rattle.dry.specs.Walk.{dry, dryEach}
+use Rattle.dry.specs.Walk.{dry}
 use Rattle.dry.specs.Count.{sofarAt}
-use Rattle.dry.specs.declared.Sofar.{Sofar}
 use Rattle.dry.proofs.Steps.{step-deep, step-passes, step-damaged}
 use Rattle.dry.proofs.Goes.{sourced, source-counts, source-runs, source-lies, page-goes, run-none, run-step, stop-breaks}
 use borrow.Author.Needs.{needs}
