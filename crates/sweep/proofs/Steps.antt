@@ -94,7 +94,7 @@ walk-none : (n c : ℕ) (a : Asked) (xs ys : List ℕ) (e : Place) (w : Walked) 
 unfolding walk
 walk-none n c a xs ys e w = refl
 
-below-same : (level n c : ℕ) (a : Asked) (x : Above) (e : Place) (es : List Place) (w : Walked) → level ≤ 2
+pub below-same : (level n c : ℕ) (a : Asked) (x : Above) (e : Place) (es : List Place) (w : Walked) → level ≤ 2
     → walkEach (walk level n c a (aboveAt level (belowOf x e))) es w ≡ walkEach (walk level n c a (e .child ∷ aboveAt (suc level) x)) es w
 unfolding aboveAt
 below-same zero n c a x e es w h =
@@ -125,7 +125,7 @@ module _ (t : List ℕ) (page : ℕ) (r : Run) where
       length-places (r .want) (r .high) (readEach childIn childSize (r .count) (drop headerSize (pageAt t page)))
       ∙ length-readEach childIn childSize (r .count) (drop headerSize (pageAt t page))
 
-  left-none : r .left ≡ 0 → placesLeft t page r ≡ []
+  pub left-none : r .left ≡ 0 → placesLeft t page r ≡ []
   unfolding placesLeft
   left-none h =
       let l : length (places t page r) ≤ r .count - r .left = omega (arith, length-run) in
@@ -139,7 +139,7 @@ module _ (t : List ℕ) (page : ℕ) (r : Run) where
       drop-cons (places t page r) (r .count - r .left) nowhere (omega arith)
       ∙ ap (λ (k : ℕ). firstOf t page r ∷ drop k (places t page r)) q
 
-  left-same : (u : List ℕ) → pageAt u page ≡ pageAt t page → placesLeft u page r ≡ placesLeft t page r
+  pub left-same : (u : List ℕ) → pageAt u page ≡ pageAt t page → placesLeft u page r ≡ placesLeft t page r
   unfolding placesLeft places
   left-same u h = rw h
 
@@ -164,7 +164,7 @@ module _ (u : List ℕ) (e : Place) (h : Head) (f : h ≡ headOf (read u (e .chi
       ∙ (ap (λ (m : ℕ). placesIn (leAt b 0 2 - 1) (e .high) (readEach childIn childSize m (drop headerSize b))) (count-here u (e .child) h f)
       ∙ sym (kids-inner e b (λ p. q (k ∙ p))))))
 
-  run-kids : placesLeft u (e .child) (runOf e h) ≡ kids e (read u (e .child) .view)
+  pub run-kids : placesLeft u (e .child) (runOf e h) ≡ kids e (read u (e .child) .view)
   run-kids = go (eqb (h .kind) leafKind) refl
     where
       go : (k : Bool) → eqb (h .kind) leafKind ≡ k → placesLeft u (e .child) (runOf e h) ≡ kids e (read u (e .child) .view)
@@ -191,16 +191,16 @@ module _ (u : List ℕ) (e : Place) (h : Head) (f : h ≡ headOf (read u (e .chi
 -- ── The rules' walk, by the answer of entering ──────────────────────────────────────────────────────────────────
 
 module _ (m n c : ℕ) (a : Asked) (xs : List ℕ) (e : Place) (w : Walked) where
-  walk-past : enters a e w ≡ false → walk (suc m) n c a xs e w ≡ w
+  pub walk-past : enters a e w ≡ false → walk (suc m) n c a xs e w ≡ w
   unfolding walk
   walk-past h = rw (walk, h)
 
-  walk-damaged : enters a e w ≡ true → entry.enter n c xs (w .table) e .page ≡ none
+  pub walk-damaged : enters a e w ≡ true → entry.enter n c xs (w .table) e .page ≡ none
       → walk (suc m) n c a xs e w ≡ stops w (entry.enter n c xs (w .table) e .table)
   unfolding walk
   walk-damaged h p = rw (walk, h, p)
 
-  walk-entered : enters a e w ≡ true → (p : Page) → entry.enter n c xs (w .table) e .page ≡ some p
+  pub walk-entered : enters a e w ≡ true → (p : Page) → entry.enter n c xs (w .table) e .page ≡ some p
       → walk (suc m) n c a xs e w
       ≡ walkEach (walk m n c a (e .child ∷ xs)) (kids e (p .view)) (finds a (p .view) w (entry.enter n c xs (w .table) e .table))
   unfolding walk
@@ -227,7 +227,7 @@ module _ (level n c : ℕ) (a : Asked) (x : Above) (e : Place) (t : List ℕ) (s
         ∙ ap (λ (k : ℕ). told (walk k n c a (aboveAt level x) e w)) one)
 
     module _ (h : entersBy a e s ≡ true) (l : length t ≡ n * pageSize) (b : Bytes t) (d : Deep level x) (r : Ready n c e) (u : List ℕ) where
-      as-rules : entry.enter n c (entering.aboveOf x) t e ≡ entry.enter n c (aboveAt level x) t e
+      pub as-rules : entry.enter n c (entering.aboveOf x) t e ≡ entry.enter n c (aboveAt level x) t e
       as-rules = enter-same n c (entering.aboveOf x) (aboveAt level x) t e (above-same level x (e .child) o d (r .child-from))
 
       -- the same in the walk's table
@@ -245,19 +245,19 @@ module _ (level n c : ℕ) (a : Asked) (x : Above) (e : Place) (t : List ℕ) (s
           ∙ ap (λ (k : ℕ). told (walk k n c a (aboveAt level x) e w)) one))
 
       module _ (hd : Head) (f : entering.entering u (Entered.Page hd) ≡ entering.told (entry.enter n c (entering.aboveOf x) t e)) where
-        page : (p : Page) × (entry.enter n c (aboveAt level x) t e .page ≡ some p) × (hd ≡ headOf p)
+        pub page : (p : Page) × (entry.enter n c (aboveAt level x) t e .page ≡ some p) × (hd ≡ headOf p)
         page = told-page hd (entry.enter n c (aboveAt level x) t e) (f ∙ ap entering.told as-rules)
 
-        table : u ≡ entry.enter n c (aboveAt level x) t e .table
+        pub table : u ≡ entry.enter n c (aboveAt level x) t e .table
         table = told-table (entry.enter n c (aboveAt level x) t e) (f ∙ ap entering.told as-rules)
 
-        here : read u (e .child) ≡ page .0
+        pub here : read u (e .child) ≡ page .0
         here = ap (λ (v : List ℕ). read v (e .child)) table ∙ page-here t r l b (aboveAt level x) (page .0) (page .1)
 
         pub head-here : hd ≡ headOf (read u (e .child))
         head-here = page .2 ∙ ap headOf (sym here)
 
-        fits : Fits n e (read u (e .child))
+        pub fits : Fits n e (read u (e .child))
         fits = subst (Fits n e) (sym here) (page-fits t r l b (aboveAt level x) (page .0) (page .1))
 
         pub certs-room : length (read u (e .child) .view .certs) ≤ leafRoom
@@ -309,7 +309,7 @@ module _ (level n c : ℕ) (a : Asked) (x : Above) (run : Run) (t : List ℕ) (s
   unfolding walkEach
   step-none h w q = q ∙ ap (λ (es : List Place). told (walkEach (walk level n c a (aboveAt level x)) es w)) (sym (left-none t (x .parent) run h))
 
-  parent-above : (k : ℕ) → k ≤ 2 → mem (x .parent) (aboveAt k x) ≡ true
+  pub parent-above : (k : ℕ) → k ≤ 2 → mem (x .parent) (aboveAt k x) ≡ true
   unfolding aboveAt
   parent-above zero h = mem-head (x .parent) (x .top ∷ [])
   parent-above (suc zero) h = mem-head (x .parent) (x .top ∷ [])
@@ -317,12 +317,12 @@ module _ (level n c : ℕ) (a : Asked) (x : Above) (run : Run) (t : List ℕ) (s
   parent-above (suc (suc (suc k))) h = absurd (omega arith)
 
   module _ (l : length t ≡ n * pageSize) (b : Bytes t) (m : level ≤ 2) (y : Lies n c t (x .parent) run) (o : 1 ≤ run .left) (e : Place) (g : e ≡ firstOf t (x .parent) run) where
-    places-more : placesLeft t (x .parent) run ≡ e ∷ placesLeft t (x .parent) (restOf run)
+    pub places-more : placesLeft t (x .parent) run ≡ e ∷ placesLeft t (x .parent) (restOf run)
     places-more =
         left-more t (x .parent) run o (y .left)
         ∙ ap (λ (d : Place). d ∷ placesLeft t (x .parent) (restOf run)) (sym g)
 
-    both : All (Ready n c) (e ∷ placesLeft t (x .parent) (restOf run))
+    pub both : All (Ready n c) (e ∷ placesLeft t (x .parent) (restOf run))
     both = subst (All (Ready n c)) places-more (y .ready)
 
     pub first-ready : Ready n c e

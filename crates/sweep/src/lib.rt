@@ -42,7 +42,7 @@ pub struct Run {
     pub high: u64,
 }
 
-fn enters(a: Asked, e: Place, s: Sofar) -> bool
+pub fn enters(a: Asked, e: Place, s: Sofar) -> bool
     ensures { λ r. ⌜ r ≡ entersBy a e s ⌝ }
 {
     if !s.whole {
@@ -117,7 +117,7 @@ fn note_page(t: &[u8], page: usize, head: Head, a: Asked, s: Sofar) -> Sofar
 }
 
 // The entries of a page that was entered; a leaf has none to walk.
-fn run_of(e: Place, head: Head) -> Run
+pub fn run_of(e: Place, head: Head) -> Run
     requires { ⌜ 1 ≤ head .kind ⌝ }
     ensures { λ r. ⌜ r ≡ runOf e head ⌝ }
 {
@@ -141,14 +141,14 @@ fn run_of(e: Place, head: Head) -> Run
 
 // The place that a run's first entry asks for, and the run behind it.
 
-fn first_of(t: &[u8], page: usize, run: Run) -> Place
+pub fn first_of(t: &[u8], page: usize, run: Run) -> Place
     requires { ⌜ ((page + 1) * pageSize ≤ length (now t)) × (1 ≤ run .left) × (run .left ≤ run .count) × (run .count ≤ innerRoom) ⌝ }
     ensures { λ r. ⌜ r ≡ firstOf (now (t .entry)) page run ⌝ }
 {
     head::kid_at(t, page, run.count, run.count - run.left, run.want, run.high)
 }
 
-fn rest_of(mut run: Run) -> Run
+pub fn rest_of(mut run: Run) -> Run
     requires { ⌜ 1 ≤ run .left ⌝ }
     ensures { λ r. ⌜ r ≡ restOf run ⌝ }
 {

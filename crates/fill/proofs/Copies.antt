@@ -1,0 +1,134 @@
+-- Certificates copied into the two lists one by one. Assumes nothing.
+use mathlib.Core.Path.{_≡_, refl, sym, ap, _∙_}
+use mathlib.Core.Bool.{Bool}
+use mathlib.Core.List.{List, [], _∷_, _++_, append-assoc}
+use Prim.Native.Nat.{ℕ, zero, suc, _+_, _-_, _*_, _≤_, _<_}
+use native.Mathlib.Nat.{add-zero, mul-add, add-assoc}
+use native.Mathlib.Numerals.{add-one}
+use native.Mathlib.Omega.{arith}
+use lib.ListN.{length, take, drop, getD, set, length-append}
+use lib.Seq.{paste, paste-zero, paste-suc, take-nil, take-length, drop-drop}
+use Rattle.rules.specs.Layout.{headerSize, certSize}
+use Rattle.rules.specs.Entry.{Entry, Cert, keys, cut}
+use Rattle.rules.specs.Page.{readEach, certIn, over}
+use Rattle.rules.specs.List.{recordsOf}
+use Rattle.rules.specs.declared.Asked.{Asked}
+use Rattle.rules.proofs.Each.{length-readEach, readEach-at}
+use Rattle.rules.proofs.Over.{take-over, drop-over-behind}
+use Rattle.rules.proofs.Rises.{length-keys, getD-keys, keys-append}
+use Rattle.head.specs.Head.{certAt}
+use Rattle.fill.specs.Fills.{Lists, listing, listsOf, certsFrom, listed, asked}
+use Rattle.fill.specs.declared.Filled.{Filled}
+
+-- ── The records of certificates ─────────────────────────────────────────────────────────────────────────────────
+
+length-records : (xs : List Cert) → length (recordsOf xs) ≡ length xs
+unfolding recordsOf
+length-records [] = refl
+length-records (x ∷ xs) = ap suc (length-records xs)
+
+getD-records : (xs : List Cert) (i : ℕ) (d : Cert) → getD (recordsOf xs) i (d .value) ≡ getD xs i d .value
+unfolding recordsOf
+getD-records [] i d = refl
+getD-records (x ∷ xs) zero d = refl
+getD-records (x ∷ xs) (suc i) d = getD-records xs i d
+
+records-append : (xs ys : List Cert) → recordsOf (xs ++ ys) ≡ recordsOf xs ++ recordsOf ys
+unfolding recordsOf
+records-append [] ys = refl
+records-append (x ∷ xs) ys = ap (λ (zs : List ℕ). x .value ∷ zs) (records-append xs ys)
+
+-- ── The loop ────────────────────────────────────────────────────────────────────────────────────────────────────
+
+nothing : Cert
+nothing = record { key = 0; value = 0 }
+
+-- one store more
+copy-turn : (d e new : List ℕ) (at j v : ℕ) → e ≡ paste d at new j → at + j < length d → j < length new → v ≡ getD new j 0
+    → set e (at + j) v ≡ paste d at new (j + 1)
+copy-turn d e new at j v p l m q = rw (p, q, add-one j) (paste-suc d at new j 0 l m)
+
+module _ (b : List ℕ) (first many : ℕ) where
+  length-from : length (certsFrom b first many) ≡ many
+  unfolding certsFrom
+  length-from = length-readEach certIn certSize many (drop (headerSize + certSize * first) b)
+
+  cert-from : (j : ℕ) → j < many → getD (certsFrom b first many) j nothing ≡ certAt b (first + j)
+  unfolding certsFrom certAt
+  cert-from j h =
+      rw (readEach-at certIn certSize many (drop (headerSize + certSize * first) b) j nothing h, drop-drop, mul-add, add-assoc)
+
+  module _ (d e : List ℕ) (at j v : ℕ) (h : j < many) (l : at + many ≤ length d) where
+    pub key-turn : e ≡ paste d at (keys (certsFrom b first many)) j → v ≡ certAt b (first + j) .key
+        → set e (at + j) v ≡ paste d at (keys (certsFrom b first many)) (j + 1)
+    unfolding nothing
+    key-turn p q =
+        copy-turn d e (keys (certsFrom b first many)) at j v p (omega arith) (omega (arith, length-keys (certsFrom b first many), length-from))
+        (q ∙ sym (getD-keys (certsFrom b first many) j nothing ∙ ap (λ (x : Cert). x .key) (cert-from j h)))
+
+    pub record-turn : e ≡ paste d at (recordsOf (certsFrom b first many)) j → v ≡ certAt b (first + j) .value
+        → set e (at + j) v ≡ paste d at (recordsOf (certsFrom b first many)) (j + 1)
+    unfolding nothing
+    record-turn p q =
+        copy-turn d e (recordsOf (certsFrom b first many)) at j v p (omega arith) (omega (arith, length-records (certsFrom b first many), length-from))
+        (q ∙ sym (getD-records (certsFrom b first many) j nothing ∙ ap (λ (x : Cert). x .value) (cert-from j h)))
+
+  pub copied : (s : Filled) (ks xs us vs : List ℕ) (j : ℕ) → j ≡ many → us ≡ paste ks (s .count) (keys (certsFrom b first many)) j
+      → vs ≡ paste xs (s .count) (recordsOf (certsFrom b first many)) j
+      → listing (record { whole = s .whole; count = s .count + many }) us vs ≡ listed (certsFrom b first many) s ks xs
+  unfolding listed
+  copied s ks xs us vs j i p q = rw (p, q, i, length-from)
+
+-- ── A page's certificates ───────────────────────────────────────────────────────────────────────────────────────
+
+asked-nil : (a : Asked) (s : Filled) → asked a s [] ≡ []
+unfolding asked cut
+asked-nil a s = take-nil (a .room - s .count)
+
+same-lists : {b : Bool} {m n : ℕ} {us vs ks xs : List ℕ} → m ≡ n → us ≡ ks → vs ≡ xs
+    → listing (record { whole = b; count = m }) us vs ≡ listing (record { whole = b; count = n }) ks xs
+same-lists p q r = cc
+
+-- nothing changes where there are none
+pub listed-none : (a : Asked) (s : Filled) (ks xs : List ℕ) (certs : List Cert) → certs ≡ []
+    → listing s ks xs ≡ listed (asked a s certs) s ks xs
+unfolding listed keys recordsOf
+listed-none a s ks xs certs e =
+    rw (e, asked-nil a s)
+    (same-lists {b = s .whole} (sym (add-zero (s .count))) (paste-zero ks (s .count) []) (paste-zero xs (s .count) []))
+
+-- new ones behind those that stand over the start of a list stand over it with them
+paste-over : (found new old : List ℕ) → paste (over found old) (length found) new (length new) ≡ over (found ++ new) old
+unfolding over
+paste-over found new old =
+    rw (length-append found new)
+    (ap (λ (l : List ℕ). l ++ take (length new) new ++ drop (length found + length new) (over found old)) (take-over found old)
+    ∙ (ap (λ (l : List ℕ). found ++ l ++ drop (length found + length new) (over found old)) (take-length new)
+    ∙ ap (λ (l : List ℕ). found ++ new ++ l) (drop-over-behind found old (length found + length new) (omega arith))))
+
+stands-over : (found new old d : List ℕ) (at n : ℕ) → d ≡ over found old → at ≡ length found → n ≡ length new
+    → paste d at new n ≡ over (found ++ new) old
+stands-over found new old d at n p q r = rw (p, q, r) (paste-over found new old)
+
+pub lists-more : (ks xs : List ℕ) (s : Filled) (us vs : List ℕ) (b : Bool) (found new : List Cert) → listing s us vs ≡ listsOf ks xs b found
+    → listed new s us vs ≡ listsOf ks xs b (found ++ new)
+unfolding listed listsOf
+lists-more ks xs s us vs b found new e =
+    ap (λ (w : Bool). listing (record { whole = w; count = s .count + length new }) (paste us (s .count) (keys new) (length new)) (paste vs (s .count) (recordsOf new) (length new))) whole
+    ∙ same-lists (ap (λ (k : ℕ). k + length new) count ∙ sym (length-append found new)) first second
+  where
+    whole : s .whole ≡ b
+    whole = ap (λ (l : Lists). l .filled .whole) e
+
+    count : s .count ≡ length found
+    count = ap (λ (l : Lists). l .filled .count) e
+
+    first : paste us (s .count) (keys new) (length new) ≡ over (keys (found ++ new)) ks
+    first =
+        stands-over (keys found) (keys new) ks us (s .count) (length new) (ap (λ (l : Lists). l .keys) e) (count ∙ sym (length-keys found)) (sym (length-keys new))
+        ∙ ap (λ (l : List ℕ). over l ks) (sym (keys-append found new))
+
+    second : paste vs (s .count) (recordsOf new) (length new) ≡ over (recordsOf (found ++ new)) xs
+    second =
+        stands-over (recordsOf found) (recordsOf new) xs vs (s .count) (length new) (ap (λ (l : Lists). l .records) e) (count ∙ sym (length-records found)) (sym (length-records new))
+        ∙ ap (λ (l : List ℕ). over l xs) (sym (records-append found new))

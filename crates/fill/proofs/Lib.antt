@@ -1,0 +1,5 @@
+pub mod Spots
+pub mod Copies
+pub mod Leaves
+pub mod Walks
+pub mod Steps

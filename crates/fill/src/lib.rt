@@ -1,0 +1,267 @@
+// The walk over a range of keys that writes what it finds into two lent lists, as it goes.
+//
+// `fill` leaves the table as the rules' `walkOf` leaves it. The certificates that the rules find stand in the lists from
+// the start on, their keys in one and their records in the other, and the places behind them stay. It is the walk of
+// `sweep`: which places are entered, and which places a page asks for, is told by functions and laws of that crate. The
+// one difference is what becomes of a leaf's certificates. `sweep` keeps the last of them, this walk writes them all.
+// The two lists go down with the walk, so it has a cycle of its own.
+//
+// Nothing is taken back where the walk meets a damaged place: whoever must not write then asks `dry` before.
+//
+// Below stand `sweep`, `enter`, which enters one place, `seek`, which finds a key on a page, and `head`.
+use enter::Above;
+use enter::Entered;
+use entries::CERT;
+use entries::LEAF;
+use entries::PAGE;
+use head::Head;
+use rules::Asked;
+use rules::Place;
+use sweep::Run;
+use sweep::Sofar;
+ghost use mathlib.Core.Path.{_≡_};
+ghost use mathlib.Core.Bool.{true};
+ghost use mathlib.Core.List.{List};
+ghost use Prim.Native.Nat.{ℕ, min, _+_, _-_, _*_, _≤_, _<_};
+ghost use lib.ListN.{length, drop};
+ghost use lib.Seq.{paste};
+ghost use Rattle.rules.specs.Layout.{pageSize, headerSize, certSize};
+ghost use Rattle.rules.specs.Entry.{keys, rising};
+ghost use Rattle.rules.specs.Table.{read, fit0};
+ghost use Rattle.rules.specs.Walk.{Walked, walk, walkEach, walkOf};
+ghost use Rattle.rules.specs.List.{recordsOf};
+ghost use Rattle.entries.specs.Spot.{keysIn, spotOf, startOf};
+ghost use Rattle.head.proofs.Headers.{headOf};
+ghost use Rattle.sweep.specs.Sweeps.{entersBy, aboveAt, Deep, Ready, placesLeft, Lies};
+ghost use Rattle.fill.specs.Fills.{listing, filling, filledIn, Known, Roomy, sofar, stopped, certsFrom, listed, asked, Sorted};
+
+// The level that the root is walked at.
+const TOP: usize = 3;
+
+// What a walk has come to: whether no damaged place was met, and how many certificates stand in the lists.
+pub struct Filled {
+    pub whole: bool,
+    pub count: usize,
+}
+
+// Whether a place is entered, told by `sweep`. The last certificate plays no part in it.
+fn enters(a: Asked, e: Place, s: Filled) -> bool
+    ensures { λ r. ⌜ r ≡ entersBy a e (sofar s) ⌝ }
+{
+    let seen = Sofar {
+        whole: s.whole,
+        count: s.count,
+        key: 0,
+        value: 0,
+    };
+    sweep::enters(a, e, seen)
+}
+
+// A damaged place ends the walk.
+fn stop(s: Filled) -> Filled
+    ensures { λ r. ⌜ r ≡ stopped s ⌝ }
+{
+    Filled {
+        whole: false,
+        count: s.count,
+    }
+}
+
+// How many of a leaf's keys are not above one. As a rule that is none or all of them, so both ends are tried first.
+fn spot(page: &[u8], count: usize, key: u64) -> usize
+    requires { ⌜ (headerSize + certSize * count ≤ length (now page)) × (length (now page) ≤ pageSize)
+        × (rising (keysIn certSize count (now page)) ≡ true) ⌝ }
+    ensures { λ r. ⌜ r ≡ spotOf key (keysIn certSize count (now (page .entry))) ⌝ }
+{
+    if count == 0 {
+        return 0;
+    }
+    if head::cert_key(page, 0) > key {
+        return 0;
+    }
+    if head::cert_key(page, count - 1) <= key {
+        return count;
+    }
+    seek::seek(page, CERT, count, key)
+}
+
+// How many of a leaf's keys are below one.
+fn start(page: &[u8], count: usize, low: u64) -> usize
+    requires { ⌜ (headerSize + certSize * count ≤ length (now page)) × (length (now page) ≤ pageSize)
+        × (rising (keysIn certSize count (now page)) ≡ true) ⌝ }
+    ensures { λ r. ⌜ r ≡ startOf low (keysIn certSize count (now (page .entry))) ⌝ }
+{
+    if low == 0 {
+        return 0;
+    }
+    spot(page, count, low - 1)
+}
+
+// How many entries there are from one up to another, while there is room.
+fn span(first: usize, past: usize, room: usize) -> usize
+    ensures { λ r. ⌜ r ≡ min room (past - first) ⌝ }
+{
+    if past <= first {
+        return 0;
+    }
+    if past - first < room {
+        return past - first;
+    }
+    room
+}
+
+// So many certificates of a leaf, from one on, into the lists behind those found.
+fn copy(
+    page: &[u8],
+    first: usize,
+    many: usize,
+    keys: &mut [u64],
+    records: &mut [u32],
+    s: Filled,
+) -> Filled
+    requires { ⌜ (headerSize + certSize * (first + many) ≤ length (now page)) × (length (now page) ≤ pageSize)
+        × (s .count + many ≤ length (now keys)) × (s .count + many ≤ length (now records)) ⌝ }
+    ensures { λ r. ⌜ listing r (now (keys .exit)) (now (records .exit))
+        ≡ listed (certsFrom (now (page .entry)) first many) s (now (keys .entry)) (now (records .entry)) ⌝ }
+{
+    let at = s.count;
+    let mut j = 0;
+    while j < many {
+        keys[at + j] = head::cert_key(page, first + j);
+        records[at + j] = head::cert_record(page, first + j);
+        j += 1;
+    }
+    Filled {
+        whole: s.whole,
+        count: at + many,
+    }
+}
+
+// The certificates of a leaf that are asked for.
+fn fill_leaf(
+    page: &[u8],
+    count: usize,
+    a: Asked,
+    keys: &mut [u64],
+    records: &mut [u32],
+    s: Filled,
+) -> Filled
+    requires { ⌜ (headerSize + certSize * count ≤ length (now page)) × (length (now page) ≤ pageSize)
+        × (rising (keysIn certSize count (now page)) ≡ true) × (s .count ≤ a .room) × Roomy a (now keys) (now records) ⌝ }
+    ensures { λ r. ⌜ listing r (now (keys .exit)) (now (records .exit))
+        ≡ listed (asked a s (certsFrom (now (page .entry)) 0 count)) s (now (keys .entry)) (now (records .entry)) ⌝ }
+{
+    let first = start(page, count, a.low);
+    let past = spot(page, count, a.high);
+    let many = span(first, past, a.room - s.count);
+    copy(page, first, many, keys, records, s)
+}
+
+// The certificates of a page that was entered; an inner page has none.
+fn fill_page(
+    t: &[u8],
+    page: usize,
+    head: Head,
+    a: Asked,
+    keys: &mut [u64],
+    records: &mut [u32],
+    s: Filled,
+) -> Filled
+    requires { ⌜ ((page + 1) * pageSize ≤ length (now t)) × (head ≡ headOf (read (now t) page)) × Sorted (read (now t) page .view .certs)
+        × (s .count ≤ a .room) × Roomy a (now keys) (now records) ⌝ }
+    ensures { λ r. ⌜ listing r (now (keys .exit)) (now (records .exit))
+        ≡ listed (asked a s (read (now (t .entry)) page .view .certs)) s (now (keys .entry)) (now (records .entry)) ⌝ }
+{
+    if head.kind != LEAF {
+        return s;
+    }
+    let from = page * PAGE;
+    let to = from + PAGE;
+    fill_leaf(&t[from..to], head.count as usize, a, keys, records, s)
+}
+
+// The page walk: a place is entered, and its entries are walked one level lower.
+fn walk_page(
+    t: &mut [u8],
+    n: usize,
+    c: u32,
+    level: usize,
+    a: Asked,
+    above: Above,
+    e: Place,
+    keys: &mut [u64],
+    records: &mut [u32],
+    s: Filled,
+) -> Filled
+    requires { ⌜ (length (now t) ≡ n * pageSize) × Deep level above × Ready n c e × Roomy a (now keys) (now records)
+        × Known (now t) s (now keys) (now records) ⌝ }
+    ensures { λ r. ⌜ ((ks xs : List ℕ) (w : Walked) → filling (now (t .entry)) s (now (keys .entry)) (now (records .entry)) ≡ filledIn ks xs w
+        → filling (now (t .exit)) r (now (keys .exit)) (now (records .exit)) ≡ filledIn ks xs (walk level n c a (aboveAt level above) e w)) ⌝ }
+{
+    if level == 0 {
+        return stop(s);
+    }
+    if !enters(a, e, s) {
+        return s;
+    }
+    let Entered::Page(head) = enter::enter(t, n, c, above, e) else {
+        return stop(s);
+    };
+    let found = fill_page(t, e.child as usize, head, a, keys, records, s);
+    let below = Above {
+        parent: e.child,
+        top: above.parent,
+    };
+    let run = sweep::run_of(e, head);
+    walk_entries(t, n, c, level - 1, a, below, run, keys, records, found)
+}
+
+// The entry walk: the first entry's page, then the entries behind it.
+fn walk_entries(
+    t: &mut [u8],
+    n: usize,
+    c: u32,
+    level: usize,
+    a: Asked,
+    above: Above,
+    run: Run,
+    keys: &mut [u64],
+    records: &mut [u32],
+    s: Filled,
+) -> Filled
+    requires { ⌜ (length (now t) ≡ n * pageSize) × Deep level above × (level ≤ 2) × Lies n c (now t) (above .parent) run
+        × Roomy a (now keys) (now records) × Known (now t) s (now keys) (now records) ⌝ }
+    ensures { λ r. ⌜ ((ks xs : List ℕ) (w : Walked) → filling (now (t .entry)) s (now (keys .entry)) (now (records .entry)) ≡ filledIn ks xs w
+        → filling (now (t .exit)) r (now (keys .exit)) (now (records .exit))
+        ≡ filledIn ks xs (walkEach (walk level n c a (aboveAt level above)) (placesLeft (now (t .entry)) (above .parent) run) w)) ⌝ }
+{
+    if run.left == 0 {
+        return s;
+    }
+    let e = sweep::first_of(t, above.parent as usize, run);
+    let found = walk_page(t, n, c, level, a, above, e, keys, records, s);
+    let rest = sweep::rest_of(run);
+    walk_entries(t, n, c, level, a, above, rest, keys, records, found)
+}
+
+// The whole walk, from the root on.
+pub fn fill(
+    t: &mut [u8],
+    n: usize,
+    c: u32,
+    a: Asked,
+    keys: &mut [u64],
+    records: &mut [u32],
+) -> Filled
+    requires { ⌜ (length (now t) ≡ n * pageSize) × (fit0 n (now t) ≡ true) × Roomy a (now keys) (now records) ⌝ }
+    ensures { λ r. ⌜ filling (now (t .exit)) r (now (keys .exit)) (now (records .exit))
+        ≡ filledIn (now (keys .entry)) (now (records .entry)) (walkOf n c a (now (t .entry))) ⌝ }
+{
+    let nothing = Filled {
+        whole: true,
+        count: 0,
+    };
+    let above = Above { parent: 0, top: 0 };
+    let root = head::root_place(t);
+    walk_page(t, n, c, TOP, a, above, root, keys, records, nothing)
+}
