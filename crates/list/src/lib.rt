@@ -1,0 +1,88 @@
+// List: the certificates from a start key upwards, written into two lent lists up to the shorter one.
+//
+// `list` asks nothing and tests everything, in document 01's order: lengths, page 0, then the walk. Answer, session,
+// every byte lent and both lists are those of the rules' `list`. A refused list changes neither list, and what was found
+// cannot be kept elsewhere, so damage is known before the first place is written: the dry walk goes first. Where it is
+// whole the filling walk follows. Where it is not, the walk that only mends does, up to the damage, since mends made
+// before a refusal stand.
+//
+// Below stand `tables`, which tests lengths, `dry`, `sweep` and `fill`, the three walks.
+use rules::Asked;
+use rules::Listed;
+use rules::Listing;
+use rules::Session;
+ghost use mathlib.Core.Path.{_≡_};
+ghost use mathlib.Core.Bool.{true};
+ghost use Prim.Native.Nat.{min, _*_, _≤_};
+ghost use lib.ListN.{length};
+ghost use Rattle.rules.specs.Layout.{pageSize, mostPages, lastKey};
+ghost use Rattle.rules.specs.Table.{fit0};
+ghost use Rattle.rules.specs.Walk.{walkOf};
+ghost use Rattle.rules.specs.List as rules;
+ghost use Rattle.fill.specs.Fills.{Roomy};
+ghost use Rattle.list.specs.Lists.{leaving, telling, told};
+
+// The largest key.
+const LAST_KEY: u64 = 18446744073709551615;
+
+// The asked range: from the start upwards, while the shorter list has room.
+fn up_from(start: u64, keys: usize, records: usize) -> Asked
+    ensures { λ r. ⌜ r ≡ record { low = start; high = lastKey; room = min keys records } ⌝ }
+{
+    if keys < records {
+        return Asked {
+            low: start,
+            high: LAST_KEY,
+            room: keys,
+        };
+    }
+    Asked {
+        low: start,
+        high: LAST_KEY,
+        room: records,
+    }
+}
+
+// The certificates of a range.
+fn look(t: &mut [u8], n: usize, c: u32, a: Asked, keys: &mut [u64], records: &mut [u32]) -> Listed
+    requires { ⌜ (length (now t) ≡ n * pageSize) × (n ≤ mostPages) × (fit0 n (now t) ≡ true) × Roomy a (now keys) (now records) ⌝ }
+    ensures { λ r. ⌜ telling (now (t .exit)) r (now (keys .exit)) (now (records .exit))
+        ≡ told (now (keys .entry)) (now (records .entry)) (walkOf n c a (now (t .entry))) ⌝ }
+{
+    let ahead = dry::dry_of(t, n, a);
+    if !ahead.whole {
+        sweep::sweep(t, n, c, a);
+        return Listed::Damaged;
+    }
+    let filled = fill::fill(t, n, c, a, keys, records);
+    Listed::Filled(filled.count)
+}
+
+pub fn list(
+    working: &mut [u8],
+    stable: &[u8],
+    session: Session,
+    start: u64,
+    keys: &mut [u64],
+    records: &mut [u32],
+) -> Listing
+    ensures { λ r. ⌜ leaving r (now (working .exit)) (now (stable .entry)) (now (keys .exit)) (now (records .exit))
+        ≡ rules.list (now (working .entry)) (now (stable .entry)) session start (now (keys .entry)) (now (records .entry)) ⌝ }
+{
+    if !tables::lengths_for(session.n, working, stable) {
+        return Listing {
+            answer: Listed::Length,
+            session,
+        };
+    }
+    let n = session.n as usize;
+    if !head::fit0(working, n) {
+        return Listing {
+            answer: Listed::Damaged,
+            session,
+        };
+    }
+    let asked = up_from(start, keys.len(), records.len());
+    let answer = look(working, n, session.c, asked, keys, records);
+    Listing { answer, session }
+}
