@@ -58,121 +58,92 @@ walk-entries-in t = (first-of-reads.Asked, first-of-reads.Learnt, walk-page-belo
 abbrev walk-page-in : ℕ → walk-page-lts.Claims
 walk-page-in t = (stop-reads.Asked, stop-reads.Learnt, enters-reads.Asked, enters-reads.Learnt, enter-reads.Asked, enter-reads.Learnt, fill-page-reads.Asked, fill-page-reads.Learnt, run-of-reads.Asked, run-of-reads.Learnt, walk-entries-below t, walk-entries.Post)
 
--- src/lib.rt:239:9
 walk-entries-returns : (t : ℕ) → walk-entries-lts.Need-returns (walk-entries-in t) (walk-entries-at t) walk-entries.Post
-walk-entries-returns t c = let A = c .before .before .before .before .before .args in let P = c .before .before .before .before .before .pre .1 in step-none (A .level) (A .n) (A .c) (A .a) (A .above) (A .run) (A .t .now) (A .s) (A .keys .now) (A .records .now) (c .if1 .taken)
+walk-entries-returns t c = let args = c .before .before .before .before .before .args in step-none (args .level) (args .n) (args .c) (args .a) (args .above) (args .run) (args .t .now) (args .s) (args .keys .now) (args .records .now) (c .if1 .taken)
 
--- src/lib.rt:241:32
 walk-entries-cast-first-of : (t : ℕ) → walk-entries-lts.Need-cast-first-of (walk-entries-in t) (walk-entries-at t) walk-entries.Post
 walk-entries-cast-first-of t c = search needs
 
--- src/lib.rt:241:9
 walk-entries-first-of-requires : (t : ℕ) → walk-entries-lts.Need-first-of-requires (walk-entries-in t) (walk-entries-at t) walk-entries.Post
-walk-entries-first-of-requires t c κs = let A = c .before .before .before .before .before .before .before .args in let P = c .before .before .before .before .before .before .before .pre .1 in (omega (arith, P .0, P .3 .inside), omega (arith, c .before .before .if1 .left), P .3 .left, P .3 .room)
+walk-entries-first-of-requires t c κs = let pre = c .before .before .before .before .before .before .before .pre .1 in (omega (arith, pre .0, pre .3 .inside), omega (arith, c .before .before .if1 .left), pre .3 .left, pre .3 .room)
 
--- src/lib.rt:242:9
 walk-entries-walk-page-requires : (t : ℕ) → walk-entries-lts.Need-walk-page-requires (walk-entries-in t) (walk-entries-at t) walk-entries.Post
-walk-entries-walk-page-requires t c κs = let A = c .before .before .before .before .before .before .before .before .before .before .before .args in let P = c .before .before .before .before .before .before .before .before .before .before .before .pre .1 in (omega (arith, c .before .before .before .before .before .before .before .before .before .before .before .pre .0, c .before .before .before .before .before .before .if1 .left), (P .0, P .1, first-ready (A .level) (A .n) (A .c) (A .a) (A .above) (A .run) (A .t .now) (A .s) (A .keys .now) (A .records .now) (P .0) (c .before .before .before .before .before .before .before .before .before .before .slice-known .given) (P .2) (P .3) (omega (arith, c .before .before .before .before .before .before .if1 .left)) (c .before .before .before .first-of .result) (c .before .before .before .first-of .ensures), P .4, P .5))
+walk-entries-walk-page-requires t c κs = let args = c .before .before .before .before .before .before .before .before .before .before .before .args in let pre = c .before .before .before .before .before .before .before .before .before .before .before .pre .1 in (omega (arith, c .before .before .before .before .before .before .before .before .before .before .before .pre .0, c .before .before .before .before .before .before .if1 .left), (pre .0, pre .1, first-ready (args .level) (args .n) (args .c) (args .a) (args .above) (args .run) (args .t .now) (args .s) (args .keys .now) (args .records .now) (pre .0) (c .before .before .before .before .before .before .before .before .before .before .slice-known .given) (pre .2) (pre .3) (omega (arith, c .before .before .before .before .before .before .if1 .left)) (c .before .before .before .first-of .result) (c .before .before .before .first-of .ensures), pre .4, pre .5))
 
--- src/lib.rt:243:9
 walk-entries-rest-of-requires : (t : ℕ) → walk-entries-lts.Need-rest-of-requires (walk-entries-in t) (walk-entries-at t) walk-entries.Post
 walk-entries-rest-of-requires t c κs = omega (arith, c .before .before .before .before .before .before .before .before .before .before .before .before .before .if1 .left)
 
--- src/lib.rt:244:5
 walk-entries-walk-entries-requires : (t : ℕ) → walk-entries-lts.Need-walk-entries-requires (walk-entries-in t) (walk-entries-at t) walk-entries.Post
-walk-entries-walk-entries-requires t c κs = let A = c .before .before .before .before .before .before .before .before .before .before .before .before .before .before .before .before .before .before .before .before .before .before .args in let P = c .before .before .before .before .before .before .before .before .before .before .before .before .before .before .before .before .before .before .before .before .before .before .pre .1 in (omega (arith, c .before .before .before .before .before .before .before .before .before .before .before .before .before .before .before .before .before .before .before .before .before .before .pre .0, ap (λ (x : Run). x .left) (c .before .before .before .rest-of .ensures), c .before .before .before .before .before .before .before .before .before .before .before .before .before .before .before .before .before .if1 .left), (omega (arith, c .before .before .before .before .before .before .before .before .before .before .walk-page .kept .0, P .0), P .1, P .2, rest-lies (A .level) (A .n) (A .c) (A .a) (A .above) (A .run) (A .t .now) (A .s) (A .keys .now) (A .records .now) (P .0) (c .before .before .before .before .before .before .before .before .before .before .before .before .before .before .before .before .before .before .before .before .before .slice-known .given) (P .2) (P .3) (omega (arith, c .before .before .before .before .before .before .before .before .before .before .before .before .before .before .before .before .before .if1 .left)) (c .before .before .before .before .before .before .before .before .before .before .before .before .before .before .first-of .result) (c .before .before .before .before .before .before .before .before .before .before .before .before .before .before .first-of .ensures) (c .before .before .before .before .before .before .before .before .before .before .walk-page .last .0) (c .before .before .before .before .before .before .before .before .before .before .walk-page .result) (c .before .before .before .before .before .before .before .before .before .before .walk-page .last .1 .1 .1 .1 .1 .1 .1 .0) (c .before .before .before .before .before .before .before .before .before .before .walk-page .last .1 .1 .1 .1 .1 .1 .1 .1 .0) (c .before .before .before .rest-of .result) (c .before .before .before .rest-of .ensures) (c .before .before .before .before .before .before .before .before .before .before .walk-page .ensures) (P .5), record { keys = omega (arith, c .before .before .before .before .before .before .before .before .before .before .walk-page .kept .1 .1 .1 .1 .1 .1 .1 .0, P .4 .keys); records = omega (arith, c .before .before .before .before .before .before .before .before .before .before .walk-page .kept .1 .1 .1 .1 .1 .1 .1 .1 .0, P .4 .records) }, rest-known (A .level) (A .n) (A .c) (A .a) (A .above) (A .run) (A .t .now) (A .s) (A .keys .now) (A .records .now) (P .0) (c .before .before .before .before .before .before .before .before .before .before .before .before .before .before .before .before .before .before .before .before .before .slice-known .given) (P .2) (P .3) (omega (arith, c .before .before .before .before .before .before .before .before .before .before .before .before .before .before .before .before .before .if1 .left)) (c .before .before .before .before .before .before .before .before .before .before .before .before .before .before .first-of .result) (c .before .before .before .before .before .before .before .before .before .before .before .before .before .before .first-of .ensures) (c .before .before .before .before .before .before .before .before .before .before .walk-page .last .0) (c .before .before .before .before .before .before .before .before .before .before .walk-page .result) (c .before .before .before .before .before .before .before .before .before .before .walk-page .last .1 .1 .1 .1 .1 .1 .1 .0) (c .before .before .before .before .before .before .before .before .before .before .walk-page .last .1 .1 .1 .1 .1 .1 .1 .1 .0) (c .before .before .before .rest-of .result) (c .before .before .before .rest-of .ensures) (c .before .before .before .before .before .before .before .before .before .before .walk-page .ensures) (P .5)))
+walk-entries-walk-entries-requires t c κs = let args = c .before .before .before .before .before .before .before .before .before .before .before .before .before .before .before .before .before .before .before .before .before .before .args in let pre = c .before .before .before .before .before .before .before .before .before .before .before .before .before .before .before .before .before .before .before .before .before .before .pre .1 in (omega (arith, c .before .before .before .before .before .before .before .before .before .before .before .before .before .before .before .before .before .before .before .before .before .before .pre .0, ap (λ (x : Run). x .left) (c .before .before .before .rest-of .ensures), c .before .before .before .before .before .before .before .before .before .before .before .before .before .before .before .before .before .if1 .left), (omega (arith, c .before .before .before .before .before .before .before .before .before .before .walk-page .kept .0, pre .0), pre .1, pre .2, rest-lies (args .level) (args .n) (args .c) (args .a) (args .above) (args .run) (args .t .now) (args .s) (args .keys .now) (args .records .now) (pre .0) (c .before .before .before .before .before .before .before .before .before .before .before .before .before .before .before .before .before .before .before .before .before .slice-known .given) (pre .2) (pre .3) (omega (arith, c .before .before .before .before .before .before .before .before .before .before .before .before .before .before .before .before .before .if1 .left)) (c .before .before .before .before .before .before .before .before .before .before .before .before .before .before .first-of .result) (c .before .before .before .before .before .before .before .before .before .before .before .before .before .before .first-of .ensures) (c .before .before .before .before .before .before .before .before .before .before .walk-page .last .0) (c .before .before .before .before .before .before .before .before .before .before .walk-page .result) (c .before .before .before .before .before .before .before .before .before .before .walk-page .last .1 .1 .1 .1 .1 .1 .1 .0) (c .before .before .before .before .before .before .before .before .before .before .walk-page .last .1 .1 .1 .1 .1 .1 .1 .1 .0) (c .before .before .before .rest-of .result) (c .before .before .before .rest-of .ensures) (c .before .before .before .before .before .before .before .before .before .before .walk-page .ensures) (pre .5), record { keys = omega (arith, c .before .before .before .before .before .before .before .before .before .before .walk-page .kept .1 .1 .1 .1 .1 .1 .1 .0, pre .4 .keys); records = omega (arith, c .before .before .before .before .before .before .before .before .before .before .walk-page .kept .1 .1 .1 .1 .1 .1 .1 .1 .0, pre .4 .records) }, rest-known (args .level) (args .n) (args .c) (args .a) (args .above) (args .run) (args .t .now) (args .s) (args .keys .now) (args .records .now) (pre .0) (c .before .before .before .before .before .before .before .before .before .before .before .before .before .before .before .before .before .before .before .before .before .slice-known .given) (pre .2) (pre .3) (omega (arith, c .before .before .before .before .before .before .before .before .before .before .before .before .before .before .before .before .before .if1 .left)) (c .before .before .before .before .before .before .before .before .before .before .before .before .before .before .first-of .result) (c .before .before .before .before .before .before .before .before .before .before .before .before .before .before .first-of .ensures) (c .before .before .before .before .before .before .before .before .before .before .walk-page .last .0) (c .before .before .before .before .before .before .before .before .before .before .walk-page .result) (c .before .before .before .before .before .before .before .before .before .before .walk-page .last .1 .1 .1 .1 .1 .1 .1 .0) (c .before .before .before .before .before .before .before .before .before .before .walk-page .last .1 .1 .1 .1 .1 .1 .1 .1 .0) (c .before .before .before .rest-of .result) (c .before .before .before .rest-of .ensures) (c .before .before .before .before .before .before .before .before .before .before .walk-page .ensures) (pre .5)))
 
--- src/lib.rt:220:1
 walk-entries-same-length : (t : ℕ) → walk-entries-lts.Need-same-length (walk-entries-in t) (walk-entries-at t) walk-entries.Post
 walk-entries-same-length t c = omega (arith, c .before .before .before .before .before .before .walk-entries .kept .0, c .before .before .before .before .before .before .before .before .before .before .before .before .before .before .before .before .before .walk-page .kept .0)
 
--- src/lib.rt:220:1
 walk-entries-same-length-2 : (t : ℕ) → walk-entries-lts.Need-same-length-2 (walk-entries-in t) (walk-entries-at t) walk-entries.Post
 walk-entries-same-length-2 t c = omega (arith, c .before .before .before .before .before .before .walk-entries .kept .1 .1 .1 .1 .1 .1 .1 .0, c .before .before .before .before .before .before .before .before .before .before .before .before .before .before .before .before .before .walk-page .kept .1 .1 .1 .1 .1 .1 .1 .0)
 
--- src/lib.rt:220:1
 walk-entries-same-length-3 : (t : ℕ) → walk-entries-lts.Need-same-length-3 (walk-entries-in t) (walk-entries-at t) walk-entries.Post
 walk-entries-same-length-3 t c = omega (arith, c .before .before .before .before .before .before .walk-entries .kept .1 .1 .1 .1 .1 .1 .1 .1 .0, c .before .before .before .before .before .before .before .before .before .before .before .before .before .before .before .before .before .walk-page .kept .1 .1 .1 .1 .1 .1 .1 .1 .0)
 
--- src/lib.rt:220:1
 walk-entries-returns-2 : (t : ℕ) → walk-entries-lts.Need-returns-2 (walk-entries-in t) (walk-entries-at t) walk-entries.Post
-walk-entries-returns-2 t c = let A = c .before .before .before .before .before .before .before .before .before .before .before .before .before .before .before .before .before .before .before .before .before .before .before .before .before .before .before .before .before .args in let P = c .before .before .before .before .before .before .before .before .before .before .before .before .before .before .before .before .before .before .before .before .before .before .before .before .before .before .before .before .before .pre .1 in step-more (A .level) (A .n) (A .c) (A .a) (A .above) (A .run) (A .t .now) (A .s) (A .keys .now) (A .records .now) (P .0) (c .before .before .before .before .before .before .before .before .before .before .before .before .before .before .before .before .before .before .before .before .before .before .before .before .before .before .before .before .slice-known .given) (P .2) (P .3) (omega (arith, c .before .before .before .before .before .before .before .before .before .before .before .before .before .before .before .before .before .before .before .before .before .before .before .before .if1 .left)) (c .before .before .before .before .before .before .before .before .before .before .before .before .before .before .before .before .before .before .before .before .before .first-of .result) (c .before .before .before .before .before .before .before .before .before .before .before .before .before .before .before .before .before .before .before .before .before .first-of .ensures) (c .before .before .before .before .before .before .before .before .before .before .before .before .before .before .before .before .before .walk-page .last .0) (c .before .before .before .before .before .before .before .before .before .before .before .before .before .before .before .before .before .walk-page .result) (c .before .before .before .before .before .before .before .before .before .before .before .before .before .before .before .before .before .walk-page .last .1 .1 .1 .1 .1 .1 .1 .0) (c .before .before .before .before .before .before .before .before .before .before .before .before .before .before .before .before .before .walk-page .last .1 .1 .1 .1 .1 .1 .1 .1 .0) (c .before .before .before .before .before .before .before .before .before .before .rest-of .result) (c .before .before .before .before .before .before .before .before .before .before .rest-of .ensures) (c .before .before .before .before .before .before .before .before .before .before .before .before .before .before .before .before .before .walk-page .ensures) (c .before .before .before .before .before .before .walk-entries .last .0) (c .before .before .before .before .before .before .walk-entries .result) (c .before .before .before .before .before .before .walk-entries .last .1 .1 .1 .1 .1 .1 .1 .0) (c .before .before .before .before .before .before .walk-entries .last .1 .1 .1 .1 .1 .1 .1 .1 .0) (c .before .before .before .before .before .before .walk-entries .ensures)
+walk-entries-returns-2 t c = let args = c .before .before .before .before .before .before .before .before .before .before .before .before .before .before .before .before .before .before .before .before .before .before .before .before .before .before .before .before .before .args in let pre = c .before .before .before .before .before .before .before .before .before .before .before .before .before .before .before .before .before .before .before .before .before .before .before .before .before .before .before .before .before .pre .1 in step-more (args .level) (args .n) (args .c) (args .a) (args .above) (args .run) (args .t .now) (args .s) (args .keys .now) (args .records .now) (pre .0) (c .before .before .before .before .before .before .before .before .before .before .before .before .before .before .before .before .before .before .before .before .before .before .before .before .before .before .before .before .slice-known .given) (pre .2) (pre .3) (omega (arith, c .before .before .before .before .before .before .before .before .before .before .before .before .before .before .before .before .before .before .before .before .before .before .before .before .if1 .left)) (c .before .before .before .before .before .before .before .before .before .before .before .before .before .before .before .before .before .before .before .before .before .first-of .result) (c .before .before .before .before .before .before .before .before .before .before .before .before .before .before .before .before .before .before .before .before .before .first-of .ensures) (c .before .before .before .before .before .before .before .before .before .before .before .before .before .before .before .before .before .walk-page .last .0) (c .before .before .before .before .before .before .before .before .before .before .before .before .before .before .before .before .before .walk-page .result) (c .before .before .before .before .before .before .before .before .before .before .before .before .before .before .before .before .before .walk-page .last .1 .1 .1 .1 .1 .1 .1 .0) (c .before .before .before .before .before .before .before .before .before .before .before .before .before .before .before .before .before .walk-page .last .1 .1 .1 .1 .1 .1 .1 .1 .0) (c .before .before .before .before .before .before .before .before .before .before .rest-of .result) (c .before .before .before .before .before .before .before .before .before .before .rest-of .ensures) (c .before .before .before .before .before .before .before .before .before .before .before .before .before .before .before .before .before .walk-page .ensures) (c .before .before .before .before .before .before .walk-entries .last .0) (c .before .before .before .before .before .before .walk-entries .result) (c .before .before .before .before .before .before .walk-entries .last .1 .1 .1 .1 .1 .1 .1 .0) (c .before .before .before .before .before .before .walk-entries .last .1 .1 .1 .1 .1 .1 .1 .1 .0) (c .before .before .before .before .before .before .walk-entries .ensures)
 
--- src/lib.rt:202:9
 walk-page-stop-requires : (t : ℕ) → walk-page-lts.Need-stop-requires (walk-page-in t) (walk-page-at t) walk-page.Post
 walk-page-stop-requires t c κs = search needs
 
--- src/lib.rt:202:9
 walk-page-returns : (t : ℕ) → walk-page-lts.Need-returns (walk-page-in t) (walk-page-at t) walk-page.Post
-walk-page-returns t c = let A = c .before .before .before .before .before .args in let P = c .before .before .before .before .before .pre .1 in λ ks xs w q. ap (λ (f : Filled). filling (A .t .now) f (A .keys .now) (A .records .now)) (c .stop .ensures) ∙ step-deep (A .level) (A .n) (A .c) (A .a) (A .above) (A .e) (A .t .now) (A .s) (A .keys .now) (A .records .now) (c .before .if1 .taken) ks xs w q
+walk-page-returns t c = let args = c .before .before .before .before .before .args in λ ks xs w q. ap (λ (f : Filled). filling (args .t .now) f (args .keys .now) (args .records .now)) (c .stop .ensures) ∙ step-deep (args .level) (args .n) (args .c) (args .a) (args .above) (args .e) (args .t .now) (args .s) (args .keys .now) (args .records .now) (c .before .if1 .taken) ks xs w q
 
--- src/lib.rt:204:9
 walk-page-enters-requires : (t : ℕ) → walk-page-lts.Need-enters-requires (walk-page-in t) (walk-page-at t) walk-page.Post
 walk-page-enters-requires t c κs = search needs
 
--- src/lib.rt:205:9
 walk-page-returns-2 : (t : ℕ) → walk-page-lts.Need-returns-2 (walk-page-in t) (walk-page-at t) walk-page.Post
-walk-page-returns-2 t c = let A = c .before .before .before .before .before .before .args in let P = c .before .before .before .before .before .before .pre .1 in step-past (A .level) (A .n) (A .c) (A .a) (A .above) (A .e) (A .t .now) (A .s) (A .keys .now) (A .records .now) (omega (arith, c .before .before .if1 .left)) (sym (c .before .enters .ensures) ∙ not-true (c .before .enters .result) (c .if2 .taken))
+walk-page-returns-2 t c = let args = c .before .before .before .before .before .before .args in step-past (args .level) (args .n) (args .c) (args .a) (args .above) (args .e) (args .t .now) (args .s) (args .keys .now) (args .records .now) (omega (arith, c .before .before .if1 .left)) (sym (c .before .enters .ensures) ∙ not-true (c .before .enters .result) (c .if2 .taken))
 
--- src/lib.rt:207:31
 walk-page-enter-requires : (t : ℕ) → walk-page-lts.Need-enter-requires (walk-page-in t) (walk-page-at t) walk-page.Post
-walk-page-enter-requires t c κs = let A = c .before .before .before .before .before .before .before .args in let P = c .before .before .before .before .before .before .before .pre .1 in (P .0, P .2 .child-below)
+walk-page-enter-requires t c κs = let pre = c .before .before .before .before .before .before .before .pre .1 in (pre .0, pre .2 .child-below)
 
--- src/lib.rt:207:23
 walk-page-enum-known-head : (t : ℕ) → walk-page-lts.Need-enum-known-head (walk-page-in t) (walk-page-at t) walk-page.Post
 walk-page-enum-known-head t c = search needs
 
--- src/lib.rt:208:9
 walk-page-enum-told : (t : ℕ) → walk-page-lts.Need-enum-told (walk-page-in t) (walk-page-at t) walk-page.Post
 walk-page-enum-told t c = search needs
 
--- src/lib.rt:208:9
 walk-page-stop-requires-2 : (t : ℕ) → walk-page-lts.Need-stop-requires-2 (walk-page-in t) (walk-page-at t) walk-page.Post
 walk-page-stop-requires-2 t c κs = search needs
 
--- src/lib.rt:208:9
 walk-page-same-length : (t : ℕ) → walk-page-lts.Need-same-length (walk-page-in t) (walk-page-at t) walk-page.Post
 walk-page-same-length t c = omega (arith, c .before .before .before .before .before .enter .kept .0)
 
--- src/lib.rt:208:9
 walk-page-returns-3 : (t : ℕ) → walk-page-lts.Need-returns-3 (walk-page-in t) (walk-page-at t) walk-page.Post
-walk-page-returns-3 t c = let A = c .before .before .before .before .before .before .before .before .before .before .before .before .before .args in let P = c .before .before .before .before .before .before .before .before .before .before .before .before .before .pre .1 in λ ks xs w q. ap (λ (f : Filled). filling (c .before .before .before .before .before .enter .last .0) f (A .keys .now) (A .records .now)) (c .stop2 .ensures) ∙ step-damaged (A .level) (A .n) (A .c) (A .a) (A .above) (A .e) (A .t .now) (A .s) (A .keys .now) (A .records .now) (omega (arith, c .before .before .before .before .before .before .before .before .before .if1 .left)) (sym (c .before .before .before .before .before .before .before .before .enters .ensures) ∙ not-false (c .before .before .before .before .before .before .before .before .enters .result) (c .before .before .before .before .before .before .before .if2 .left)) (P .0) (c .before .before .before .before .before .before .before .before .before .before .before .before .slice-known .given) (P .1) (P .2) (c .before .before .before .before .before .enter .last .0) (ap (entering (c .before .before .before .before .before .enter .last .0)) (sym (c .before .enum-told .given .1)) ∙ c .before .before .before .before .before .enter .ensures) ks xs w q
+walk-page-returns-3 t c = let args = c .before .before .before .before .before .before .before .before .before .before .before .before .before .args in let pre = c .before .before .before .before .before .before .before .before .before .before .before .before .before .pre .1 in λ ks xs w q. ap (λ (f : Filled). filling (c .before .before .before .before .before .enter .last .0) f (args .keys .now) (args .records .now)) (c .stop2 .ensures) ∙ step-damaged (args .level) (args .n) (args .c) (args .a) (args .above) (args .e) (args .t .now) (args .s) (args .keys .now) (args .records .now) (omega (arith, c .before .before .before .before .before .before .before .before .before .if1 .left)) (sym (c .before .before .before .before .before .before .before .before .enters .ensures) ∙ not-false (c .before .before .before .before .before .before .before .before .enters .result) (c .before .before .before .before .before .before .before .if2 .left)) (pre .0) (c .before .before .before .before .before .before .before .before .before .before .before .before .slice-known .given) (pre .1) (pre .2) (c .before .before .before .before .before .enter .last .0) (ap (entering (c .before .before .before .before .before .enter .last .0)) (sym (c .before .enum-told .given .1)) ∙ c .before .before .before .before .before .enter .ensures) ks xs w q
 
--- src/lib.rt:210:30
 walk-page-cast-fill-page : (t : ℕ) → walk-page-lts.Need-cast-fill-page (walk-page-in t) (walk-page-at t) walk-page.Post
 walk-page-cast-fill-page t c = search needs
 
--- src/lib.rt:210:9
 walk-page-fill-page-requires : (t : ℕ) → walk-page-lts.Need-fill-page-requires (walk-page-in t) (walk-page-at t) walk-page.Post
-walk-page-fill-page-requires t c κs = let A = c .before .before .before .before .before .before .before .before .before .before .before .before .before .before .before .before .before .args in let P = c .before .before .before .before .before .before .before .before .before .before .before .before .before .before .before .before .before .pre .1 in (omega (arith, c .before .before .before .before .before .before .before .before .before .enter .kept .0, P .0, P .2 .child-below), sweeps.head-here (A .level) (A .n) (A .c) (A .a) (A .above) (A .e) (A .t .now) (sofar (A .s)) (omega (arith, c .before .before .before .before .before .before .before .before .before .before .before .before .before .if1 .left)) (sym (c .before .before .before .before .before .before .before .before .before .before .before .before .enters .ensures) ∙ not-false (c .before .before .before .before .before .before .before .before .before .before .before .before .enters .result) (c .before .before .before .before .before .before .before .before .before .before .before .if2 .left)) (P .0) (c .before .before .before .before .before .before .before .before .before .before .before .before .before .before .before .before .slice-known .given) (P .1) (P .2) (c .before .before .before .before .before .before .before .before .before .enter .last .0) (c .before .before .before .before .before .head .given .0 .0) (ap (entering (c .before .before .before .before .before .before .before .before .before .enter .last .0)) (sym (c .before .before .before .before .before .head .given .1)) ∙ c .before .before .before .before .before .before .before .before .before .enter .ensures), page-sorted (A .level) (A .n) (A .c) (A .a) (A .above) (A .e) (A .t .now) (A .s) (A .keys .now) (A .records .now) (omega (arith, c .before .before .before .before .before .before .before .before .before .before .before .before .before .if1 .left)) (sym (c .before .before .before .before .before .before .before .before .before .before .before .before .enters .ensures) ∙ not-false (c .before .before .before .before .before .before .before .before .before .before .before .before .enters .result) (c .before .before .before .before .before .before .before .before .before .before .before .if2 .left)) (P .0) (c .before .before .before .before .before .before .before .before .before .before .before .before .before .before .before .before .slice-known .given) (P .1) (P .2) (c .before .before .before .before .before .before .before .before .before .enter .last .0) (c .before .before .before .before .before .head .given .0 .0) (ap (entering (c .before .before .before .before .before .before .before .before .before .enter .last .0)) (sym (c .before .before .before .before .before .head .given .1)) ∙ c .before .before .before .before .before .before .before .before .before .enter .ensures), room-entered (A .a) (A .e) (A .s) (sym (c .before .before .before .before .before .before .before .before .before .before .before .before .enters .ensures) ∙ not-false (c .before .before .before .before .before .before .before .before .before .before .before .before .enters .result) (c .before .before .before .before .before .before .before .before .before .before .before .if2 .left)), P .3)
+walk-page-fill-page-requires t c κs = let args = c .before .before .before .before .before .before .before .before .before .before .before .before .before .before .before .before .before .args in let pre = c .before .before .before .before .before .before .before .before .before .before .before .before .before .before .before .before .before .pre .1 in (omega (arith, c .before .before .before .before .before .before .before .before .before .enter .kept .0, pre .0, pre .2 .child-below), sweeps.head-here (args .level) (args .n) (args .c) (args .a) (args .above) (args .e) (args .t .now) (sofar (args .s)) (omega (arith, c .before .before .before .before .before .before .before .before .before .before .before .before .before .if1 .left)) (sym (c .before .before .before .before .before .before .before .before .before .before .before .before .enters .ensures) ∙ not-false (c .before .before .before .before .before .before .before .before .before .before .before .before .enters .result) (c .before .before .before .before .before .before .before .before .before .before .before .if2 .left)) (pre .0) (c .before .before .before .before .before .before .before .before .before .before .before .before .before .before .before .before .slice-known .given) (pre .1) (pre .2) (c .before .before .before .before .before .before .before .before .before .enter .last .0) (c .before .before .before .before .before .head .given .0 .0) (ap (entering (c .before .before .before .before .before .before .before .before .before .enter .last .0)) (sym (c .before .before .before .before .before .head .given .1)) ∙ c .before .before .before .before .before .before .before .before .before .enter .ensures), page-sorted (args .level) (args .n) (args .c) (args .a) (args .above) (args .e) (args .t .now) (args .s) (args .keys .now) (args .records .now) (omega (arith, c .before .before .before .before .before .before .before .before .before .before .before .before .before .if1 .left)) (sym (c .before .before .before .before .before .before .before .before .before .before .before .before .enters .ensures) ∙ not-false (c .before .before .before .before .before .before .before .before .before .before .before .before .enters .result) (c .before .before .before .before .before .before .before .before .before .before .before .if2 .left)) (pre .0) (c .before .before .before .before .before .before .before .before .before .before .before .before .before .before .before .before .slice-known .given) (pre .1) (pre .2) (c .before .before .before .before .before .before .before .before .before .enter .last .0) (c .before .before .before .before .before .head .given .0 .0) (ap (entering (c .before .before .before .before .before .before .before .before .before .enter .last .0)) (sym (c .before .before .before .before .before .head .given .1)) ∙ c .before .before .before .before .before .before .before .before .before .enter .ensures), room-entered (args .a) (args .e) (args .s) (sym (c .before .before .before .before .before .before .before .before .before .before .before .before .enters .ensures) ∙ not-false (c .before .before .before .before .before .before .before .before .before .before .before .before .enters .result) (c .before .before .before .before .before .before .before .before .before .before .before .if2 .left)), pre .3)
 
--- src/lib.rt:215:9
 walk-page-run-of-requires : (t : ℕ) → walk-page-lts.Need-run-of-requires (walk-page-in t) (walk-page-at t) walk-page.Post
-walk-page-run-of-requires t c κs = let A = c .before .before .before .before .before .before .before .before .before .before .before .before .before .before .before .before .before .before .before .before .before .before .args in let P = c .before .before .before .before .before .before .before .before .before .before .before .before .before .before .before .before .before .before .before .before .before .before .pre .1 in sweeps.kind-from (A .level) (A .n) (A .c) (A .a) (A .above) (A .e) (A .t .now) (sofar (A .s)) (omega (arith, c .before .before .before .before .before .before .before .before .before .before .before .before .before .before .before .before .before .before .if1 .left)) (sym (c .before .before .before .before .before .before .before .before .before .before .before .before .before .before .before .before .before .enters .ensures) ∙ not-false (c .before .before .before .before .before .before .before .before .before .before .before .before .before .before .before .before .before .enters .result) (c .before .before .before .before .before .before .before .before .before .before .before .before .before .before .before .before .if2 .left)) (P .0) (c .before .before .before .before .before .before .before .before .before .before .before .before .before .before .before .before .before .before .before .before .before .slice-known .given) (P .1) (P .2) (c .before .before .before .before .before .before .before .before .before .before .before .before .before .before .enter .last .0) (c .before .before .before .before .before .before .before .before .before .before .head .given .0 .0) (ap (entering (c .before .before .before .before .before .before .before .before .before .before .before .before .before .before .enter .last .0)) (sym (c .before .before .before .before .before .before .before .before .before .before .head .given .1)) ∙ c .before .before .before .before .before .before .before .before .before .before .before .before .before .before .enter .ensures)
+walk-page-run-of-requires t c κs = let args = c .before .before .before .before .before .before .before .before .before .before .before .before .before .before .before .before .before .before .before .before .before .before .args in let pre = c .before .before .before .before .before .before .before .before .before .before .before .before .before .before .before .before .before .before .before .before .before .before .pre .1 in sweeps.kind-from (args .level) (args .n) (args .c) (args .a) (args .above) (args .e) (args .t .now) (sofar (args .s)) (omega (arith, c .before .before .before .before .before .before .before .before .before .before .before .before .before .before .before .before .before .before .if1 .left)) (sym (c .before .before .before .before .before .before .before .before .before .before .before .before .before .before .before .before .before .enters .ensures) ∙ not-false (c .before .before .before .before .before .before .before .before .before .before .before .before .before .before .before .before .before .enters .result) (c .before .before .before .before .before .before .before .before .before .before .before .before .before .before .before .before .if2 .left)) (pre .0) (c .before .before .before .before .before .before .before .before .before .before .before .before .before .before .before .before .before .before .before .before .before .slice-known .given) (pre .1) (pre .2) (c .before .before .before .before .before .before .before .before .before .before .before .before .before .before .enter .last .0) (c .before .before .before .before .before .before .before .before .before .before .head .given .0 .0) (ap (entering (c .before .before .before .before .before .before .before .before .before .before .before .before .before .before .enter .last .0)) (sym (c .before .before .before .before .before .before .before .before .before .before .head .given .1)) ∙ c .before .before .before .before .before .before .before .before .before .before .before .before .before .before .enter .ensures)
 
--- src/lib.rt:216:27
 walk-page-sub-walk-entries : (t : ℕ) → walk-page-lts.Need-sub-walk-entries (walk-page-in t) (walk-page-at t) walk-page.Post
 walk-page-sub-walk-entries t c = omega (arith, c .before .before .before .before .before .before .before .before .before .before .before .before .before .before .before .before .before .before .before .before .if1 .left)
 
--- src/lib.rt:216:5
 walk-page-walk-entries-requires : (t : ℕ) → walk-page-lts.Need-walk-entries-requires (walk-page-in t) (walk-page-at t) walk-page.Post
-walk-page-walk-entries-requires t c κs = let A = c .before .before .before .before .before .before .before .before .before .before .before .before .before .before .before .before .before .before .before .before .before .before .before .before .before .before .args in let P = c .before .before .before .before .before .before .before .before .before .before .before .before .before .before .before .before .before .before .before .before .before .before .before .before .before .before .pre .1 in let y = sweeps.lies (A .level) (A .n) (A .c) (A .a) (A .above) (A .e) (A .t .now) (sofar (A .s)) (omega (arith, c .before .before .before .before .before .before .before .before .before .before .before .before .before .before .before .before .before .before .before .before .before .before .if1 .left)) (sym (c .before .before .before .before .before .before .before .before .before .before .before .before .before .before .before .before .before .before .before .before .before .enters .ensures) ∙ not-false (c .before .before .before .before .before .before .before .before .before .before .before .before .before .before .before .before .before .before .before .before .before .enters .result) (c .before .before .before .before .before .before .before .before .before .before .before .before .before .before .before .before .before .before .before .before .if2 .left)) (P .0) (c .before .before .before .before .before .before .before .before .before .before .before .before .before .before .before .before .before .before .before .before .before .before .before .before .before .slice-known .given) (P .1) (P .2) (c .before .before .before .before .before .before .before .before .before .before .before .before .before .before .before .before .before .before .enter .last .0) (c .before .before .before .before .before .before .before .before .before .before .before .before .before .before .head .given .0 .0) (ap (entering (c .before .before .before .before .before .before .before .before .before .before .before .before .before .before .before .before .before .before .enter .last .0)) (sym (c .before .before .before .before .before .before .before .before .before .before .before .before .before .before .head .given .1)) ∙ c .before .before .before .before .before .before .before .before .before .before .before .before .before .before .before .before .before .before .enter .ensures) (c .before .before .before .run-of .result) (c .before .before .before .run-of .ensures) in (omega (arith, c .before .before .before .before .before .before .before .before .before .before .before .before .before .before .before .before .before .before .before .before .before .before .before .before .before .before .pre .0, c .before .before .before .before .before .before .before .before .before .before .before .before .before .before .before .before .before .before .before .before .before .before .if1 .left, y .left, y .room), (omega (arith, c .before .before .before .before .before .before .before .before .before .before .before .before .before .before .before .before .before .before .enter .kept .0, P .0), sweeps.deep-below (A .level) (A .above) (A .e) (omega (arith, c .before .before .before .before .before .before .before .before .before .before .before .before .before .before .before .before .before .before .before .before .before .before .if1 .left)) (P .1), omega (arith, P .1 .most), y, record { keys = omega (arith, c .before .before .before .before .before .before .before .before .fill-page .kept .1 .1 .1 .1 .0, P .3 .keys); records = omega (arith, c .before .before .before .before .before .before .before .before .fill-page .kept .1 .1 .1 .1 .1 .0, P .3 .records) }, page-known (A .level) (A .n) (A .c) (A .a) (A .above) (A .e) (A .t .now) (A .s) (A .keys .now) (A .records .now) (omega (arith, c .before .before .before .before .before .before .before .before .before .before .before .before .before .before .before .before .before .before .before .before .before .before .if1 .left)) (sym (c .before .before .before .before .before .before .before .before .before .before .before .before .before .before .before .before .before .before .before .before .before .enters .ensures) ∙ not-false (c .before .before .before .before .before .before .before .before .before .before .before .before .before .before .before .before .before .before .before .before .before .enters .result) (c .before .before .before .before .before .before .before .before .before .before .before .before .before .before .before .before .before .before .before .before .if2 .left)) (P .0) (c .before .before .before .before .before .before .before .before .before .before .before .before .before .before .before .before .before .before .before .before .before .before .before .before .before .slice-known .given) (P .1) (P .2) (c .before .before .before .before .before .before .before .before .before .before .before .before .before .before .before .before .before .before .enter .last .0) (c .before .before .before .before .before .before .before .before .before .before .before .before .before .before .head .given .0 .0) (ap (entering (c .before .before .before .before .before .before .before .before .before .before .before .before .before .before .before .before .before .before .enter .last .0)) (sym (c .before .before .before .before .before .before .before .before .before .before .before .before .before .before .head .given .1)) ∙ c .before .before .before .before .before .before .before .before .before .before .before .before .before .before .before .before .before .before .enter .ensures) (c .before .before .before .before .before .before .before .before .fill-page .result) (c .before .before .before .before .before .before .before .before .fill-page .last .1 .1 .1 .1 .0) (c .before .before .before .before .before .before .before .before .fill-page .last .1 .1 .1 .1 .1 .0) (c .before .before .before .before .before .before .before .before .fill-page .ensures) (P .4)))
+walk-page-walk-entries-requires t c κs = let args = c .before .before .before .before .before .before .before .before .before .before .before .before .before .before .before .before .before .before .before .before .before .before .before .before .before .before .args in let pre = c .before .before .before .before .before .before .before .before .before .before .before .before .before .before .before .before .before .before .before .before .before .before .before .before .before .before .pre .1 in let y = sweeps.lies (args .level) (args .n) (args .c) (args .a) (args .above) (args .e) (args .t .now) (sofar (args .s)) (omega (arith, c .before .before .before .before .before .before .before .before .before .before .before .before .before .before .before .before .before .before .before .before .before .before .if1 .left)) (sym (c .before .before .before .before .before .before .before .before .before .before .before .before .before .before .before .before .before .before .before .before .before .enters .ensures) ∙ not-false (c .before .before .before .before .before .before .before .before .before .before .before .before .before .before .before .before .before .before .before .before .before .enters .result) (c .before .before .before .before .before .before .before .before .before .before .before .before .before .before .before .before .before .before .before .before .if2 .left)) (pre .0) (c .before .before .before .before .before .before .before .before .before .before .before .before .before .before .before .before .before .before .before .before .before .before .before .before .before .slice-known .given) (pre .1) (pre .2) (c .before .before .before .before .before .before .before .before .before .before .before .before .before .before .before .before .before .before .enter .last .0) (c .before .before .before .before .before .before .before .before .before .before .before .before .before .before .head .given .0 .0) (ap (entering (c .before .before .before .before .before .before .before .before .before .before .before .before .before .before .before .before .before .before .enter .last .0)) (sym (c .before .before .before .before .before .before .before .before .before .before .before .before .before .before .head .given .1)) ∙ c .before .before .before .before .before .before .before .before .before .before .before .before .before .before .before .before .before .before .enter .ensures) (c .before .before .before .run-of .result) (c .before .before .before .run-of .ensures) in (omega (arith, c .before .before .before .before .before .before .before .before .before .before .before .before .before .before .before .before .before .before .before .before .before .before .before .before .before .before .pre .0, c .before .before .before .before .before .before .before .before .before .before .before .before .before .before .before .before .before .before .before .before .before .before .if1 .left, y .left, y .room), (omega (arith, c .before .before .before .before .before .before .before .before .before .before .before .before .before .before .before .before .before .before .enter .kept .0, pre .0), sweeps.deep-below (args .level) (args .above) (args .e) (omega (arith, c .before .before .before .before .before .before .before .before .before .before .before .before .before .before .before .before .before .before .before .before .before .before .if1 .left)) (pre .1), omega (arith, pre .1 .most), y, record { keys = omega (arith, c .before .before .before .before .before .before .before .before .fill-page .kept .1 .1 .1 .1 .0, pre .3 .keys); records = omega (arith, c .before .before .before .before .before .before .before .before .fill-page .kept .1 .1 .1 .1 .1 .0, pre .3 .records) }, page-known (args .level) (args .n) (args .c) (args .a) (args .above) (args .e) (args .t .now) (args .s) (args .keys .now) (args .records .now) (omega (arith, c .before .before .before .before .before .before .before .before .before .before .before .before .before .before .before .before .before .before .before .before .before .before .if1 .left)) (sym (c .before .before .before .before .before .before .before .before .before .before .before .before .before .before .before .before .before .before .before .before .before .enters .ensures) ∙ not-false (c .before .before .before .before .before .before .before .before .before .before .before .before .before .before .before .before .before .before .before .before .before .enters .result) (c .before .before .before .before .before .before .before .before .before .before .before .before .before .before .before .before .before .before .before .before .if2 .left)) (pre .0) (c .before .before .before .before .before .before .before .before .before .before .before .before .before .before .before .before .before .before .before .before .before .before .before .before .before .slice-known .given) (pre .1) (pre .2) (c .before .before .before .before .before .before .before .before .before .before .before .before .before .before .before .before .before .before .enter .last .0) (c .before .before .before .before .before .before .before .before .before .before .before .before .before .before .head .given .0 .0) (ap (entering (c .before .before .before .before .before .before .before .before .before .before .before .before .before .before .before .before .before .before .enter .last .0)) (sym (c .before .before .before .before .before .before .before .before .before .before .before .before .before .before .head .given .1)) ∙ c .before .before .before .before .before .before .before .before .before .before .before .before .before .before .before .before .before .before .enter .ensures) (c .before .before .before .before .before .before .before .before .fill-page .result) (c .before .before .before .before .before .before .before .before .fill-page .last .1 .1 .1 .1 .0) (c .before .before .before .before .before .before .before .before .fill-page .last .1 .1 .1 .1 .1 .0) (c .before .before .before .before .before .before .before .before .fill-page .ensures) (pre .4)))
 
--- src/lib.rt:184:1
 walk-page-same-length-2 : (t : ℕ) → walk-page-lts.Need-same-length-2 (walk-page-in t) (walk-page-at t) walk-page.Post
 walk-page-same-length-2 t c = omega (arith, c .before .before .before .before .before .before .walk-entries .kept .0, c .before .before .before .before .before .before .before .before .before .before .before .before .before .before .before .before .before .before .before .before .before .before .before .before .before .enter .kept .0)
 
--- src/lib.rt:184:1
 walk-page-same-length-3 : (t : ℕ) → walk-page-lts.Need-same-length-3 (walk-page-in t) (walk-page-at t) walk-page.Post
 walk-page-same-length-3 t c = omega (arith, c .before .before .before .before .before .before .walk-entries .kept .1 .1 .1 .1 .1 .1 .1 .0, c .before .before .before .before .before .before .before .before .before .before .before .before .before .before .before .fill-page .kept .1 .1 .1 .1 .0)
 
--- src/lib.rt:184:1
 walk-page-same-length-4 : (t : ℕ) → walk-page-lts.Need-same-length-4 (walk-page-in t) (walk-page-at t) walk-page.Post
 walk-page-same-length-4 t c = omega (arith, c .before .before .before .before .before .before .walk-entries .kept .1 .1 .1 .1 .1 .1 .1 .1 .0, c .before .before .before .before .before .before .before .before .before .before .before .before .before .before .before .fill-page .kept .1 .1 .1 .1 .1 .0)
 
--- src/lib.rt:184:1
 walk-page-returns-4 : (t : ℕ) → walk-page-lts.Need-returns-4 (walk-page-in t) (walk-page-at t) walk-page.Post
-walk-page-returns-4 t c = let A = c .before .before .before .before .before .before .before .before .before .before .before .before .before .before .before .before .before .before .before .before .before .before .before .before .before .before .before .before .before .before .before .before .before .args in let P = c .before .before .before .before .before .before .before .before .before .before .before .before .before .before .before .before .before .before .before .before .before .before .before .before .before .before .before .before .before .before .before .before .before .pre .1 in step-page (A .level) (A .n) (A .c) (A .a) (A .above) (A .e) (A .t .now) (A .s) (A .keys .now) (A .records .now) (omega (arith, c .before .before .before .before .before .before .before .before .before .before .before .before .before .before .before .before .before .before .before .before .before .before .before .before .before .before .before .before .before .if1 .left)) (sym (c .before .before .before .before .before .before .before .before .before .before .before .before .before .before .before .before .before .before .before .before .before .before .before .before .before .before .before .before .enters .ensures) ∙ not-false (c .before .before .before .before .before .before .before .before .before .before .before .before .before .before .before .before .before .before .before .before .before .before .before .before .before .before .before .before .enters .result) (c .before .before .before .before .before .before .before .before .before .before .before .before .before .before .before .before .before .before .before .before .before .before .before .before .before .before .before .if2 .left)) (P .0) (c .before .before .before .before .before .before .before .before .before .before .before .before .before .before .before .before .before .before .before .before .before .before .before .before .before .before .before .before .before .before .before .before .slice-known .given) (P .1) (P .2) (c .before .before .before .before .before .before .before .before .before .before .before .before .before .before .before .before .before .before .before .before .before .before .before .before .before .enter .last .0) (c .before .before .before .before .before .before .before .before .before .before .before .before .before .before .before .before .before .before .before .before .before .head .given .0 .0) (ap (entering (c .before .before .before .before .before .before .before .before .before .before .before .before .before .before .before .before .before .before .before .before .before .before .before .before .before .enter .last .0)) (sym (c .before .before .before .before .before .before .before .before .before .before .before .before .before .before .before .before .before .before .before .before .before .head .given .1)) ∙ c .before .before .before .before .before .before .before .before .before .before .before .before .before .before .before .before .before .before .before .before .before .before .before .before .before .enter .ensures) (c .before .before .before .before .before .before .before .before .before .before .before .before .before .before .before .fill-page .result) (c .before .before .before .before .before .before .before .before .before .before .before .before .before .before .before .fill-page .last .1 .1 .1 .1 .0) (c .before .before .before .before .before .before .before .before .before .before .before .before .before .before .before .fill-page .last .1 .1 .1 .1 .1 .0) (c .before .before .before .before .before .before .before .before .before .before .before .before .before .before .before .fill-page .ensures) (c .before .before .before .before .before .before .before .before .before .before .run-of .result) (c .before .before .before .before .before .before .before .before .before .before .run-of .ensures) (c .before .before .before .before .before .before .walk-entries .last .0) (c .before .before .before .before .before .before .walk-entries .result) (c .before .before .before .before .before .before .walk-entries .last .1 .1 .1 .1 .1 .1 .1 .0) (c .before .before .before .before .before .before .walk-entries .last .1 .1 .1 .1 .1 .1 .1 .1 .0) (c .before .before .before .before .before .before .walk-entries .ensures)
+walk-page-returns-4 t c = let args = c .before .before .before .before .before .before .before .before .before .before .before .before .before .before .before .before .before .before .before .before .before .before .before .before .before .before .before .before .before .before .before .before .before .args in let pre = c .before .before .before .before .before .before .before .before .before .before .before .before .before .before .before .before .before .before .before .before .before .before .before .before .before .before .before .before .before .before .before .before .before .pre .1 in step-page (args .level) (args .n) (args .c) (args .a) (args .above) (args .e) (args .t .now) (args .s) (args .keys .now) (args .records .now) (omega (arith, c .before .before .before .before .before .before .before .before .before .before .before .before .before .before .before .before .before .before .before .before .before .before .before .before .before .before .before .before .before .if1 .left)) (sym (c .before .before .before .before .before .before .before .before .before .before .before .before .before .before .before .before .before .before .before .before .before .before .before .before .before .before .before .before .enters .ensures) ∙ not-false (c .before .before .before .before .before .before .before .before .before .before .before .before .before .before .before .before .before .before .before .before .before .before .before .before .before .before .before .before .enters .result) (c .before .before .before .before .before .before .before .before .before .before .before .before .before .before .before .before .before .before .before .before .before .before .before .before .before .before .before .if2 .left)) (pre .0) (c .before .before .before .before .before .before .before .before .before .before .before .before .before .before .before .before .before .before .before .before .before .before .before .before .before .before .before .before .before .before .before .before .slice-known .given) (pre .1) (pre .2) (c .before .before .before .before .before .before .before .before .before .before .before .before .before .before .before .before .before .before .before .before .before .before .before .before .before .enter .last .0) (c .before .before .before .before .before .before .before .before .before .before .before .before .before .before .before .before .before .before .before .before .before .head .given .0 .0) (ap (entering (c .before .before .before .before .before .before .before .before .before .before .before .before .before .before .before .before .before .before .before .before .before .before .before .before .before .enter .last .0)) (sym (c .before .before .before .before .before .before .before .before .before .before .before .before .before .before .before .before .before .before .before .before .before .head .given .1)) ∙ c .before .before .before .before .before .before .before .before .before .before .before .before .before .before .before .before .before .before .before .before .before .before .before .before .before .enter .ensures) (c .before .before .before .before .before .before .before .before .before .before .before .before .before .before .before .fill-page .result) (c .before .before .before .before .before .before .before .before .before .before .before .before .before .before .before .fill-page .last .1 .1 .1 .1 .0) (c .before .before .before .before .before .before .before .before .before .before .before .before .before .before .before .fill-page .last .1 .1 .1 .1 .1 .0) (c .before .before .before .before .before .before .before .before .before .before .before .before .before .before .before .fill-page .ensures) (c .before .before .before .before .before .before .before .before .before .before .run-of .result) (c .before .before .before .before .before .before .before .before .before .before .run-of .ensures) (c .before .before .before .before .before .before .walk-entries .last .0) (c .before .before .before .before .before .before .walk-entries .result) (c .before .before .before .before .before .before .walk-entries .last .1 .1 .1 .1 .1 .1 .1 .0) (c .before .before .before .before .before .before .walk-entries .last .1 .1 .1 .1 .1 .1 .1 .1 .0) (c .before .before .before .before .before .before .walk-entries .ensures)
 
 pub +walk-entries+walk-page-spec : {M : Type 1} → statement M
 +walk-entries+walk-page-spec = close μ-walk-entries μ-walk-page (λ t. walk-entries-lts.spec (walk-entries-in t)

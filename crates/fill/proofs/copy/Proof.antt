@@ -10,10 +10,6 @@ use borrow.Author.Needs.{needs}
 use native.Mathlib.Omega.{arith}
 use Rattle.fill.proofs.copy.Statement.{statement}
 use Rattle.fill.proofs.copy.Tie as tie
-use Rattle.fill.proofs.copy.Reads as reads
-use Rattle.fill.proofs.copy.Lts as lts
-use Rattle.head.proofs.cert_key.Reads as cert-key-reads
-use Rattle.head.proofs.cert_record.Reads as cert-record-reads
 
 abbrev Inv-loop : tie.InvT-loop
 Inv-loop page first many keys₀ records₀ s at j₀ keys records j = (j ≤ many) × (length keys ≡ length keys₀) × (length records ≡ length records₀) × (keys ≡ paste keys₀ at (entry.keys (certsFrom page first many)) j) × (records ≡ paste records₀ at (recordsOf (certsFrom page first many)) j)
@@ -21,75 +17,57 @@ Inv-loop page first many keys₀ records₀ s at j₀ keys records j = (j ≤ ma
 abbrev μ-loop : tie.MeasureT-loop
 μ-loop page first many keys₀ records₀ s at j₀ keys records j = many - j
 
--- src/lib.rt:129:5
 loop-holds : tie.Need-loop-holds Inv-loop μ-loop
 loop-holds c = (omega arith, refl, refl, paste-zero (c .before .before .before .args .keys .now) (c .before .before .before .args .s .count) (entry.keys (certsFrom (c .before .before .before .args .page .now) (c .before .before .before .args .first) (c .before .before .before .args .many))), paste-zero (c .before .before .before .args .records .now) (c .before .before .before .args .s .count) (recordsOf (certsFrom (c .before .before .before .args .page .now) (c .before .before .before .args .first) (c .before .before .before .args .many))))
 
--- src/lib.rt:130:45
 add-cert-key : tie.Need-add-cert-key Inv-loop μ-loop
 add-cert-key c = search needs
 
--- src/lib.rt:130:24
 cert-key-requires : tie.Need-cert-key-requires Inv-loop μ-loop
 cert-key-requires c κs = search needs
 
--- src/lib.rt:130:14
 add-keys : tie.Need-add-keys Inv-loop μ-loop
 add-keys c = search needs
 
--- src/lib.rt:130:9
 mul-keys : tie.Need-mul-keys Inv-loop μ-loop
 mul-keys c = search needs
 
--- src/lib.rt:130:9
 slice-write-keys : tie.Need-slice-write-keys Inv-loop μ-loop
 slice-write-keys c = search needs
 
--- src/lib.rt:131:51
 add-cert-record : tie.Need-add-cert-record Inv-loop μ-loop
 add-cert-record c = search needs
 
--- src/lib.rt:131:27
 cert-record-requires : tie.Need-cert-record-requires Inv-loop μ-loop
 cert-record-requires c κs = search needs
 
--- src/lib.rt:131:17
 add-records : tie.Need-add-records Inv-loop μ-loop
 add-records c = search needs
 
--- src/lib.rt:131:9
 mul-records : tie.Need-mul-records Inv-loop μ-loop
 mul-records c = search needs
 
--- src/lib.rt:131:9
 slice-write-records : tie.Need-slice-write-records Inv-loop μ-loop
 slice-write-records c = search needs
 
--- src/lib.rt:132:9
 add-j : tie.Need-add-j Inv-loop μ-loop
 add-j c = search needs
 
--- src/lib.rt:129:5
 loop-less : tie.Need-loop-less Inv-loop μ-loop
 loop-less c = search needs
 
--- src/lib.rt:129:5
 loop-again : tie.Need-loop-again Inv-loop μ-loop
 loop-again c = (omega arith, length-set (c .before .before .before .loop .keys) (c .before .before .before .before .before .before .before .args .s .count + c .before .before .before .loop .j) (c .before .cert-key .result) ∙ c .before .before .before .loop .inv .1, length-set (c .before .before .before .loop .records) (c .before .before .before .before .before .before .before .args .s .count + c .before .before .before .loop .j) (c .cert-record .result) ∙ c .before .before .before .loop .inv .2, key-turn (c .before .before .before .before .before .before .before .args .page .now) (c .before .before .before .before .before .before .before .args .first) (c .before .before .before .before .before .before .before .args .many) (c .before .before .before .before .before .before .before .args .keys .now) (c .before .before .before .loop .keys) (c .before .before .before .before .before .before .before .args .s .count) (c .before .before .before .loop .j) (c .before .cert-key .result) (c .before .before .loop-test .taken) (c .before .before .before .before .before .before .before .pre .2) (c .before .before .before .loop .inv .3) (c .before .cert-key .ensures), record-turn (c .before .before .before .before .before .before .before .args .page .now) (c .before .before .before .before .before .before .before .args .first) (c .before .before .before .before .before .before .before .args .many) (c .before .before .before .before .before .before .before .args .records .now) (c .before .before .before .loop .records) (c .before .before .before .before .before .before .before .args .s .count) (c .before .before .before .loop .j) (c .cert-record .result) (c .before .before .loop-test .taken) (c .before .before .before .before .before .before .before .pre .3) (c .before .before .before .loop .inv .4) (c .cert-record .ensures))
 
--- src/lib.rt:136:16
 add-t17 : tie.Need-add-t17 Inv-loop μ-loop
 add-t17 c = search needs
 
--- src/lib.rt:114:1
 same-length : tie.Need-same-length Inv-loop μ-loop
 same-length c = search needs
 
--- src/lib.rt:114:1
 same-length-2 : tie.Need-same-length-2 Inv-loop μ-loop
 same-length-2 c = search needs
 
--- src/lib.rt:114:1
 returns : tie.Need-returns Inv-loop μ-loop
 returns c = copied (c .before .before .before .before .before .args .page .now) (c .before .before .before .before .before .args .first) (c .before .before .before .before .before .args .many) (c .before .before .before .before .before .args .s) (c .before .before .before .before .before .args .keys .now) (c .before .before .before .before .before .args .records .now) (c .before .loop .keys) (c .before .loop .records) (c .before .loop .j) (omega (arith, c .before .loop .inv .0, c .loop-test .left)) (c .before .loop .inv .3) (c .before .loop .inv .4)
 

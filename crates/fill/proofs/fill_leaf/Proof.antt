@@ -7,42 +7,28 @@ use borrow.Author.Needs.{needs}
 use native.Mathlib.Omega.{arith}
 use Rattle.fill.proofs.fill_leaf.Statement.{statement}
 use Rattle.fill.proofs.fill_leaf.Tie as tie
-use Rattle.fill.proofs.fill_leaf.Reads as reads
-use Rattle.fill.proofs.fill_leaf.Lts as lts
-use Rattle.fill.proofs.copy.Reads as copy-reads
-use Rattle.fill.proofs.span.Reads as span-reads
-use Rattle.fill.proofs.spot.Reads as spot-reads
-use Rattle.fill.proofs.start.Reads as start-reads
 
--- src/lib.rt:154:9
 start-requires : tie.Need-start-requires
 start-requires c κs = search needs
 
--- src/lib.rt:155:9
 spot-requires : tie.Need-spot-requires
 spot-requires c κs = search needs
 
--- src/lib.rt:156:34
 sub-span : tie.Need-sub-span
 sub-span c = search needs
 
--- src/lib.rt:156:9
 span-requires : tie.Need-span-requires
 span-requires c κs = search needs
 
--- src/lib.rt:157:5
 copy-requires : tie.Need-copy-requires
 copy-requires c κs = let w = run-within (c .before .before .before .before .before .before .before .before .before .before .args .page .now) (c .before .before .before .before .before .before .before .before .before .before .args .count) (c .before .before .before .before .before .before .before .before .before .before .args .a) (c .before .before .before .before .before .before .before .before .before .before .args .s) (c .before .before .before .before .before .before .before .before .before .before .pre .2) (c .before .before .before .before .before .before .start .result) (c .before .before .before .before .before .spot .result) (c .before .before .span .result) (c .before .before .before .before .before .before .start .ensures) (c .before .before .before .before .before .spot .ensures) (c .before .before .span .ensures) in let r = run-room (c .before .before .before .before .before .before .before .before .before .before .args .a .room) (c .before .before .before .before .before .before .before .before .before .before .args .s .count) (c .before .before .before .before .before .spot .result) (c .before .before .before .before .before .before .start .result) (c .before .before .span .result) (c .before .before .before .before .before .before .before .before .before .before .pre .3) (c .before .before .span .ensures) in (omega (arith, c .before .before .before .before .before .before .before .before .before .before .pre .0), c .before .before .before .before .before .before .before .before .before .before .pre .1, omega (arith, c .before .before .before .before .before .before .before .before .before .before .pre .4 .keys), omega (arith, c .before .before .before .before .before .before .before .before .before .before .pre .4 .records))
 
--- src/lib.rt:141:1
 same-length : tie.Need-same-length
 same-length c = search needs
 
--- src/lib.rt:141:1
 same-length-2 : tie.Need-same-length-2
 same-length-2 c = search needs
 
--- src/lib.rt:141:1
 returns : tie.Need-returns
 returns c = c .before .before .before .before .copy .ensures ∙ ap (λ (xs : List Cert). listed xs (c .before .before .before .before .before .before .before .before .before .before .before .before .before .before .before .args .s) (c .before .before .before .before .before .before .before .before .before .before .before .before .before .before .before .args .keys .now) (c .before .before .before .before .before .before .before .before .before .before .before .before .before .before .before .args .records .now)) (asked-run (c .before .before .before .before .before .before .before .before .before .before .before .before .before .before .before .args .page .now) (c .before .before .before .before .before .before .before .before .before .before .before .before .before .before .before .args .count) (c .before .before .before .before .before .before .before .before .before .before .before .before .before .before .before .args .a) (c .before .before .before .before .before .before .before .before .before .before .before .before .before .before .before .args .s) (c .before .before .before .before .before .before .before .before .before .before .before .before .before .before .before .pre .2) (c .before .before .before .before .before .before .before .before .before .before .before .start .result) (c .before .before .before .before .before .before .before .before .before .before .spot .result) (c .before .before .before .before .before .before .before .span .result) (c .before .before .before .before .before .before .before .before .before .before .before .start .ensures) (c .before .before .before .before .before .before .before .before .before .before .spot .ensures) (c .before .before .before .before .before .before .before .span .ensures))
 

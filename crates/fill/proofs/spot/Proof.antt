@@ -3,40 +3,28 @@ use native.Mathlib.Omega.{arith}
 use borrow.Author.Needs.{needs}
 use Rattle.fill.proofs.spot.Statement.{statement}
 use Rattle.fill.proofs.spot.Tie as tie
-use Rattle.fill.proofs.spot.Reads as reads
-use Rattle.fill.proofs.spot.Lts as lts
-use Rattle.head.proofs.cert_key.Reads as cert-key-reads
-use Rattle.seek.proofs.seek.Reads as seek-reads
 
--- src/lib.rt:77:9
 returns : tie.Need-returns
 returns c = spot-none (c .before .before .args .page .now) (c .before .before .args .count) (c .before .before .args .key) (c .if1 .taken)
 
--- src/lib.rt:79:8
 cert-key-requires : tie.Need-cert-key-requires
 cert-key-requires c κs = search needs
 
--- src/lib.rt:80:9
 returns-2 : tie.Need-returns-2
 returns-2 c = spot-start (c .before .before .before .before .args .page .now) (c .before .before .before .before .args .count) (c .before .before .before .before .args .key) (let o = c .before .before .if1 .left in omega arith) (c .before .cert-key .result) (c .before .cert-key .ensures) (c .if2 .taken)
 
--- src/lib.rt:82:29
 sub-cert-key : tie.Need-sub-cert-key
 sub-cert-key c = search needs
 
--- src/lib.rt:82:8
 cert-key-requires-2 : tie.Need-cert-key-requires-2
 cert-key-requires-2 c κs = search needs
 
--- src/lib.rt:83:9
 returns-3 : tie.Need-returns-3
 returns-3 c = spot-end (c .before .before .before .before .before .before .args .page .now) (c .before .before .before .before .before .before .args .count) (c .before .before .before .before .before .before .args .key) (c .before .before .before .before .before .before .pre .2) (let o = c .before .before .before .before .if1 .left in omega arith) (c .before .cert-key2 .result) (c .before .cert-key2 .ensures) (c .if3 .taken)
 
--- src/lib.rt:85:5
 seek-requires : tie.Need-seek-requires
 seek-requires c κs = search needs
 
--- src/lib.rt:71:1
 returns-4 : tie.Need-returns-4
 returns-4 c = search needs
 

@@ -6,24 +6,17 @@ use native.Mathlib.Omega.{arith}
 use borrow.Author.Needs.{needs}
 use Rattle.fill.proofs.start.Statement.{statement}
 use Rattle.fill.proofs.start.Tie as tie
-use Rattle.fill.proofs.start.Reads as reads
-use Rattle.fill.proofs.start.Lts as lts
-use Rattle.fill.proofs.spot.Reads as spot-reads
 
--- src/lib.rt:95:9
 returns : tie.Need-returns
 unfolding startOf
 returns c = search needs
 
--- src/lib.rt:97:23
 sub-spot : tie.Need-sub-spot
 sub-spot c = search needs
 
--- src/lib.rt:97:5
 spot-requires : tie.Need-spot-requires
 spot-requires c κs = search needs
 
--- src/lib.rt:89:1
 returns-2 : tie.Need-returns-2
 returns-2 c = c .spot .ensures ∙ sym (start-spot (c .before .before .before .args .low) (keysIn certSize (c .before .before .before .args .count) (c .before .before .before .args .page .now)) (let o = c .before .if1 .left in omega arith))
 

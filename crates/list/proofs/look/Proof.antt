@@ -6,47 +6,33 @@ use native.Mathlib.Omega.{arith}
 use borrow.Author.Needs.{needs}
 use Rattle.list.proofs.look.Statement.{statement}
 use Rattle.list.proofs.look.Tie as tie
-use Rattle.list.proofs.look.Reads as reads
-use Rattle.list.proofs.look.Lts as lts
-use Rattle.dry.proofs.dry_of.Reads as dry-of-reads
-use Rattle.fill.proofs.fill.Reads as fill-reads
-use Rattle.sweep.proofs.sweep.Reads as sweep-reads
 
--- src/lib.rt:59:9
 dry-of-requires : tie.Need-dry-of-requires
 dry-of-requires c κs = search needs
 
--- src/lib.rt:61:9
 sweep-requires : tie.Need-sweep-requires
 sweep-requires c κs = search needs
 
--- src/lib.rt:62:9
 same-length : tie.Need-same-length
 same-length c = search needs
 
--- src/lib.rt:62:9
 returns : tie.Need-returns
-returns c = let A = c .before .before .before .before .before .before .before .before .before .before .before .args in tell-damaged (A .keys .now) (A .records .now) (walkOf (A .n) (A .c) (A .a) (A .t .now)) (known-ahead (A .n) (A .c) (A .a) (A .t .now) (c .before .before .before .before .before .before .before .before .before .before .before .pre .2) (c .before .before .before .before .before .before .before .before .before .before .before .pre .0) (c .before .before .before .before .before .before .before .before .before .before .before .pre .1) (c .before .before .before .before .before .before .before .before .before .before .slice-known .given) (omega (arith, c .before .before .before .before .before .before .before .before .before .before .before .fits .c)) (c .before .before .before .before .before .before .dry-of .result) (c .before .before .before .before .before .before .dry-of .ensures) ∙ not-true (c .before .before .before .before .before .before .dry-of .result .whole) (c .before .before .before .before .if1 .taken)) (c .before .before .sweep .last .0) (c .before .before .sweep .result) (c .before .before .sweep .ensures)
+returns c = let args = c .before .before .before .before .before .before .before .before .before .before .before .args in tell-damaged (args .keys .now) (args .records .now) (walkOf (args .n) (args .c) (args .a) (args .t .now)) (known-ahead (args .n) (args .c) (args .a) (args .t .now) (c .before .before .before .before .before .before .before .before .before .before .before .pre .2) (c .before .before .before .before .before .before .before .before .before .before .before .pre .0) (c .before .before .before .before .before .before .before .before .before .before .before .pre .1) (c .before .before .before .before .before .before .before .before .before .before .slice-known .given) (omega (arith, c .before .before .before .before .before .before .before .before .before .before .before .fits .c)) (c .before .before .before .before .before .before .dry-of .result) (c .before .before .before .before .before .before .dry-of .ensures) ∙ not-true (c .before .before .before .before .before .before .dry-of .result .whole) (c .before .before .before .before .if1 .taken)) (c .before .before .sweep .last .0) (c .before .before .sweep .result) (c .before .before .sweep .ensures)
 
--- src/lib.rt:64:9
 fill-requires : tie.Need-fill-requires
 fill-requires c κs = search needs
 
--- src/lib.rt:47:1
 same-length-2 : tie.Need-same-length-2
 same-length-2 c = search needs
 
--- src/lib.rt:47:1
 same-length-3 : tie.Need-same-length-3
 same-length-3 c = search needs
 
--- src/lib.rt:47:1
 same-length-4 : tie.Need-same-length-4
 same-length-4 c = search needs
 
--- src/lib.rt:47:1
 returns-2 : tie.Need-returns-2
-returns-2 c = let A = c .before .before .before .before .before .before .before .before .before .before .before .before .before .before .before .before .before .args in tell-filled (A .keys .now) (A .records .now) (walkOf (A .n) (A .c) (A .a) (A .t .now)) (known-ahead (A .n) (A .c) (A .a) (A .t .now) (c .before .before .before .before .before .before .before .before .before .before .before .before .before .before .before .before .before .pre .2) (c .before .before .before .before .before .before .before .before .before .before .before .before .before .before .before .before .before .pre .0) (c .before .before .before .before .before .before .before .before .before .before .before .before .before .before .before .before .before .pre .1) (c .before .before .before .before .before .before .before .before .before .before .before .before .before .before .before .before .slice-known .given) (omega (arith, c .before .before .before .before .before .before .before .before .before .before .before .before .before .before .before .before .before .fits .c)) (c .before .before .before .before .before .before .before .before .before .before .before .before .dry-of .result) (c .before .before .before .before .before .before .before .before .before .before .before .before .dry-of .ensures) ∙ not-false (c .before .before .before .before .before .before .before .before .before .before .before .before .dry-of .result .whole) (c .before .before .before .before .before .before .before .before .before .before .if1 .left)) (c .before .before .before .before .before .before .fill .last .0) (c .before .before .before .before .before .before .fill .result) (c .before .before .before .before .before .before .fill .last .1 .1 .1 .1 .0) (c .before .before .before .before .before .before .fill .last .1 .1 .1 .1 .1 .0) (c .before .before .before .before .before .before .fill .ensures)
+returns-2 c = let args = c .before .before .before .before .before .before .before .before .before .before .before .before .before .before .before .before .before .args in tell-filled (args .keys .now) (args .records .now) (walkOf (args .n) (args .c) (args .a) (args .t .now)) (known-ahead (args .n) (args .c) (args .a) (args .t .now) (c .before .before .before .before .before .before .before .before .before .before .before .before .before .before .before .before .before .pre .2) (c .before .before .before .before .before .before .before .before .before .before .before .before .before .before .before .before .before .pre .0) (c .before .before .before .before .before .before .before .before .before .before .before .before .before .before .before .before .before .pre .1) (c .before .before .before .before .before .before .before .before .before .before .before .before .before .before .before .before .slice-known .given) (omega (arith, c .before .before .before .before .before .before .before .before .before .before .before .before .before .before .before .before .before .fits .c)) (c .before .before .before .before .before .before .before .before .before .before .before .before .dry-of .result) (c .before .before .before .before .before .before .before .before .before .before .before .before .dry-of .ensures) ∙ not-false (c .before .before .before .before .before .before .before .before .before .before .before .before .dry-of .result .whole) (c .before .before .before .before .before .before .before .before .before .before .if1 .left)) (c .before .before .before .before .before .before .fill .last .0) (c .before .before .before .before .before .before .fill .result) (c .before .before .before .before .before .before .fill .last .1 .1 .1 .1 .0) (c .before .before .before .before .before .before .fill .last .1 .1 .1 .1 .1 .0) (c .before .before .before .before .before .before .fill .ensures)
 
 pub look-spec : {M : Type 1} → statement M
 look-spec =
