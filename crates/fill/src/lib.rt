@@ -16,27 +16,23 @@ use entries::LEAF;
 use entries::PAGE;
 use head::Head;
 use rules::Asked;
+use rules::LEVELS;
 use rules::Place;
 use sweep::Run;
 use sweep::Sofar;
 ghost use mathlib.Core.Path.{_≡_};
 ghost use mathlib.Core.Bool.{true};
 ghost use mathlib.Core.List.{List};
-ghost use Prim.Native.Nat.{ℕ, min, _+_, _-_, _*_, _≤_, _<_};
-ghost use lib.ListN.{length, drop};
-ghost use lib.Seq.{paste};
+ghost use Prim.Native.Nat.{ℕ, min, _+_, _-_, _*_, _≤_};
+ghost use lib.ListN.{length};
 ghost use Rattle.rules.specs.Layout.{pageSize, headerSize, certSize};
-ghost use Rattle.rules.specs.Entry.{keys, rising};
+ghost use Rattle.rules.specs.Entry.{rising};
 ghost use Rattle.rules.specs.Table.{read, fit0};
 ghost use Rattle.rules.specs.Walk.{Walked, walk, walkEach, walkOf};
-ghost use Rattle.rules.specs.List.{recordsOf};
 ghost use Rattle.entries.specs.Spot.{keysIn, spotOf, startOf};
 ghost use Rattle.head.proofs.Headers.{headOf};
 ghost use Rattle.sweep.specs.Sweeps.{entersBy, aboveAt, Deep, Ready, placesLeft, Lies};
 ghost use Rattle.fill.specs.Fills.{listing, filling, filledIn, Known, Roomy, sofar, stopped, certsFrom, listed, asked, Sorted};
-
-// The level that the root is walked at.
-const TOP: usize = 3;
 
 // What a walk has come to: whether no damaged place was met, and how many certificates stand in the lists.
 pub struct Filled {
@@ -263,5 +259,5 @@ pub fn fill(
     };
     let above = Above { parent: 0, top: 0 };
     let root = head::root_place(t);
-    walk_page(t, n, c, TOP, a, above, root, keys, records, nothing)
+    walk_page(t, n, c, LEVELS, a, above, root, keys, records, nothing)
 }
