@@ -3,21 +3,27 @@ use Prim.Native.Nat.{ℕ, _^_, _*_, _≤_, _<_}
 use mathlib.Core.Path.{_≡_}
 use mathlib.Core.Bool.{Bool, true, false}
 use mathlib.Core.List.{List, [], _∷_}
-use mathlib.Core.Option.{some}
-use lib.ListN.{length}
+use mathlib.Core.Option.{some, none}
+use lib.ListN.{length, take, getD}
 use Rattle.fields.specs.Field.{Bytes}
 use Rattle.rules.specs.Layout.{pageSize, mostPages, topKind, lastKey}
 use Rattle.rules.specs.Test.{mem, distinct}
+use Rattle.rules.specs.Entry.{find}
+use Rattle.rules.specs.Page.{isLeaf}
 use Rattle.rules.specs.Table.{read}
 use Rattle.rules.specs.Place.{kids, pick}
-use Rattle.rules.specs.Walk.{Step, numbers}
-use Rattle.rules.specs.Insert.{full, rootSplits, tooHigh, newPages}
+use Rattle.rules.specs.Marks.{freePages}
+use Rattle.rules.specs.Walk.{Step, numbers, certsAt}
+use Rattle.rules.specs.Insert.{full, rootSplits, tooHigh, newPages, noRoom}
 use Rattle.rules.specs.declared.Place.{Place}
+use Rattle.rules.specs.declared.Session.{Session}
 use Rattle.rules.proofs.All.{All}
 use Rattle.rules.proofs.Places.{Fits}
 use Rattle.head.specs.declared.Head.{Head}
 use Rattle.head.proofs.Headers.{headOf}
 use Rattle.split.specs.Split.{stepAt}
+use Rattle.way.specs.declared.Step as way
+use Rattle.way.specs.declared.Way.{Way}
 
 -- a table of n pages, and a counter and a key that fit their fields
 pub record Whole (n c : ℕ) (t : List ℕ) : Type 0 where
@@ -58,6 +64,52 @@ pub record Chosen (n : ℕ) (way : List Step) (new : List ℕ) : Type 0 where
   pub apart : distinct new ≡ true
   pub enough : newPages way ≤ length new
   pub room : rootSplits way ≡ true → tooHigh way ≡ false
+
+-- ── Handed over in the rules' words ─────────────────────────────────────────────────────────────────────────────
+
+-- the way ends in a leaf
+abbrev pub EndsInLeaf : List Step → Type 0
+EndsInLeaf [] = ⊥
+EndsInLeaf (s ∷ above) = isLeaf (s .page .view) ≡ true
+
+-- what an insert knows before it writes: the way stands and its leaf has not the key, pages enough are free, and the
+-- numbers at hand are the lowest of them
+pub record Ready (k : ℕ) (t : List ℕ) (s : Session) (steps : List Step) (chosen : List ℕ) : Type 0 where
+  pub whole : Whole (s .n) (s .c) t
+  pub leads : Leads (s .n) k t steps
+  pub short : length steps ≤ topKind
+  pub ends : EndsInLeaf steps
+  pub absent : find k (certsAt steps) ≡ none
+  pub room : noRoom steps (freePages s (numbers steps)) ≡ false
+  pub lowest : (j : ℕ) → j < newPages steps → getD chosen j 0 ≡ getD (freePages s (numbers steps)) j 0
+
+-- ── Handed over in the code's words ─────────────────────────────────────────────────────────────────────────────
+
+-- a page on the way is known by its place and its header
+abbrev pub HeadRead : List ℕ → way.Step → Type 0
+HeadRead t x = x .head ≡ headOf (read t (x .place .child))
+
+-- its steps, leaf first
+abbrev pub listed : Way → List way.Step
+listed w = take (w .len) (w .leaf ∷ (w .parent ∷ (w .top ∷ [])))
+
+-- the steps as the rules see them, where their pages stand in a table
+unfoldable pub stepsIn : List ℕ → List way.Step → List Step
+stepsIn t [] = []
+stepsIn t (x ∷ xs) = stepAt t (x .place) ∷ stepsIn t xs
+
+pub record ReadyWay (k : ℕ) (t : List ℕ) (s : Session) (w : Way) (chosen : List ℕ) : Type 0 where
+  pub heads : All (HeadRead t) (listed w)
+  pub ready : Ready k t s (stepsIn t (listed w)) chosen
+
+-- the upper end of a way, and numbers for its new pages
+pub record Level (c k : ℕ) (t : List ℕ) (xs : List way.Step) (chosen : List ℕ) : Type 0 where
+  pub n : ℕ
+  pub whole : Whole n c t
+  pub leads : Leads n k t (stepsIn t xs)
+  pub short : length xs ≤ topKind
+  pub heads : All (HeadRead t) xs
+  pub new : Chosen n (stepsIn t xs) (take (newPages (stepsIn t xs)) chosen)
 
 -- a root that stands, by its place and header, with numbers for its halves and a new root where it is full
 pub record RootReady (c k : ℕ) (t : List ℕ) (e : Place) (h : Head) (lower upper new : ℕ) : Type 0 where
