@@ -1,18 +1,24 @@
 -- What an insert has to do, decided before anything is written by the headers of the pages on the key's way, leaf first.
 -- The laws beside it say that this is what the rules decide by the pages themselves.
-use Prim.Native.Nat.{ℕ, suc, _+_, _*_}
+use Prim.Native.Nat.{ℕ, suc, _+_, _*_, _≤_}
+use mathlib.Core.Path.{_≡_}
 use mathlib.Core.Bool.{Bool, true, false, not, _&&_, _||_}
 use mathlib.Core.List.{List, [], _∷_}
 use lib.Dec.{leb, ltb, eqb}
 use lib.ListN.{length, take}
 use Rattle.rules.specs.Layout.{leafRoom, innerRoom, leafKind, topKind}
 use Rattle.rules.specs.Marks.{freePages}
+use Rattle.rules.specs.Walk.{Step, numbers}
+use Rattle.rules.specs.Insert.{splitting, tooSoon, noRoom}
 use Rattle.rules.specs.declared.Session.{Session}
+use Rattle.rules.proofs.All.{All}
+use Rattle.rules.proofs.Views.{Shaped}
 use Rattle.head.specs.declared.Head.{Head}
 use Rattle.marks.specs.Lowest.{lowestOf}
 use Rattle.marks.specs.declared.Entered.{Entered}
 use Rattle.marks.specs.declared.Chosen.{Chosen}
 use Rattle.way.specs.declared.Way.{Way}
+use Rattle.way.specs.Ways.{wayFor}
 use Rattle.plan.specs.declared.Planned.{Planned}
 
 -- ── By headers ──────────────────────────────────────────────────────────────────────────────────────────────────
@@ -80,5 +86,24 @@ planBy s present w =
         | true ↦ Planned.SyncFirst
         | false ↦ elim (noRoomBy w (splitsBy (headsOf w)) (freePages s (numbersOf w)))
             [ true ↦ Planned.Full | false ↦ Planned.Go ]
+      ]
+    ]
+
+-- ── By the rules ────────────────────────────────────────────────────────────────────────────────────────────────
+
+-- a way as the code has it, and the rules' steps that it stands for
+pub record Headed (w : Way) (steps : List Step) : Type 0 where
+  pub way : w ≡ wayFor steps
+  pub few : length steps ≤ 3
+  pub shaped : All (λ (s : Step). Shaped (s .page .view)) steps
+
+-- the rules' refusals of an insert, in their order
+unfoldable pub planOf : Session → Bool → List Step → Planned
+planOf s present steps =
+    elim present [
+      | true ↦ Planned.Present
+      | false ↦ elim (tooSoon (s .c) (splitting steps)) [
+        | true ↦ Planned.SyncFirst
+        | false ↦ elim (noRoom steps (freePages s (numbers steps))) [ true ↦ Planned.Full | false ↦ Planned.Go ]
       ]
     ]

@@ -15,10 +15,12 @@ use rules::Session;
 use rules::TOP;
 use way::Way;
 ghost use mathlib.Core.Path.{_≡_};
+ghost use mathlib.Core.List.{List};
 ghost use Prim.Native.Nat.{_≤_, _<_};
 ghost use lib.ListN.{take, getD};
 ghost use Rattle.rules.specs.Layout.{mostPages};
-ghost use Rattle.plan.specs.Plan.{headsOf, fullBy, splitsBy, lateBy, tooSoonBy, enteredOf, needBy, stuckBy, chosenBy, planBy};
+ghost use Rattle.rules.specs.Walk.{Step};
+ghost use Rattle.plan.specs.Plan.{headsOf, fullBy, splitsBy, lateBy, tooSoonBy, enteredOf, needBy, stuckBy, chosenBy, Headed, planOf};
 
 pub enum Planned {
     Present,
@@ -138,7 +140,7 @@ pub fn choose(session: Session, way: Way) -> Chosen
 
 pub fn plan(session: Session, way: Way, present: bool, chosen: Chosen) -> Planned
     requires { ⌜ (1 ≤ way .len) × (way .len ≤ 3) × (chosen ≡ chosenBy session way) ⌝ }
-    ensures { λ r. ⌜ r ≡ planBy session present way ⌝ }
+    ensures { λ r. ⌜ ((steps : List Step) → Headed way steps → r ≡ planOf session present steps) ⌝ }
 {
     if present {
         return Planned::Present;
