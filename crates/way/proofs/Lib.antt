@@ -1,3 +1,4 @@
 pub mod Inner
 pub mod Stood
+pub mod Linked
 pub mod Descent
