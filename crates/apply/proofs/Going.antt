@@ -1,35 +1,29 @@
 -- Splits down a way: each page that is halved stands below one that takes its two entries, and the page at the end has
 -- room, leads the key on and finds as the page did that stood there. Assumes nothing.
-use Prim.Native.Nat.{ℕ, zero, suc, _+_, _*_, _≤_, _<_}
+use Prim.Native.Nat.{ℕ, suc, _+_, _*_, _≤_}
 use native.Mathlib.Omega.{arith}
 use mathlib.Core.Path.{_≡_, refl, sym, ap, _∙_, subst}
-use mathlib.Core.Logic.{_⊎_, inl, inr, _≢_}
+use mathlib.Core.Logic.{_⊎_, inl, _≢_}
 use mathlib.Core.Bool.{Bool, true, false}
 use mathlib.Core.List.{List, [], _∷_}
-use mathlib.Core.Option.{Option, some, none, Option·none-ne-some}
 use lib.Dec.{eqb}
-use lib.ListN.{length, drop, getD}
+use lib.ListN.{length}
 use borrow.Author.Tests.{eqb-true, eqb-false, eq-eqb, ne-eqb}
-use Rattle.rules.specs.Layout.{topKind}
-use Rattle.rules.specs.Test.{mem, distinct}
+use Rattle.rules.specs.Test.{mem}
 use Rattle.rules.specs.Entry.{find}
-use Rattle.rules.specs.Page.{View, Page, isLeaf}
+use Rattle.rules.specs.Page.{Page}
 use Rattle.rules.specs.Table.{read}
 use Rattle.rules.specs.Place.{kids, pick}
 use Rattle.rules.specs.Walk.{Step, numbers}
-use Rattle.rules.specs.Insert.{full, splitting, rootSplits, tooHigh, newPages, divide, Making, making, grow, halve, split}
-use Rattle.rules.specs.declared.Place.{Place}
+use Rattle.rules.specs.Insert.{full, splitting, rootSplits, tooHigh, newPages, divide, Making, making, halve}
 use Rattle.rules.specs.declared.Session.{Session}
-use Rattle.rules.proofs.Tests.{not-both, fails, mem-head, mem-tail, mem-cases, distinct-head, distinct-tail}
-use Rattle.rules.proofs.All.{All, nil, cons, all-head, all-tail, all-map}
-use Rattle.rules.proofs.Views.{Shaped, shaped-read}
+use Rattle.rules.proofs.Tests.{not-both, fails, mem-head, mem-tail, distinct-tail}
+use Rattle.rules.proofs.All.{all-tail, all-map}
 use Rattle.rules.proofs.Places.{Fits}
-use Rattle.rules.proofs.Asks.{pick-leaf}
 use Rattle.edit.specs.Takes.{TakesTwins}
 use Rattle.split.specs.Split.{stepAt}
 use Rattle.apply.specs.Leads.{Whole, Stands, Leads, Fresh, Chosen}
-use Rattle.apply.proofs.Halving.{Onward, takes, Sites, left-whole, left-others, left-onward, left-at}
-use Rattle.apply.proofs.Growing.{grown-whole, grown-others, grown-takes}
+use Rattle.apply.proofs.Halving.{Onward, Sites, left-whole, left-others, left-onward, left-at}
 
 -- ── What splits leave ───────────────────────────────────────────────────────────────────────────────────────────
 

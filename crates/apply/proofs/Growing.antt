@@ -1,31 +1,29 @@
 -- A new root over an old one that is full: it stands in the table, and takes the two entries that the old root's becomes.
 -- Assumes nothing.
-use Prim.Native.Nat.{ℕ, _+_, _*_, _^_, _≤_, _<_}
+use Prim.Native.Nat.{ℕ, _≤_, _<_}
 use native.Mathlib.Omega.{arith}
 use mathlib.Core.Path.{_≡_, refl, sym, ap, _∙_, subst}
 use mathlib.Core.Logic.{_⊎_, inl, inr, _≢_}
-use mathlib.Core.Bool.{Bool, true, false}
+use mathlib.Core.Bool.{true}
 use mathlib.Core.List.{List, [], _∷_}
-use lib.Dec.{eqb}
 use lib.ListN.{length}
-use borrow.Author.Tests.{ne-eqb}
-use Rattle.rules.specs.Layout.{pageSize, topKind, lastKey}
+use Rattle.rules.specs.Layout.{topKind, lastKey}
 use Rattle.rules.specs.Test.{mem}
-use Rattle.rules.specs.Entry.{Child, keys, rising, risesFrom}
-use Rattle.rules.specs.Page.{View, Page, isLeaf, count, fresh}
+use Rattle.rules.specs.Entry.{keys, rising, risesFrom}
+use Rattle.rules.specs.Page.{Page, count, fresh}
 use Rattle.rules.specs.Table.{read, build, setRoot}
 use Rattle.rules.specs.Insert.{full, divide, newChild, rootOver, rootPrevious, Making, making, grow}
 use Rattle.rules.specs.declared.Place.{Place}
 use Rattle.rules.specs.declared.Session.{Session}
 use Rattle.rules.proofs.Tests.{fails, mem-head, mem-cases, mem-nil}
-use Rattle.rules.proofs.All.{All, nil, cons}
+use Rattle.rules.proofs.All.{nil, cons}
 use Rattle.rules.proofs.Views.{Shaped, shaped-read, inner-of-kind}
 use Rattle.rules.proofs.Halves.{Divided, divided, rootOver-shaped}
-use Rattle.rules.proofs.Pages.{WideView, Wide, wide-fresh, room-pageBytes}
+use Rattle.rules.proofs.Pages.{Wide, wide-fresh, room-pageBytes}
 use Rattle.rules.proofs.PageZero.{length-setRoot, bytes-setRoot, read-setRoot}
 use Rattle.rules.proofs.Tables.{Has, Room, has-page, wide-read, length-build, read-build-same, read-build-other, bytes-build}
 use Rattle.rules.proofs.Widths.{wide-newChild}
-use Rattle.edit.specs.Takes.{HasChild, TakesTwins}
+use Rattle.edit.specs.Takes.{TakesTwins}
 use Rattle.split.specs.Split.{stepAt, Grows}
 use Rattle.head.specs.declared.Head.{Head}
 use Rattle.head.proofs.Headers.{headOf}

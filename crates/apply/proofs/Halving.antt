@@ -1,22 +1,21 @@
 -- A page on a way is halved below one that has its entry and room for one more: which pages stand where afterwards, and
 -- that the half on the key's way leads on as the page did. Assumes nothing.
-use Prim.Native.Nat.{ℕ, suc, _+_, _-_, _*_, _^_, _≤_, _<_}
+use Prim.Native.Nat.{ℕ, suc, _-_, _≤_, _<_}
 use native.Mathlib.Omega.{arith}
 use mathlib.Core.Path.{_≡_, refl, sym, ap, _∙_, subst}
 use mathlib.Core.Logic.{_⊎_, inl, inr, _≢_}
 use mathlib.Core.Bool.{Bool, true, false}
-use mathlib.Core.List.{List, [], _∷_}
-use mathlib.Core.Option.{Option, some, none}
+use mathlib.Core.List.{List}
+use mathlib.Core.Option.{some}
 use lib.Dec.{ltb, eqb}
 use lib.ListN.{length}
 use borrow.Author.Tests.{ltb-true, ltb-false}
-use Rattle.fields.specs.Field.{Bytes}
-use Rattle.rules.specs.Layout.{pageSize, mostPages, leafKind, leafRoom, innerRoom}
+use Rattle.rules.specs.Layout.{leafKind}
 use Rattle.rules.specs.Test.{mem}
 use Rattle.rules.specs.Entry.{Child, keys, find, put}
 use Rattle.rules.specs.Page.{View, Page, isLeaf, viewIn, pageIn, fresh, touch}
 use Rattle.rules.specs.Table.{pageAt, read, build, change}
-use Rattle.rules.specs.Place.{kids, pick, cutView}
+use Rattle.rules.specs.Place.{kids, pick}
 use Rattle.rules.specs.Walk.{Step}
 use Rattle.rules.specs.Insert.{full, divide, lowerHalf, upperHalf, previousOf, newChild, putChild, lowerPage, upperPage, twins, changed, Making, making, halve}
 use Rattle.rules.specs.declared.Place.{Place}
@@ -37,7 +36,7 @@ use Rattle.head.specs.declared.Head.{Head}
 use Rattle.head.proofs.Headers.{headOf}
 use Rattle.build.specs.Range.{Divides}
 use Rattle.build.proofs.Sounds.{full-divides}
-use Rattle.edit.specs.Takes.{HasChild, TakesTwins}
+use Rattle.edit.specs.Takes.{TakesTwins}
 use Rattle.split.specs.Split.{stepAt, Halves}
 use Rattle.split.proofs.Halved.{room-lower, room-upper}
 use Rattle.apply.specs.Leads.{Whole, Stands}

@@ -3,5 +3,12 @@ pub mod Growing
 pub mod Going
 pub mod Splits
 pub mod Whole
-pub mod Root
 pub mod Ends
+pub mod Heads
+pub mod Same
+pub mod Levels
+pub mod Root
+pub mod Numbers
+pub mod Handed
+pub mod Done
+pub mod Told

@@ -1,33 +1,26 @@
 -- A whole way split from the top down. Assumes nothing.
-use Prim.Native.Nat.{ℕ, zero, suc, _+_, _*_, _≤_, _<_}
-use native.Mathlib.Omega.{arith}
-use mathlib.Core.Path.{_≡_, refl, sym, ap, _∙_, subst}
+use Prim.Native.Nat.{ℕ}
+use mathlib.Core.Path.{_≡_, sym, ap, _∙_, subst}
 use mathlib.Core.Logic.{_⊎_, inl, inr, _≢_}
-use mathlib.Core.Bool.{Bool, true, false}
+use mathlib.Core.Bool.{true, false}
 use mathlib.Core.List.{List, [], _∷_}
-use mathlib.Core.Option.{Option, some, none, Option·none-ne-some}
-use lib.Dec.{eqb}
-use lib.ListN.{length, drop, getD}
-use borrow.Author.Tests.{eqb-false}
-use Rattle.rules.specs.Layout.{topKind}
-use Rattle.rules.specs.Test.{mem, distinct}
-use Rattle.rules.specs.Page.{View, Page, isLeaf}
+use mathlib.Core.Option.{some, Option·none-ne-some}
+use lib.ListN.{drop, getD}
+use Rattle.rules.specs.Test.{mem}
+use Rattle.rules.specs.Page.{Page, isLeaf}
 use Rattle.rules.specs.Table.{read}
 use Rattle.rules.specs.Place.{kids, pick}
 use Rattle.rules.specs.Walk.{Step, numbers}
-use Rattle.rules.specs.Insert.{full, splitting, rootSplits, tooHigh, newPages, divide, Making, making, grow, halve, split}
-use Rattle.rules.specs.declared.Place.{Place}
+use Rattle.rules.specs.Insert.{full, divide, Making, making, grow, halve, split}
 use Rattle.rules.specs.declared.Session.{Session}
-use Rattle.rules.proofs.Tests.{not-both, fails, mem-nil, mem-head, mem-tail, mem-cases, distinct-head, distinct-tail}
-use Rattle.rules.proofs.All.{All, nil, cons, all-head, all-tail}
+use Rattle.rules.proofs.Tests.{fails, mem-nil, mem-head, mem-tail, mem-cases, distinct-head, distinct-tail}
+use Rattle.rules.proofs.All.{All, all-head, all-tail}
 use Rattle.rules.proofs.Views.{Shaped, shaped-read}
 use Rattle.rules.proofs.Asks.{pick-leaf}
 use Rattle.edit.specs.Takes.{TakesTwins}
-use Rattle.split.specs.Split.{stepAt}
-use Rattle.apply.specs.Leads.{Whole, Stands, Leads, Fresh, Chosen}
-use Rattle.apply.proofs.Halving.{Onward, takes, Sites}
-use Rattle.apply.proofs.Growing.{grown-whole, grown-others, grown-takes}
-use Rattle.apply.proofs.Going.{Gone, apart-by, step-here, stands-still, leads-first, stays, halved-whole, halved-onward, halved-others, halved-at, mem-rest, mem-not, pages-more, chosen-above}
+use Rattle.apply.specs.Leads.{Stands, Leads, Fresh, Chosen}
+use Rattle.apply.proofs.Halving.{takes, Sites}
+use Rattle.apply.proofs.Going.{Gone, apart-by, stands-still, leads-first, halved-whole, halved-onward, halved-others, halved-at, mem-rest, mem-not}
 
 -- ── The rules' split, by what is full ───────────────────────────────────────────────────────────────────────────
 

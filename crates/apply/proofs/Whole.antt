@@ -1,13 +1,13 @@
 -- The rules' split of a whole way: the page at its end has room and leads the key on as the leaf did, and no page changes
 -- but those of the way and the new ones. Assumes nothing.
-use Prim.Native.Nat.{ℕ, zero, suc, _+_, _*_, _≤_, _<_}
+use Prim.Native.Nat.{ℕ, _≤_, _<_}
 use native.Mathlib.Omega.{arith}
 use mathlib.Core.Path.{_≡_, refl, sym, ap, _∙_, subst}
 use mathlib.Core.Logic.{_⊎_, inl, inr, _≢_}
 use mathlib.Core.Bool.{Bool, true, false}
 use mathlib.Core.List.{List, [], _∷_}
 use lib.Dec.{eqb}
-use lib.ListN.{length, drop, getD}
+use lib.ListN.{length}
 use borrow.Author.Tests.{eqb-false}
 use Rattle.rules.specs.Layout.{topKind}
 use Rattle.rules.specs.Test.{mem}
@@ -23,7 +23,7 @@ use Rattle.split.specs.Split.{stepAt}
 use Rattle.apply.specs.Leads.{Whole, Stands, Leads, Fresh, Chosen}
 use Rattle.apply.proofs.Halving.{Sites}
 use Rattle.apply.proofs.Growing.{grown-whole, grown-others, grown-takes}
-use Rattle.apply.proofs.Going.{Gone, step-here, stands-still, leads-first, stays, halved-whole, halved-onward, halved-others, halved-at, mem-rest, mem-not, splitting-more, pages-more, chosen-above}
+use Rattle.apply.proofs.Going.{Gone, step-here, stands-still, stays, halved-whole, halved-onward, halved-others, halved-at, mem-rest, mem-not, splitting-more, pages-more, chosen-above}
 use Rattle.apply.proofs.Splits.{split-stays, split-root, split-below, gone-below}
 
 -- ── The root ────────────────────────────────────────────────────────────────────────────────────────────────────

@@ -1,7 +1,7 @@
 -- What is known of a way that was walked, and of the numbers chosen for new pages.
 use Prim.Native.Nat.{ℕ, _^_, _*_, _≤_, _<_}
 use mathlib.Core.Path.{_≡_}
-use mathlib.Core.Bool.{Bool, true, false}
+use mathlib.Core.Bool.{true, false}
 use mathlib.Core.List.{List, [], _∷_}
 use mathlib.Core.Option.{some, none}
 use lib.ListN.{length, take, getD}
@@ -14,12 +14,12 @@ use Rattle.rules.specs.Table.{read}
 use Rattle.rules.specs.Place.{kids, pick}
 use Rattle.rules.specs.Marks.{freePages}
 use Rattle.rules.specs.Walk.{Step, numbers, certsAt}
-use Rattle.rules.specs.Insert.{full, rootSplits, tooHigh, newPages, noRoom}
-use Rattle.rules.specs.declared.Place.{Place}
+use Rattle.rules.specs.Call.{Left}
+use Rattle.rules.specs.Insert.{rootSplits, tooHigh, newPages, noRoom}
 use Rattle.rules.specs.declared.Session.{Session}
+use Rattle.rules.specs.declared.Inserted.{Inserted}
 use Rattle.rules.proofs.All.{All}
 use Rattle.rules.proofs.Places.{Fits}
-use Rattle.head.specs.declared.Head.{Head}
 use Rattle.head.proofs.Headers.{headOf}
 use Rattle.split.specs.Split.{stepAt}
 use Rattle.way.specs.declared.Step as way
@@ -85,6 +85,10 @@ pub record Ready (k : ℕ) (t : List ℕ) (s : Session) (steps : List Step) (cho
 
 -- ── Handed over in the code's words ─────────────────────────────────────────────────────────────────────────────
 
+-- how many new pages an insert can need: two for each of three levels, and a root
+abbrev pub mostNew : ℕ
+mostNew = 7
+
 -- a page on the way is known by its place and its header
 abbrev pub HeadRead : List ℕ → way.Step → Type 0
 HeadRead t x = x .head ≡ headOf (read t (x .place .child))
@@ -94,7 +98,7 @@ abbrev pub listed : Way → List way.Step
 listed w = take (w .len) (w .leaf ∷ (w .parent ∷ (w .top ∷ [])))
 
 -- the steps as the rules see them, where their pages stand in a table
-unfoldable pub stepsIn : List ℕ → List way.Step → List Step
+abbrev pub stepsIn : List ℕ → List way.Step → List Step
 stepsIn t [] = []
 stepsIn t (x ∷ xs) = stepAt t (x .place) ∷ stepsIn t xs
 
@@ -111,10 +115,6 @@ pub record Level (c k : ℕ) (t : List ℕ) (xs : List way.Step) (chosen : List 
   pub heads : All (HeadRead t) xs
   pub new : Chosen n (stepsIn t xs) (take (newPages (stepsIn t xs)) chosen)
 
--- a root that stands, by its place and header, with numbers for its halves and a new root where it is full
-pub record RootReady (c k : ℕ) (t : List ℕ) (e : Place) (h : Head) (lower upper new : ℕ) : Type 0 where
-  pub n : ℕ
-  pub whole : Whole n c t
-  pub leads : Leads n k t (stepAt t e ∷ [])
-  pub head : h ≡ headOf (read t (e .child))
-  pub chosen : full (read t (e .child) .view) ≡ true → Chosen n (stepAt t e ∷ []) (lower ∷ (upper ∷ (new ∷ [])))
+-- what is left by an insert that is done
+abbrev pub done : Session → List ℕ → List ℕ → Left Inserted
+done s w t = record { answer = Inserted.Done; session = s; working = w; stable = t }

@@ -1,42 +1,161 @@
 // The way of an insert split from the top down, and the entry put in its leaf: the rules' `split` and what follows it.
 //
-// specs/ says what is known of a way that was walked and of the numbers chosen for new pages. proofs/ says what a split
-// page, a new root and a whole way of splits leave, for any table and any session: each page above has room for the two
-// entries that one becomes, and so has the page at the end for the new certificate.
+// `apply` leaves the table and the session that the rules' `insertDone` leaves. A page that is full is split after the
+// page above it, so that one has room; the page that then stands at the end of the way has room for the new entry.
+// What is asked for here, that the way stands, that its leaf has not the key and that pages enough are free, `plan` and
+// the walk before it have found out; specs/ says it in the rules' words. The laws in proofs/ hold for any table and any
+// session.
 //
 // Below stand `split`, which splits one page, and `edit`, which puts the entry.
 ghost use mathlib.Core.Path.{_≡_};
-ghost use mathlib.Core.List.{[], _∷_};
-ghost use Rattle.rules.specs.Insert.{making, split};
-ghost use Rattle.split.specs.Split.{stepAt};
-ghost use Rattle.apply.specs.Leads.{RootReady};
-use head::Head;
-use rules::Place;
+ghost use mathlib.Core.List.{List, [], _∷_};
+ghost use Prim.Native.Nat.{ℕ, _+_, _≤_};
+ghost use lib.ListN.{drop};
+ghost use Rattle.rules.specs.Insert.{making, split, insertDone};
+ghost use Rattle.apply.specs.Leads.{mostNew, listed, stepsIn, ReadyWay, Level, done};
+use marks::Chosen;
 use rules::Session;
 use split::Made;
+use way::Step;
+use way::Way;
+
+// How many new pages an insert can need: two for each of three levels, and a root.
+const NEW: usize = 7;
 
 // The root's page, split under a new root if it is full.
-pub fn split_root(
+fn split_root(
     table: &mut [u8],
     session: Session,
     c: u32,
     key: u64,
-    e: Place,
-    head: Head,
-    lower: u16,
-    upper: u16,
-    new: u16,
+    root: Step,
+    pages: [u16; NEW],
+    from: usize,
 ) -> Made
-    requires { ⌜ RootReady c key (now table) e head lower upper new ⌝ }
+    requires { ⌜ (from + 3 ≤ mostNew) × Level c key (now table) (root ∷ []) (drop from pages) ⌝ }
     ensures { λ r. ⌜ making (now (table .exit)) (r .session) (r .at)
-        ≡ split c key (stepAt (now (table .entry)) e ∷ []) (lower ∷ (upper ∷ (new ∷ []))) (making (now (table .entry)) session 0) ⌝ }
+        ≡ split c key (stepsIn (now (table .entry)) (root ∷ [])) (drop from pages) (making (now (table .entry)) session 0) ⌝ }
 {
-    if !plan::is_full(head) {
+    if !plan::is_full(root.head) {
         return Made {
             session,
-            at: e.child,
+            at: root.place.child,
         };
     }
-    let over = split::grow(table, session, c, e, head, new);
-    split::halve(table, over.session, c, key, e, head, lower, upper, over.at)
+    let over = split::grow(table, session, c, root.place, root.head, pages[from + 2]);
+    split::halve(
+        table,
+        over.session,
+        c,
+        key,
+        root.place,
+        root.head,
+        pages[from],
+        pages[from + 1],
+        over.at,
+    )
+}
+
+// A page below the root, split below what the root then is.
+fn split_second(
+    table: &mut [u8],
+    session: Session,
+    c: u32,
+    key: u64,
+    step: Step,
+    root: Step,
+    pages: [u16; NEW],
+    from: usize,
+) -> Made
+    requires { ⌜ (from + 5 ≤ mostNew) × Level c key (now table) (step ∷ (root ∷ [])) (drop from pages) ⌝ }
+    ensures { λ r. ⌜ making (now (table .exit)) (r .session) (r .at)
+        ≡ split c key (stepsIn (now (table .entry)) (step ∷ (root ∷ []))) (drop from pages) (making (now (table .entry)) session 0) ⌝ }
+{
+    if !plan::is_full(step.head) {
+        return Made {
+            session,
+            at: step.place.child,
+        };
+    }
+    let over = split_root(table, session, c, key, root, pages, from + 2);
+    split::halve(
+        table,
+        over.session,
+        c,
+        key,
+        step.place,
+        step.head,
+        pages[from],
+        pages[from + 1],
+        over.at,
+    )
+}
+
+// The leaf of a way of three pages.
+fn split_third(
+    table: &mut [u8],
+    session: Session,
+    c: u32,
+    key: u64,
+    way: Way,
+    pages: [u16; NEW],
+) -> Made
+    requires { ⌜ Level c key (now table) (way .leaf ∷ (way .parent ∷ (way .top ∷ []))) pages ⌝ }
+    ensures { λ r. ⌜ making (now (table .exit)) (r .session) (r .at)
+        ≡ split c key (stepsIn (now (table .entry)) (way .leaf ∷ (way .parent ∷ (way .top ∷ [])))) pages (making (now (table .entry)) session 0) ⌝ }
+{
+    let step = way.leaf;
+    if !plan::is_full(step.head) {
+        return Made {
+            session,
+            at: step.place.child,
+        };
+    }
+    let over = split_second(table, session, c, key, way.parent, way.top, pages, 2);
+    split::halve(
+        table,
+        over.session,
+        c,
+        key,
+        step.place,
+        step.head,
+        pages[0],
+        pages[1],
+        over.at,
+    )
+}
+
+// A whole way, leaf first.
+fn split_way(table: &mut [u8], session: Session, key: u64, way: Way, pages: [u16; NEW]) -> Made
+    requires { ⌜ ReadyWay key (now table) session way pages ⌝ }
+    ensures { λ r. ⌜ making (now (table .exit)) (r .session) (r .at)
+        ≡ split (session .c) key (stepsIn (now (table .entry)) (listed way)) pages (making (now (table .entry)) session 0) ⌝ }
+{
+    let c = session.c;
+    if way.len == 1 {
+        return split_root(table, session, c, key, way.leaf, pages, 0);
+    }
+    if way.len == 2 {
+        return split_second(table, session, c, key, way.leaf, way.parent, pages, 0);
+    }
+    split_third(table, session, c, key, way, pages)
+}
+
+// The splits, then the entry in the page that stands at the end of the way.
+pub fn apply(
+    table: &mut [u8],
+    session: Session,
+    key: u64,
+    value: u32,
+    way: Way,
+    chosen: Chosen,
+) -> Session
+    requires { ⌜ ReadyWay key (now table) session way (chosen .pages) ⌝ }
+    ensures { λ r. ⌜ ((stable : List ℕ) → done r (now (table .exit)) stable
+        ≡ insertDone key value session (stepsIn (now (table .entry)) (listed way)) (now (table .entry)) stable) ⌝ }
+{
+    let pages = chosen.pages;
+    let made = split_way(table, session, key, way, pages);
+    edit::put_cert(table, made.at as usize, key, value, session.c);
+    made.session
 }

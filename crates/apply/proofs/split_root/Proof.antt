@@ -1,7 +1,6 @@
-use mathlib.Core.Path.{sym, _∙_}
 use borrow.Author.Tests.{not-true, not-false}
 use Rattle.rules.specs.Insert.{making}
-use Rattle.apply.proofs.Root.{full-head, root-stays, root-grows, root-halves, root-split}
+use Rattle.apply.proofs.Numbers.{stays-then, top-grows, top-halves, top-split}
 use borrow.Author.Needs.{needs}
 use Rattle.apply.proofs.split_root.Statement.{statement}
 use Rattle.apply.proofs.split_root.Tie as tie
@@ -10,21 +9,59 @@ is-full-requires : tie.Need-is-full-requires
 is-full-requires c κs = search needs
 
 returns : tie.Need-returns
-returns c = root-stays (c .before .before .before .pre) (c .before .before .before .args .session) (sym (full-head (c .before .before .before .pre) (c .before .is-full .result) (c .before .is-full .ensures)) ∙ not-true (c .before .is-full .result) (c .if1 .taken))
+returns c = stays-then (c .before .before .before .pre .1) (c .before .is-full .ensures) (not-true (c .before .is-full .result) (c .if1 .taken)) (c .before .before .before .args .session)
+
+add-grow : tie.Need-add-grow
+add-grow c = search needs
+
+mul-grow : tie.Need-mul-grow
+mul-grow c = search needs
+
+array-read-grow : tie.Need-array-read-grow
+array-read-grow c = search needs
 
 grow-requires : tie.Need-grow-requires
-grow-requires c κs = root-grows (c .before .before .before .before .pre) (c .before .before .before .before .args .session) (sym (full-head (c .before .before .before .before .pre) (c .before .before .is-full .result) (c .before .before .is-full .ensures)) ∙ not-false (c .before .before .is-full .result) (c .before .if1 .left))
+grow-requires c κs = top-grows (c .before .before .before .before .args .from) (c .before .before .before .before .args .t6) (c .before .before .before .before .pre .1) (c .before .before .is-full .ensures) (not-false (c .before .before .is-full .result) (c .before .if1 .left)) (c .before .before .before .before .args .session)
+
+mul-halve : tie.Need-mul-halve
+mul-halve c = search needs
+
+array-read-halve : tie.Need-array-read-halve
+array-read-halve c = search needs
+
+add-halve : tie.Need-add-halve
+add-halve c = search needs
+
+mul-halve-2 : tie.Need-mul-halve-2
+mul-halve-2 c = search needs
+
+array-read-halve-2 : tie.Need-array-read-halve-2
+array-read-halve-2 c = search needs
 
 halve-requires : tie.Need-halve-requires
-halve-requires c κs = root-halves (c .before .before .before .before .before .before .before .before .pre) (c .before .before .before .before .before .before .before .before .args .session) (sym (full-head (c .before .before .before .before .before .before .before .before .pre) (c .before .before .before .before .before .before .is-full .result) (c .before .before .before .before .before .before .is-full .ensures)) ∙ not-false (c .before .before .before .before .before .before .is-full .result) (c .before .before .before .before .before .if1 .left)) (c .before .before .before .grow .last .0) (c .before .before .before .grow .result .session) (c .before .before .before .grow .result .at) (c .before .before .before .grow .ensures)
+halve-requires c κs = top-halves (c .before .before .before .before .before .before .before .before .args .from) (c .before .before .before .before .before .before .before .before .args .t6) (c .before .before .before .before .before .before .before .before .pre .1) (c .before .before .before .before .before .before .is-full .ensures) (not-false (c .before .before .before .before .before .before .is-full .result) (c .before .before .before .before .before .if1 .left)) (c .before .before .before .before .before .before .before .before .args .session) (c .before .before .before .grow .last .0) (c .before .before .before .grow .result .session) (c .before .before .before .grow .result .at) (c .before .before .before .grow .ensures)
 
 same-length : tie.Need-same-length
 same-length c = search needs
 
 returns-2 : tie.Need-returns-2
-returns-2 c = root-split (c .before .before .before .before .before .before .before .before .before .before .before .pre) (c .before .before .before .before .before .before .before .before .before .before .before .args .session) (sym (full-head (c .before .before .before .before .before .before .before .before .before .before .before .pre) (c .before .before .before .before .before .before .before .before .before .is-full .result) (c .before .before .before .before .before .before .before .before .before .is-full .ensures)) ∙ not-false (c .before .before .before .before .before .before .before .before .before .is-full .result) (c .before .before .before .before .before .before .before .before .if1 .left)) (c .before .before .before .before .before .before .grow .last .0) (c .before .before .before .before .before .before .grow .result .session) (c .before .before .before .before .before .before .grow .result .at) (making (c .before .before .halve .last .0) (c .before .before .halve .result .session) (c .before .before .halve .result .at)) (c .before .before .before .before .before .before .grow .ensures) (c .before .before .halve .ensures)
+returns-2 c = top-split (c .before .before .before .before .before .before .before .before .before .before .before .args .from) (c .before .before .before .before .before .before .before .before .before .before .before .args .t6) (c .before .before .before .before .before .before .before .before .before .before .before .pre .1) (c .before .before .before .before .before .before .before .before .before .is-full .ensures) (not-false (c .before .before .before .before .before .before .before .before .before .is-full .result) (c .before .before .before .before .before .before .before .before .if1 .left)) (c .before .before .before .before .before .before .before .before .before .before .before .args .session) (c .before .before .before .before .before .before .grow .last .0) (c .before .before .before .before .before .before .grow .result .session) (c .before .before .before .before .before .before .grow .result .at) (making (c .before .before .halve .last .0) (c .before .before .halve .result .session) (c .before .before .halve .result .at)) (c .before .before .before .before .before .before .grow .ensures) (c .before .before .halve .ensures)
 
 pub split-root-spec : {M : Type 1} → statement M
 split-root-spec =
     tie.close
-    (tie.spec is-full-requires returns grow-requires halve-requires same-length returns-2)
+    (tie.spec
+    is-full-requires
+    returns
+    add-grow
+    mul-grow
+    array-read-grow
+    grow-requires
+    mul-halve
+    array-read-halve
+    add-halve
+    mul-halve-2
+    array-read-halve-2
+    halve-requires
+    same-length
+    returns-2)
