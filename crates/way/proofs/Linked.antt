@@ -1,8 +1,8 @@
 -- The pages of a way hang together: each was asked for by the page above it, is none of those above, and its previous
 -- page is in the table. There are at most as many as there are levels. Assumes nothing.
-use Prim.Native.Nat.{ℕ, zero, suc, _+_, _-_, _*_, _^_, _≤_, _<_}
+use Prim.Native.Nat.{ℕ, zero, suc, _+_, _*_, _^_, _≤_, _<_}
 use native.Mathlib.Omega.{arith}
-use mathlib.Core.Path.{_≡_, refl, sym, ap, _∙_, subst}
+use mathlib.Core.Path.{_≡_, refl, ap, subst}
 use mathlib.Core.Bool.{Bool, true, false}
 use mathlib.Core.List.{List, [], _∷_}
 use mathlib.Core.Option.{Option, some, none, Option·some-injective, Option·none-ne-some}
@@ -11,7 +11,7 @@ use lib.ListN.{length}
 use Rattle.fields.specs.Field.{Bytes}
 use Rattle.rules.specs.Layout.{pageSize, lastKey}
 use Rattle.rules.specs.Test.{mem}
-use Rattle.rules.specs.Page.{View, Page}
+use Rattle.rules.specs.Page.{Page}
 use Rattle.rules.specs.Table.{previous0, fit0}
 use Rattle.rules.specs.Place.{rootPlace, kids, pick}
 use Rattle.rules.specs.Enter as entry
