@@ -40,7 +40,7 @@ fn find_in(page: &[u8], count: usize, key: u64) -> Looked
 }
 
 // The same in the leaf at the end of a way.
-fn find_at(table: &[u8], leaf: Step, key: u64) -> Looked
+pub fn find_at(table: &[u8], leaf: Step, key: u64) -> Looked
     requires { ⌜ ((leaf .place .child + 1) * pageSize ≤ length (now table))
         × (leaf .head ≡ headOf (read (now table) (leaf .place .child))) × (Holds (read (now table) (leaf .place .child) .view)) ⌝ }
     ensures { λ r. ⌜ r ≡ lookedIn (find key (read (now (table .entry)) (leaf .place .child) .view .certs)) ⌝ }

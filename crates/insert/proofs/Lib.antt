@@ -1,0 +1,3 @@
+pub mod Went
+pub mod Decided
+pub mod Call

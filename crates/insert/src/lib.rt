@@ -1,0 +1,121 @@
+// Insert: a certificate put under its key.
+//
+// `insert` asks nothing and tests everything, in document 01's order: lengths, the key's parts, page 0, the way of the
+// key, whether the key is there, whether a full page must wait for a sync, whether pages enough are free. Only then does
+// it write. Answer, session and every byte lent are those of the rules' `insert`; what the walk mended stays mended, also
+// behind a refusal.
+//
+// Below stand `tables`, which tests lengths, `keys`, `way`, which walks, `lookup`, which finds a key in a leaf, `plan`,
+// which decides, and `apply`, which splits pages and puts the entry.
+use plan::Planned;
+use rules::Inserted;
+use rules::Inserting;
+use rules::Looked;
+use rules::Session;
+use way::Step;
+use way::Way;
+ghost use mathlib.Core.Path.{_≡_};
+ghost use mathlib.Core.Bool.{true};
+ghost use mathlib.Core.List.{List};
+ghost use Prim.Native.Nat.{ℕ, _+_, _*_, _≤_};
+ghost use lib.ListN.{length};
+ghost use Rattle.rules.specs.Layout.{pageSize, mostPages};
+ghost use Rattle.rules.specs.Entry.{find};
+ghost use Rattle.rules.specs.Table.{read, fit0};
+ghost use Rattle.rules.specs.Insert;
+ghost use Rattle.head.proofs.Headers.{headOf};
+ghost use Rattle.lookup.specs.Looks.{Holds};
+ghost use Rattle.insert.specs.Inserts.{leaving, presentIn, answerOf, stepsOf, Walked};
+
+// The key is in the leaf, with any record.
+fn is_present(table: &[u8], leaf: Step, key: u64) -> bool
+    requires { ⌜ ((leaf .place .child + 1) * pageSize ≤ length (now table))
+        × (leaf .head ≡ headOf (read (now table) (leaf .place .child))) × (Holds (read (now table) (leaf .place .child) .view)) ⌝ }
+    ensures { λ r. ⌜ r ≡ presentIn (find key (read (now (table .entry)) (leaf .place .child) .view .certs)) ⌝ }
+{
+    let Looked::Found(_) = lookup::find_at(table, leaf, key) else {
+        return false;
+    };
+    true
+}
+
+// The answer of an insert that was planned so.
+fn answer_of(planned: Planned) -> Inserted
+    ensures { λ r. ⌜ r ≡ answerOf planned ⌝ }
+{
+    match planned {
+        Planned::Present => Inserted::Present,
+        Planned::SyncFirst => Inserted::SyncFirst,
+        Planned::Full => Inserted::Full,
+        Planned::Go => Inserted::Done,
+    }
+}
+
+// An insert along a way that was walked: refused as planned, or done.
+fn along(t: &mut [u8], session: Session, key: u64, value: u32, way: Way) -> Inserting
+    requires { ⌜ Walked key (now t) session way ⌝ }
+    ensures { λ r. ⌜ ((stable : List ℕ) → leaving r (now (t .exit)) stable
+        ≡ Insert.insertAlong key value session (stepsOf (now (t .entry)) way) (now (t .entry)) stable) ⌝ }
+{
+    let present = is_present(t, way.leaf, key);
+    let chosen = plan::choose(session, way);
+    let planned = plan::plan(session, way, present, chosen);
+    let answer = answer_of(planned);
+    let Planned::Go = planned else {
+        return Inserting { answer, session };
+    };
+    let left = apply::apply(t, session, key, value, way, chosen);
+    Inserting {
+        answer,
+        session: left,
+    }
+}
+
+// An insert of a good key into a table whose page 0 is fit.
+fn insert_key(t: &mut [u8], session: Session, key: u64, value: u32) -> Inserting
+    requires { ⌜ (length (now t) ≡ session .n * pageSize) × (session .n ≤ mostPages) × (fit0 (session .n) (now t) ≡ true) ⌝ }
+    ensures { λ r. ⌜ ((stable : List ℕ) → leaving r (now (t .exit)) stable
+        ≡ Insert.insertKey key value session (now (t .entry)) stable) ⌝ }
+{
+    let way = way::way_of(t, session.n as usize, session.c, key);
+    if way.len == 0 {
+        return Inserting {
+            answer: Inserted::Damaged,
+            session,
+        };
+    }
+    along(t, session, key, value, way)
+}
+
+pub fn insert(
+    working: &mut [u8],
+    stable: &[u8],
+    session: Session,
+    model: u16,
+    serial: u32,
+    issue: u16,
+    value: u32,
+) -> Inserting
+    ensures { λ r. ⌜ leaving r (now (working .exit)) (now (stable .entry))
+        ≡ Insert.insert (now (working .entry)) (now (stable .entry)) session model serial issue value ⌝ }
+{
+    if !tables::lengths_for(session.n, working, stable) {
+        return Inserting {
+            answer: Inserted::Length,
+            session,
+        };
+    }
+    if !keys::good_parts(model, serial, issue) {
+        return Inserting {
+            answer: Inserted::BadKey,
+            session,
+        };
+    }
+    if !head::fit0(working, session.n as usize) {
+        return Inserting {
+            answer: Inserted::Damaged,
+            session,
+        };
+    }
+    insert_key(working, session, keys::key_of(model, serial, issue), value)
+}
