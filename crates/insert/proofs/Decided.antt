@@ -63,7 +63,7 @@ module _ (k x : ℕ) (s : Session) (steps : List rules.Step) (w t : List ℕ) wh
 
   module _ (a : Inserted) (p : Planned) (f : a ≡ answerOf p) (e : p ≡ planned) where
     pub refused-along : (p ≡ Planned.Go → ⊥) → leaving (record { answer = a; session = s }) w t ≡ insertAlong k x s steps w t
-    unfolding insertRefused
+    unfolding insertRefused answerOf
     refused-along n = ap (λ (b : Inserted). insertRefused b s w t) f ∙ (go p n ∙ (ap leftBy e ∙ along-planned))
       where
         go : (q : Planned) → (q ≡ Planned.Go → ⊥) → insertRefused (answerOf q) s w t ≡ leftBy q
@@ -74,6 +74,7 @@ module _ (k x : ℕ) (s : Session) (steps : List rules.Step) (w t : List ℕ) wh
 
     pub done-along : p ≡ Planned.Go → (r : Session) (u : List ℕ) → done r u t ≡ insertDone k x s steps w t
         → leaving (record { answer = a; session = r }) u t ≡ insertAlong k x s steps w t
+    unfolding answerOf
     done-along g r u d =
         ap (λ (b : Inserted). leaving (record { answer = b; session = r }) u t) (f ∙ ap answerOf g)
         ∙ (d ∙ (ap leftBy (sym g ∙ e) ∙ along-planned))

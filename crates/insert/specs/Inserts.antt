@@ -24,7 +24,7 @@ presentIn none = false
 presentIn (some x) = true
 
 -- the answer of an insert that was planned so
-abbrev pub answerOf : Planned → Inserted
+unfoldable pub answerOf : Planned → Inserted
 answerOf Planned.Present = Inserted.Present
 answerOf Planned.SyncFirst = Inserted.SyncFirst
 answerOf Planned.Full = Inserted.Full
