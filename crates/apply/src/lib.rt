@@ -10,8 +10,9 @@
 ghost use mathlib.Core.Path.{_≡_};
 ghost use mathlib.Core.List.{List, [], _∷_};
 ghost use Prim.Native.Nat.{ℕ, _+_, _≤_};
-ghost use lib.ListN.{drop};
-ghost use Rattle.rules.specs.Insert.{making, split, insertDone};
+ghost use lib.ListN.{drop, getD};
+ghost use Rattle.rules.specs.Insert.{making, halve, split, insertDone};
+ghost use Rattle.split.specs.Split.{stepAt, Halves};
 ghost use Rattle.apply.specs.Leads.{mostNew, listed, stepsIn, ReadyWay, Level, done};
 use marks::Chosen;
 use rules::Session;
@@ -21,6 +22,36 @@ use way::Way;
 
 // How many new pages an insert can need: two for each of three levels, and a root.
 const NEW: usize = 7;
+
+// A full step's page halved below the page that now stands above it, by the two numbers at a spot.
+fn halve_step(
+    table: &mut [u8],
+    over: Made,
+    c: u32,
+    key: u64,
+    step: Step,
+    pages: [u16; NEW],
+    from: usize,
+) -> Made
+    requires { ⌜ (from + 2 ≤ mostNew)
+        × Halves (now table) (step .place) (step .head) (getD pages from 0) (getD pages (from + 1) 0) (over .at) ⌝ }
+    ensures { λ r. ⌜ making (now (table .exit)) (r .session) (r .at)
+        ≡ halve c key (stepAt (now (table .entry)) (step .place)) (getD pages from 0) (getD pages (from + 1) 0)
+        (making (now (table .entry)) (over .session) (over .at)) ⌝ }
+{
+    let session = over.session;
+    split::halve(
+        table,
+        session,
+        c,
+        key,
+        step.place,
+        step.head,
+        pages[from],
+        pages[from + 1],
+        over.at,
+    )
+}
 
 // The root's page, split under a new root if it is full.
 fn split_root(
@@ -43,17 +74,7 @@ fn split_root(
         };
     }
     let over = split::grow(table, session, c, root.place, root.head, pages[from + 2]);
-    split::halve(
-        table,
-        over.session,
-        c,
-        key,
-        root.place,
-        root.head,
-        pages[from],
-        pages[from + 1],
-        over.at,
-    )
+    halve_step(table, over, c, key, root, pages, from)
 }
 
 // A page below the root, split below what the root then is.
@@ -78,17 +99,7 @@ fn split_second(
         };
     }
     let over = split_root(table, session, c, key, root, pages, from + 2);
-    split::halve(
-        table,
-        over.session,
-        c,
-        key,
-        step.place,
-        step.head,
-        pages[from],
-        pages[from + 1],
-        over.at,
-    )
+    halve_step(table, over, c, key, step, pages, from)
 }
 
 // The leaf of a way of three pages.
@@ -112,17 +123,7 @@ fn split_third(
         };
     }
     let over = split_second(table, session, c, key, way.parent, way.top, pages, 2);
-    split::halve(
-        table,
-        over.session,
-        c,
-        key,
-        step.place,
-        step.head,
-        pages[0],
-        pages[1],
-        over.at,
-    )
+    halve_step(table, over, c, key, step, pages, 0)
 }
 
 // A whole way, leaf first.

@@ -1,6 +1,7 @@
 use borrow.Author.Tests.{not-true, not-false}
 use Rattle.rules.specs.Insert.{making}
 use Rattle.apply.proofs.Numbers.{stays-then, top-grows, top-halves, top-split}
+use native.Mathlib.Omega.{arith}
 use borrow.Author.Needs.{needs}
 use Rattle.apply.proofs.split_root.Statement.{statement}
 use Rattle.apply.proofs.split_root.Tie as tie
@@ -23,29 +24,14 @@ array-read-grow c = search needs
 grow-requires : tie.Need-grow-requires
 grow-requires c κs = top-grows (c .before .before .before .before .args .from) (c .before .before .before .before .args .t6) (c .before .before .before .before .pre .1) (c .before .before .is-full .ensures) (not-false (c .before .before .is-full .result) (c .before .if1 .left)) (c .before .before .before .before .args .session)
 
-mul-halve : tie.Need-mul-halve
-mul-halve c = search needs
-
-array-read-halve : tie.Need-array-read-halve
-array-read-halve c = search needs
-
-add-halve : tie.Need-add-halve
-add-halve c = search needs
-
-mul-halve-2 : tie.Need-mul-halve-2
-mul-halve-2 c = search needs
-
-array-read-halve-2 : tie.Need-array-read-halve-2
-array-read-halve-2 c = search needs
-
-halve-requires : tie.Need-halve-requires
-halve-requires c κs = top-halves (c .before .before .before .before .before .before .before .before .args .from) (c .before .before .before .before .before .before .before .before .args .t6) (c .before .before .before .before .before .before .before .before .pre .1) (c .before .before .before .before .before .before .is-full .ensures) (not-false (c .before .before .before .before .before .before .is-full .result) (c .before .before .before .before .before .if1 .left)) (c .before .before .before .before .before .before .before .before .args .session) (c .before .before .before .grow .last .0) (c .before .before .before .grow .result .session) (c .before .before .before .grow .result .at) (c .before .before .before .grow .ensures)
+halve-step-requires : tie.Need-halve-step-requires
+halve-step-requires c κs = (omega (arith, c .before .before .before .before .before .before .before .before .pre .0), top-halves (c .before .before .before .before .before .before .before .before .args .from) (c .before .before .before .before .before .before .before .before .args .t6) (c .before .before .before .before .before .before .before .before .pre .1) (c .before .before .before .before .before .before .is-full .ensures) (not-false (c .before .before .before .before .before .before .is-full .result) (c .before .before .before .before .before .if1 .left)) (c .before .before .before .before .before .before .before .before .args .session) (c .before .before .before .grow .last .0) (c .before .before .before .grow .result .session) (c .before .before .before .grow .result .at) (c .before .before .before .grow .ensures))
 
 same-length : tie.Need-same-length
 same-length c = search needs
 
 returns-2 : tie.Need-returns-2
-returns-2 c = top-split (c .before .before .before .before .before .before .before .before .before .before .before .args .from) (c .before .before .before .before .before .before .before .before .before .before .before .args .t6) (c .before .before .before .before .before .before .before .before .before .before .before .pre .1) (c .before .before .before .before .before .before .before .before .before .is-full .ensures) (not-false (c .before .before .before .before .before .before .before .before .before .is-full .result) (c .before .before .before .before .before .before .before .before .if1 .left)) (c .before .before .before .before .before .before .before .before .before .before .before .args .session) (c .before .before .before .before .before .before .grow .last .0) (c .before .before .before .before .before .before .grow .result .session) (c .before .before .before .before .before .before .grow .result .at) (making (c .before .before .halve .last .0) (c .before .before .halve .result .session) (c .before .before .halve .result .at)) (c .before .before .before .before .before .before .grow .ensures) (c .before .before .halve .ensures)
+returns-2 c = top-split (c .before .before .before .before .before .before .before .before .before .before .before .args .from) (c .before .before .before .before .before .before .before .before .before .before .before .args .t6) (c .before .before .before .before .before .before .before .before .before .before .before .pre .1) (c .before .before .before .before .before .before .before .before .before .is-full .ensures) (not-false (c .before .before .before .before .before .before .before .before .before .is-full .result) (c .before .before .before .before .before .before .before .before .if1 .left)) (c .before .before .before .before .before .before .before .before .before .before .before .args .session) (c .before .before .before .before .before .before .grow .last .0) (c .before .before .before .before .before .before .grow .result .session) (c .before .before .before .before .before .before .grow .result .at) (making (c .before .before .halve-step .last .0) (c .before .before .halve-step .result .session) (c .before .before .halve-step .result .at)) (c .before .before .before .before .before .before .grow .ensures) (c .before .before .halve-step .ensures)
 
 pub split-root-spec : {M : Type 1} → statement M
 split-root-spec =
@@ -57,11 +43,6 @@ split-root-spec =
     mul-grow
     array-read-grow
     grow-requires
-    mul-halve
-    array-read-halve
-    add-halve
-    mul-halve-2
-    array-read-halve-2
-    halve-requires
+    halve-step-requires
     same-length
     returns-2)

@@ -16,31 +16,16 @@ add-split-root : tie.Need-add-split-root
 add-split-root c = search needs
 
 split-root-requires : tie.Need-split-root-requires
-split-root-requires c κs = (omega (arith, c .before .before .before .before .pre .0), below-above (c .before .before .before .before .args .from) (c .before .before .before .before .args .t7) (c .before .before .before .before .pre .1) (c .before .before .is-full .ensures) (not-false (c .before .before .is-full .result) (c .before .if1 .left)))
+split-root-requires c κs = (omega (arith, c .before .before .before .before .pre .0), below-above (c .before .before .before .before .args .from) (c .before .before .before .before .args .pages) (c .before .before .before .before .pre .1) (c .before .before .is-full .ensures) (not-false (c .before .before .is-full .result) (c .before .if1 .left)))
 
-mul-halve : tie.Need-mul-halve
-mul-halve c = search needs
-
-array-read-halve : tie.Need-array-read-halve
-array-read-halve c = search needs
-
-add-halve : tie.Need-add-halve
-add-halve c = search needs
-
-mul-halve-2 : tie.Need-mul-halve-2
-mul-halve-2 c = search needs
-
-array-read-halve-2 : tie.Need-array-read-halve-2
-array-read-halve-2 c = search needs
-
-halve-requires : tie.Need-halve-requires
-halve-requires c κs = below-halves (c .before .before .before .before .before .before .before .before .args .from) (c .before .before .before .before .before .before .before .before .args .t7) (c .before .before .before .before .before .before .before .before .pre .1) (c .before .before .before .before .before .before .is-full .ensures) (not-false (c .before .before .before .before .before .before .is-full .result) (c .before .before .before .before .before .if1 .left)) (c .before .before .before .before .before .before .before .before .args .session) (c .before .before .before .split-root .last .0) (c .before .before .before .split-root .result .session) (c .before .before .before .split-root .result .at) (c .before .before .before .split-root .ensures)
+halve-step-requires : tie.Need-halve-step-requires
+halve-step-requires c κs = (omega (arith, c .before .before .before .before .before .before .before .before .pre .0), below-halves (c .before .before .before .before .before .before .before .before .args .from) (c .before .before .before .before .before .before .before .before .args .pages) (c .before .before .before .before .before .before .before .before .pre .1) (c .before .before .before .before .before .before .is-full .ensures) (not-false (c .before .before .before .before .before .before .is-full .result) (c .before .before .before .before .before .if1 .left)) (c .before .before .before .before .before .before .before .before .args .session) (c .before .before .before .split-root .last .0) (c .before .before .before .split-root .result .session) (c .before .before .before .split-root .result .at) (c .before .before .before .split-root .ensures))
 
 same-length : tie.Need-same-length
 same-length c = search needs
 
 returns-2 : tie.Need-returns-2
-returns-2 c = below-split (c .before .before .before .before .before .before .before .before .before .before .before .args .from) (c .before .before .before .before .before .before .before .before .before .before .before .args .t7) (c .before .before .before .before .before .before .before .before .before .before .before .pre .1) (c .before .before .before .before .before .before .before .before .before .is-full .ensures) (not-false (c .before .before .before .before .before .before .before .before .before .is-full .result) (c .before .before .before .before .before .before .before .before .if1 .left)) (c .before .before .before .before .before .before .before .before .before .before .before .args .session) (c .before .before .before .before .before .before .split-root .last .0) (c .before .before .before .before .before .before .split-root .result .session) (c .before .before .before .before .before .before .split-root .result .at) (making (c .before .before .halve .last .0) (c .before .before .halve .result .session) (c .before .before .halve .result .at)) (c .before .before .before .before .before .before .split-root .ensures) (c .before .before .halve .ensures)
+returns-2 c = below-split (c .before .before .before .before .before .before .before .before .before .before .before .args .from) (c .before .before .before .before .before .before .before .before .before .before .before .args .pages) (c .before .before .before .before .before .before .before .before .before .before .before .pre .1) (c .before .before .before .before .before .before .before .before .before .is-full .ensures) (not-false (c .before .before .before .before .before .before .before .before .before .is-full .result) (c .before .before .before .before .before .before .before .before .if1 .left)) (c .before .before .before .before .before .before .before .before .before .before .before .args .session) (c .before .before .before .before .before .before .split-root .last .0) (c .before .before .before .before .before .before .split-root .result .session) (c .before .before .before .before .before .before .split-root .result .at) (making (c .before .before .halve-step .last .0) (c .before .before .halve-step .result .session) (c .before .before .halve-step .result .at)) (c .before .before .before .before .before .before .split-root .ensures) (c .before .before .halve-step .ensures)
 
 pub split-second-spec : {M : Type 1} → statement M
 split-second-spec =
@@ -50,11 +35,6 @@ split-second-spec =
     returns
     add-split-root
     split-root-requires
-    mul-halve
-    array-read-halve
-    add-halve
-    mul-halve-2
-    array-read-halve-2
-    halve-requires
+    halve-step-requires
     same-length
     returns-2)
