@@ -4,7 +4,6 @@ pub mod Going
 pub mod Splits
 pub mod Whole
 pub mod Ends
-pub mod Heads
 pub mod Same
 pub mod Levels
 pub mod Root

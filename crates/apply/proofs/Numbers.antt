@@ -12,13 +12,14 @@ use Rattle.rules.specs.Table.{read}
 use Rattle.rules.specs.Insert.{full, newPages, Making, making, grow, halve, split}
 use Rattle.rules.specs.declared.Session.{Session}
 use Rattle.rules.proofs.All.{all-head}
+use Rattle.rules.proofs.Views.{shaped-read}
 use Rattle.split.specs.Split.{stepAt, Halves, Grows}
 use Rattle.plan.specs.Plan.{fullBy}
+use Rattle.plan.proofs.Pages.{full-by}
 use Rattle.way.specs.declared.Step.{Step}
 use Rattle.apply.specs.Leads.{stepsIn, Level}
 use Rattle.apply.proofs.Going.{pages-more}
 use Rattle.apply.proofs.Whole.{pages-none}
-use Rattle.apply.proofs.Heads.{full-head}
 use Rattle.apply.proofs.Levels.{level-stays, level-above, level-halves, level-split}
 use Rattle.apply.proofs.Root.{root-grows, root-halves, root-split}
 
@@ -47,7 +48,9 @@ module _ {c k : ℕ} {t : List ℕ} {x : Step} {above : List Step} {pages : List
     {b : Bool} (q : b ≡ fullBy (x .head)) where
   -- what the test of the header says of the page
   pub full-then : full (read t (x .place .child) .view) ≡ b
-  full-then = full-head t x (all-head (L .heads)) q
+  full-then =
+      let p = read t (x .place .child) in
+      sym (q ∙ (ap fullBy (all-head (L .heads)) ∙ full-by p (shaped-read t (x .place .child))))
 
   pub stays-then : b ≡ false → (m : Session) → making t m (x .place .child) ≡ split c k (stepsIn t (x ∷ above)) pages (making t m 0)
   stays-then e m = level-stays c k t x above pages m (full-then ∙ e)
