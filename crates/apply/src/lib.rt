@@ -39,16 +39,17 @@ fn halve_step(
         ≡ halve c key (stepAt (now (table .entry)) (step .place)) (getD pages from 0) (getD pages (from + 1) 0)
         (making (now (table .entry)) (over .session) (over .at)) ⌝ }
 {
-    let session = over.session;
+    let lower = pages[from];
+    let upper = pages[from + 1];
     split::halve(
         table,
-        session,
+        over.session,
         c,
         key,
         step.place,
         step.head,
-        pages[from],
-        pages[from + 1],
+        lower,
+        upper,
         over.at,
     )
 }
