@@ -15,6 +15,9 @@ use head::cert_key_at;
 use head::head_at;
 use head::root_place;
 use rules::Asked;
+use rules::LEAF;
+use rules::LEVELS;
+use rules::MOST;
 use rules::Place;
 use seen::Run;
 use seen::mark;
@@ -37,13 +40,6 @@ ghost use Rattle.seen.specs.Run.{places, Lies};
 ghost use Rattle.dry.specs.Walk.{keeps, helps, meetsWith, dry, dryEach, dryOf};
 ghost use Rattle.dry.specs.Source.{source, markedBy};
 ghost use Rattle.dry.specs.Count.{larger, smaller, tallied, tally, tallyAt, sofarAt, stopped};
-
-// How many numbers have marks, the kind of a leaf, and the level that the root is walked at.
-const MOST: usize = 128;
-
-const LEAF: u16 = 1;
-
-const TOP: usize = 3;
 
 // What a dry walk has found so far: whether it met no damaged place, how many certificates there are, and which numbers
 // it would have mended.
@@ -312,7 +308,7 @@ pub fn dry_of(table: &[u8], n: usize, a: Asked) -> Dry
         count: 0,
     };
     let mut mended = [false; MOST];
-    let s = walk_page(table, n, TOP, a, 0, 0, root, nothing, &mut mended);
+    let s = walk_page(table, n, LEVELS, a, 0, 0, root, nothing, &mut mended);
     Dry {
         whole: s.whole,
         count: s.count,

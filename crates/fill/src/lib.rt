@@ -11,12 +11,12 @@
 // Below stand `sweep`, `enter`, which enters one place, `seek`, which finds a key on a page, and `head`.
 use enter::Above;
 use enter::Entered;
-use entries::CERT;
-use entries::LEAF;
-use entries::PAGE;
 use head::Head;
 use rules::Asked;
+use rules::CERT;
+use rules::LEAF;
 use rules::LEVELS;
+use rules::PAGE;
 use rules::Place;
 use sweep::Run;
 use sweep::Sofar;

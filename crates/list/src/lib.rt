@@ -8,6 +8,7 @@
 //
 // Below stand `tables`, which tests lengths, `dry`, `sweep` and `fill`, the three walks.
 use rules::Asked;
+use rules::LAST_KEY;
 use rules::Listed;
 use rules::Listing;
 use rules::Session;
@@ -21,9 +22,6 @@ ghost use Rattle.rules.specs.Walk.{walkOf};
 ghost use Rattle.rules.specs.List as rules;
 ghost use Rattle.fill.specs.Fills.{Roomy};
 ghost use Rattle.list.specs.Lists.{leaving, telling, told};
-
-// The largest key.
-const LAST_KEY: u64 = 18446744073709551615;
 
 // The asked range: from the start upwards, while the shorter list has room.
 fn up_from(start: u64, keys: usize, records: usize) -> Asked
