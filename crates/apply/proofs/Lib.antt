@@ -11,3 +11,4 @@ pub mod Numbers
 pub mod Handed
 pub mod Done
 pub mod Told
+pub mod Tight

@@ -11,3 +11,4 @@ pub mod Meets
 pub mod Tallies
 pub mod Steps
 pub mod Goes
+pub mod Tight

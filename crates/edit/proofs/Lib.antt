@@ -3,3 +3,4 @@ pub mod Changed
 pub mod Edits
 pub mod Twins
 pub mod Callers
+pub mod Tight

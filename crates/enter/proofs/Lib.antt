@@ -1,3 +1,4 @@
 pub mod Told
 pub mod Mended
 pub mod Stands
+pub mod Tight

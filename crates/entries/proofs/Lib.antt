@@ -5,3 +5,4 @@ pub mod Part
 pub mod Passed
 pub mod Ranges
 pub mod Sets
+pub mod Tight

@@ -3,3 +3,4 @@ pub mod Field
 pub mod Number
 pub mod Run
 pub mod Worked
+pub mod Tight

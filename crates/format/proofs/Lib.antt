@@ -1,2 +1,3 @@
 pub mod Leaf
 pub mod Whole
+pub mod Tight

@@ -4,3 +4,4 @@ pub mod PageZero
 pub mod Headers
 pub mod Left
 pub mod Kids
+pub mod Tight

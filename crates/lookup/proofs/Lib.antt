@@ -1,3 +1,4 @@
 pub mod Leaf
 pub mod Along
 pub mod Call
+pub mod Tight

@@ -6,3 +6,4 @@ pub mod Member
 pub mod Search
 pub mod Choosing
 pub mod Needed
+pub mod Tight

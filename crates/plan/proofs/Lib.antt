@@ -1,3 +1,4 @@
 pub mod Heads
 pub mod Plans
 pub mod Pages
+pub mod Tight

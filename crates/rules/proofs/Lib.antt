@@ -90,3 +90,5 @@ pub mod Fates
 pub mod Survivals
 pub mod Ended
 pub mod Histories
+-- no second outcome
+pub mod Tight

@@ -1,2 +1,3 @@
 pub mod Spots
 pub mod Found
+pub mod Tight

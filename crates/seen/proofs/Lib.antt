@@ -10,3 +10,4 @@ pub mod Goods
 pub mod Ranges
 pub mod Members
 pub mod Wholes
+pub mod Tight

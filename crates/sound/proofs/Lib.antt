@@ -6,3 +6,4 @@ pub mod Children
 pub mod ByKind
 pub mod Fitting
 pub mod Mending
+pub mod Tight

@@ -1,3 +1,4 @@
 pub mod ByHead
 pub mod Halved
 pub mod Grown
+pub mod Tight

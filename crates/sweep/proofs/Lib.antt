@@ -3,3 +3,4 @@ pub mod Notes
 pub mod Keeps
 pub mod Steps
 pub mod Roots
+pub mod Tight

@@ -1,2 +1,2 @@
-pub mod Tight
 pub mod Ways
+pub mod Tight

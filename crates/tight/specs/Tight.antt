@@ -7,8 +7,8 @@ use denote.Triple.Clauses.{Lasts, atExit}
 use borrow.Fn.Kinds.{PK, RK, In, Out, Dens, resT, endedOf}
 
 -- for the same arguments, which meet the `requires`, two outcomes that meet the `ensures` are one
-abbrev pub Tight : (n : ℕ) (ps : List (PK n)) (r : RK n) → In n ps → Out n ps r → Type 0
-Tight n ps r Pre Post =
+abbrev pub Tight : {n : ℕ} (ps : List (PK n)) (r : RK n) → In n ps → Out n ps r → Type 0
+Tight {n} ps r Pre Post =
     (κs : Lfts n) (a : Dens κs ps) → Pre κs a
     → (z z′ : resT r κs .Denot) (l l′ : Lasts (endedOf n ps r) κs a)
     → Post κs a z (atExit (endedOf n ps r) κs a l) → Post κs a z′ (atExit (endedOf n ps r) κs a l′)

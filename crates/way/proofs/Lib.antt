@@ -2,3 +2,4 @@ pub mod Inner
 pub mod Stood
 pub mod Linked
 pub mod Descent
+pub mod Tight

@@ -1,0 +1,9 @@
+-- No second outcome satisfies a contract of this crate. Assumes nothing.
+use mathlib.Core.Path.{sym, _∙_}
+use Rattle.tight.specs.Tight.{Tight}
+use Rattle.newest.proofs as this
+
+pub newest-tight : Tight this.newest.Kinds.ps this.newest.Kinds.r this.newest.Reads.Pre this.newest.Reads.Post
+newest-tight κs a pre z z′ l l′ p q =
+    let e = p ∙ sym q in
+    ((λ i. record { answer = e i .answer; session = e i .session }), (λ i. (e i .working, l .1)))

@@ -1,0 +1,16 @@
+-- No second outcome satisfies a contract of this crate. Assumes nothing.
+use mathlib.Core.Path.{refl, sym, _∙_}
+use Rattle.tight.specs.Tight.{Tight}
+use Rattle.rules.proofs as this
+
+pub session-take-tight : Tight this.Session.take.Kinds.ps this.Session.take.Kinds.r this.Session.take.Reads.Pre this.Session.take.Reads.Post
+session-take-tight κs a pre z z′ l l′ p q = (p ∙ sym q, refl)
+
+pub session-release-tight : Tight this.Session.release.Kinds.ps this.Session.release.Kinds.r this.Session.release.Reads.Pre this.Session.release.Reads.Post
+session-release-tight κs a pre z z′ l l′ p q = (p ∙ sym q, refl)
+
+pub session-wait-tight : Tight this.Session.wait.Kinds.ps this.Session.wait.Kinds.r this.Session.wait.Reads.Pre this.Session.wait.Reads.Post
+session-wait-tight κs a pre z z′ l l′ p q = (p ∙ sym q, refl)
+
+pub session-raise-tight : Tight this.Session.raise.Kinds.ps this.Session.raise.Kinds.r this.Session.raise.Reads.Pre this.Session.raise.Reads.Post
+session-raise-tight κs a pre z z′ l l′ p q = (p ∙ sym q, refl)

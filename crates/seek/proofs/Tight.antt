@@ -1,0 +1,7 @@
+-- No second outcome satisfies a contract of this crate. Assumes nothing.
+use mathlib.Core.Path.{refl, sym, _∙_}
+use Rattle.tight.specs.Tight.{Tight}
+use Rattle.seek.proofs as this
+
+pub seek-tight : Tight this.seek.Kinds.ps this.seek.Kinds.r this.seek.Reads.Pre this.seek.Reads.Post
+seek-tight κs a pre z z′ l l′ p q = (p ∙ sym q, refl)

@@ -1,0 +1,9 @@
+-- No second outcome satisfies a contract of this crate. Assumes nothing.
+use mathlib.Core.Path.{sym, _∙_}
+use Rattle.tight.specs.Tight.{Tight}
+use Rattle.way.proofs as this
+
+pub way-of-tight : Tight this.way_of.Kinds.ps this.way_of.Kinds.r this.way_of.Reads.Pre this.way_of.Reads.Post
+way-of-tight κs a pre z z′ l l′ p q =
+    let e = p ∙ sym q in
+    ((λ i. e i .way), (λ i. (e i .table, l .1)))
