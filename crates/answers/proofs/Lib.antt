@@ -1,0 +1,7 @@
+-- Each file uses only those above it.
+pub mod Exactly
+pub mod Tells
+pub mod Ends
+pub mod Looks
+pub mod Inserts
+pub mod Ranges

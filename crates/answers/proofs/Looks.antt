@@ -1,0 +1,52 @@
+-- Lookup: each number exactly when document 01's table says, and the record found. Assumes nothing.
+use Prim.Native.Nat.{ℕ}
+use mathlib.Core.Path.{_≡_, refl, sym, _∙_}
+use mathlib.Core.Logic.{_⊎_, inl, inr}
+use mathlib.Core.Bool.{Bool, true, false}
+use mathlib.Core.List.{List}
+use mathlib.Core.Option.{Option, some, none, Option·none-ne-some}
+use Rattle.rules.specs.Key.{keyOf, goodParts}
+use Rattle.rules.specs.Entry.{find}
+use Rattle.rules.specs.Table.{fit0}
+use Rattle.rules.specs.Walk.{Step, Way, certsAt, wayOf}
+use Rattle.rules.specs.Call.{lookedNo, lengthsFor}
+use Rattle.rules.specs.Lookup.{lookup, lookupKey, lookupLeft, foundIn}
+use Rattle.rules.specs.declared.Session.{Session}
+use Rattle.answers.specs.Given.{Given}
+use Rattle.answers.specs.Causes.{lookupCauses}
+use Rattle.answers.proofs.Tells.{bad-lengths, good-lengths, bad-key, good-key, whole-way, under-steps}
+
+module _ (w t : List ℕ) (s : Session) (model serial issue : ℕ) where
+  abbrev k : ℕ
+  k = keyOf model serial issue
+
+  abbrev GivenLookup : Type 0
+  GivenLookup = Given (lookupCauses w t s model serial issue) (lookedNo (lookup w t s model serial issue .answer))
+
+  pub lookup-given : GivenLookup
+  unfolding lookup lookupKey lookupLeft foundIn lookedNo
+  lookup-given =
+      go (lengthsFor s w t) refl (goodParts model serial issue) refl (fit0 (s .n) w) refl
+      (wayOf (s .n) (s .c) k w .steps) refl
+    where
+      found : lengthsFor s w t ≡ true → goodParts model serial issue ≡ true → fit0 (s .n) w ≡ true
+          → (steps : List Step) → wayOf (s .n) (s .c) k w .steps ≡ some steps
+          → (x : Option ℕ) → find k (certsAt steps) ≡ x → GivenLookup
+      found p q o steps h none f =
+          inr (good-lengths w t s p, inr (good-key model serial issue q, inr (whole-way s k w o steps h,
+          inl (rw (lookup, p, q, o, lookupKey, h, foundIn, f), under-steps s k w steps h ∙ f))))
+      found p q o steps h (some x) f =
+          inr (good-lengths w t s p, inr (good-key model serial issue q, inr (whole-way s k w o steps h,
+          inr ((λ e. Option·none-ne-some x (sym e ∙ (under-steps s k w steps h ∙ f))), rw (lookup, p, q, o, lookupKey, h, foundIn, f)))))
+
+      go : (a : Bool) → lengthsFor s w t ≡ a → (b : Bool) → goodParts model serial issue ≡ b
+          → (c : Bool) → fit0 (s .n) w ≡ c → (o : Option (List Step)) → wayOf (s .n) (s .c) k w .steps ≡ o
+          → GivenLookup
+      go false p b q c o steps h = inl (rw (p, lookup), bad-lengths w t s p)
+      go true p false q c o steps h =
+          inr (good-lengths w t s p, inl (rw (p, lookup, q), bad-key model serial issue q))
+      go true p true q false o steps h =
+          inr (good-lengths w t s p, inr (good-key model serial issue q, inl (rw (p, lookup, q, o), inl o)))
+      go true p true q true o none h =
+          inr (good-lengths w t s p, inr (good-key model serial issue q, inl (rw (p, lookup, q, o, lookupKey, h), inr h)))
+      go true p true q true o (some steps) h = found p q o steps h (find k (certsAt steps)) refl

@@ -1,0 +1,74 @@
+-- Newest and list: each number exactly when document 01's table says. Assumes nothing.
+use Prim.Native.Nat.{ℕ}
+use mathlib.Core.Path.{_≡_, refl, sym, _∙_}
+use mathlib.Core.Logic.{_⊎_, inl, inr}
+use mathlib.Core.Bool.{Bool, true, false, _&&_}
+use mathlib.Core.List.{List, [], _∷_}
+use lib.Dec.{ltb}
+use Rattle.rules.specs.Entry.{Cert}
+use Rattle.rules.specs.Table.{fit0}
+use Rattle.rules.specs.Walk.{Walked, walkOf}
+use Rattle.rules.specs.Call.{newestNo, listedNo, lengthsFor}
+use Rattle.rules.specs.Newest.{newest, newestMeter, newestLeft, newestIn, meter}
+use Rattle.rules.specs.List.{ListLeft, list, listFrom, listDone, listRefused, upFrom}
+use Rattle.rules.specs.declared.Session.{Session}
+use Rattle.answers.specs.Given.{Given}
+use Rattle.answers.specs.Causes.{newestCauses, listCauses}
+use Rattle.answers.proofs.Tells.{bad-lengths, good-lengths, bad-meter, good-meter, whole-range, nil-cons}
+
+-- ── Newest ──────────────────────────────────────────────────────────────────────────────────────────────────────
+
+-- what is found is answered
+newest-some : (x : Cert) (xs : List Cert) → newestNo (newestIn (x ∷ xs)) ≡ 0
+unfolding newestIn newestNo
+newest-some x [] = refl
+newest-some x (y ∷ ys) = newest-some y ys
+
+module _ (w t : List ℕ) (s : Session) (model serial : ℕ) where
+  abbrev walked : Walked
+  walked = walkOf (s .n) (s .c) (meter model serial) w
+
+  abbrev GivenNewest : Type 0
+  GivenNewest = Given (newestCauses w t s model serial) (newestNo (newest w t s model serial .answer))
+
+  pub newest-given : GivenNewest
+  unfolding newest newestMeter newestLeft newestNo newestIn
+  newest-given =
+      go (lengthsFor s w t) refl (ltb 0 model && ltb 0 serial) refl (fit0 (s .n) w) refl
+      (walked .whole) refl (walked .found) refl
+    where
+      go : (a : Bool) → lengthsFor s w t ≡ a → (b : Bool) → (ltb 0 model && ltb 0 serial) ≡ b
+          → (c : Bool) → fit0 (s .n) w ≡ c → (d : Bool) → walked .whole ≡ d
+          → (f : List Cert) → walked .found ≡ f → GivenNewest
+      go false p b q c o d h f e = inl (rw (p, newest), bad-lengths w t s p)
+      go true p false q c o d h f e = inr (good-lengths w t s p, inl (rw (p, newest, q), bad-meter model serial q))
+      go true p true q false o d h f e =
+          inr (good-lengths w t s p, inr (good-meter model serial q, inl (rw (p, newest, q, o), inl o)))
+      go true p true q true o false h f e =
+          inr (good-lengths w t s p, inr (good-meter model serial q, inl (rw (p, newest, q, o, newestMeter, h), inr h)))
+      go true p true q true o true h [] e =
+          inr (good-lengths w t s p, inr (good-meter model serial q, inr (whole-range s (meter model serial) w o h,
+          inl (rw (p, newest, q, o, newestMeter, h, e), e))))
+      go true p true q true o true h (x ∷ xs) e =
+          inr (good-lengths w t s p, inr (good-meter model serial q, inr (whole-range s (meter model serial) w o h,
+          inr ((λ none. nil-cons x xs (sym none ∙ e)), rw (p, newest, q, o, newestMeter, h, e) (newest-some x xs)))))
+
+-- ── List ────────────────────────────────────────────────────────────────────────────────────────────────────────
+
+module _ (w t : List ℕ) (s : Session) (start : ℕ) (ks xs : List ℕ) where
+  abbrev listing : Walked
+  listing = walkOf (s .n) (s .c) (upFrom start ks xs) w
+
+  abbrev GivenList : Type 0
+  GivenList = Given (listCauses w t s start ks xs) (listedNo (list w t s start ks xs .answer))
+
+  pub list-given : GivenList
+  unfolding list listFrom listDone listRefused listedNo
+  list-given = go (lengthsFor s w t) refl (fit0 (s .n) w) refl (listing .whole) refl
+    where
+      go : (a : Bool) → lengthsFor s w t ≡ a → (b : Bool) → fit0 (s .n) w ≡ b → (c : Bool) → listing .whole ≡ c → GivenList
+      go false p b q c h = inl (rw (p, list), bad-lengths w t s p)
+      go true p false q c h = inr (good-lengths w t s p, inl (rw (p, list, q), inl q))
+      go true p true q false h = inr (good-lengths w t s p, inl (rw (p, list, q, listFrom, h), inr h))
+      go true p true q true h =
+          inr (good-lengths w t s p, inr (whole-range s (upFrom start ks xs) w q h, rw (p, list, q, listFrom, h)))

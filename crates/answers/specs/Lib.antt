@@ -1,0 +1,4 @@
+-- Each file uses only those above it.
+pub mod Given
+pub mod Causes
+pub mod When

@@ -1,0 +1,59 @@
+-- Document 01's table of answers as statements: each number is given exactly when the table says.
+use Prim.Native.Nat.{ℕ}
+use mathlib.Core.Path.{_≡_}
+use mathlib.Core.Logic.{_↔_}
+use mathlib.Core.List.{List}
+use mathlib.Core.Option.{some}
+use lib.ListN.{length}
+use Rattle.rules.specs.Key.{keyOf}
+use Rattle.rules.specs.Walk.{Walked, walkOf}
+use Rattle.rules.specs.Call.{formattedNo, openedNo, insertedNo, lookedNo, newestNo, listedNo, syncedNo}
+use Rattle.rules.specs.Format.{Formatting, format}
+use Rattle.rules.specs.Open.{opening}
+use Rattle.rules.specs.Insert.{insert}
+use Rattle.rules.specs.Lookup.{lookup}
+use Rattle.rules.specs.Newest.{newest, newestIn, meter}
+use Rattle.rules.specs.List.{ListLeft, list, upFrom}
+use Rattle.rules.specs.Sync.{sync}
+use Rattle.rules.specs.declared.Session.{Session}
+use Rattle.rules.specs.declared.Looked.{Looked}
+use Rattle.rules.specs.declared.Newest.{Newest}
+use Rattle.rules.specs.declared.Listed.{Listed}
+use Rattle.answers.specs.Given.{Given}
+use Rattle.answers.specs.Causes.{
+  under,
+  formatCauses,
+  openCauses,
+  insertCauses,
+  lookupCauses,
+  newestCauses,
+  listCauses,
+  syncCauses,
+}
+
+-- for any page bytes, length, session and key
+pub record When : Type 0 where
+  pub format-when : (w s : List ℕ) (k : ℕ) → (formattedNo (format w s .answer) ≡ k) ↔ Given (formatCauses w s) k
+  pub open-when : (w s : List ℕ) (k : ℕ) → (openedNo (opening w s .answer) ≡ k) ↔ Given (openCauses w s) k
+  pub insert-when : (w t : List ℕ) (s : Session) (model serial issue x k : ℕ)
+      → (insertedNo (insert w t s model serial issue x .answer) ≡ k) ↔ Given (insertCauses w t s model serial issue) k
+  pub lookup-when : (w t : List ℕ) (s : Session) (model serial issue k : ℕ)
+      → (lookedNo (lookup w t s model serial issue .answer) ≡ k) ↔ Given (lookupCauses w t s model serial issue) k
+  pub newest-when : (w t : List ℕ) (s : Session) (model serial k : ℕ)
+      → (newestNo (newest w t s model serial .answer) ≡ k) ↔ Given (newestCauses w t s model serial) k
+  pub list-when : (w t : List ℕ) (s : Session) (start : ℕ) (ks xs : List ℕ) (k : ℕ)
+      → (listedNo (list w t s start ks xs .answer) ≡ k) ↔ Given (listCauses w t s start ks xs) k
+  pub sync-when : (w t : List ℕ) (s : Session) (k : ℕ) → (syncedNo (sync w t s .answer) ≡ k) ↔ Given (syncCauses w t s) k
+
+  -- and with 0, what is answered beside it
+  pub found-when : (w t : List ℕ) (s : Session) (model serial issue x : ℕ)
+      → (lookup w t s model serial issue .answer ≡ Looked.Found x)
+      ↔ (Given (lookupCauses w t s model serial issue) 0 × (under s (keyOf model serial issue) w ≡ some x))
+  pub newest-found-when : (w t : List ℕ) (s : Session) (model serial i x : ℕ)
+      → (newest w t s model serial .answer ≡ Newest.Found i x)
+      ↔ (Given (newestCauses w t s model serial) 0
+      × (newestIn (walkOf (s .n) (s .c) (meter model serial) w .found) ≡ Newest.Found i x))
+  pub filled-when : (w t : List ℕ) (s : Session) (start : ℕ) (ks xs : List ℕ) (k : ℕ)
+      → (list w t s start ks xs .answer ≡ Listed.Filled k)
+      ↔ (Given (listCauses w t s start ks xs) 0
+      × (length (walkOf (s .n) (s .c) (upFrom start ks xs) w .found) ≡ k))
