@@ -85,8 +85,16 @@ module _ (w t : List ℕ) (s : Session) (model serial issue x : ℕ) where
       go true p true q true o none h =
           inr (good-lengths w t s p, inr (good-key model serial issue q, inl (rw (p, insert, q, o, insertKey, h), inr h)))
       go true p true q true o (some steps) h =
-          inr (good-lengths w t s p, inr (good-key model serial issue q, inr (whole-way s k w o steps h,
-          later (along-given k x s w (wayOf (s .n) (s .c) k w .table) t steps h))))
+          inr (
+            good-lengths w t s p,
+            inr (
+              good-key model serial issue q,
+              inr (
+                whole-way s k w o steps h,
+                later (along-given k x s w (wayOf (s .n) (s .c) k w .table) t steps h),
+              ),
+            ),
+          )
         where
           same : insert w t s model serial issue x ≡ insertAlong k x s steps (wayOf (s .n) (s .c) k w .table) t
           same = rw (p, insert, q, o, insertKey, h)

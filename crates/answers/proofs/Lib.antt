@@ -5,3 +5,4 @@ pub mod Ends
 pub mod Looks
 pub mod Inserts
 pub mod Ranges
+pub mod Whens

@@ -1,10 +1,12 @@
 -- Newest and list: each number exactly when document 01's table says. Assumes nothing.
 use Prim.Native.Nat.{ℕ}
+use native.Mathlib.Omega.{arith}
 use mathlib.Core.Path.{_≡_, refl, sym, _∙_}
 use mathlib.Core.Logic.{_⊎_, inl, inr}
 use mathlib.Core.Bool.{Bool, true, false, _&&_}
 use mathlib.Core.List.{List, [], _∷_}
 use lib.Dec.{ltb}
+use lib.ListN.{length}
 use Rattle.rules.specs.Entry.{Cert}
 use Rattle.rules.specs.Table.{fit0}
 use Rattle.rules.specs.Walk.{Walked, walkOf}
@@ -12,6 +14,7 @@ use Rattle.rules.specs.Call.{newestNo, listedNo, lengthsFor}
 use Rattle.rules.specs.Newest.{newest, newestMeter, newestLeft, newestIn, meter}
 use Rattle.rules.specs.List.{ListLeft, list, listFrom, listDone, listRefused, upFrom}
 use Rattle.rules.specs.declared.Session.{Session}
+use Rattle.rules.specs.declared.Listed.{Listed}
 use Rattle.answers.specs.Given.{Given}
 use Rattle.answers.specs.Causes.{newestCauses, listCauses}
 use Rattle.answers.proofs.Tells.{bad-lengths, good-lengths, bad-meter, good-meter, whole-range, nil-cons}
@@ -47,11 +50,43 @@ module _ (w t : List ℕ) (s : Session) (model serial : ℕ) where
       go true p true q true o false h f e =
           inr (good-lengths w t s p, inr (good-meter model serial q, inl (rw (p, newest, q, o, newestMeter, h), inr h)))
       go true p true q true o true h [] e =
-          inr (good-lengths w t s p, inr (good-meter model serial q, inr (whole-range s (meter model serial) w o h,
-          inl (rw (p, newest, q, o, newestMeter, h, e), e))))
+          inr (
+            good-lengths w t s p,
+            inr (
+              good-meter model serial q,
+              inr (
+                whole-range s (meter model serial) w o h,
+                inl (rw (p, newest, q, o, newestMeter, h, e), e),
+              ),
+            ),
+          )
       go true p true q true o true h (x ∷ xs) e =
-          inr (good-lengths w t s p, inr (good-meter model serial q, inr (whole-range s (meter model serial) w o h,
-          inr ((λ none. nil-cons x xs (sym none ∙ e)), rw (p, newest, q, o, newestMeter, h, e) (newest-some x xs)))))
+          inr (
+            good-lengths w t s p,
+            inr (
+              good-meter model serial q,
+              inr (
+                whole-range s (meter model serial) w o h,
+                inr ((λ none. nil-cons x xs (sym none ∙ e)), rw (p, newest, q, o, newestMeter, h, e) (newest-some x xs)),
+              ),
+            ),
+          )
+
+  -- done: the answer is the last certificate found
+  pub newest-done : newestNo (newest w t s model serial .answer) ≡ 0
+      → newest w t s model serial .answer ≡ newestIn (walked .found)
+  unfolding newest newestMeter newestLeft newestNo
+  newest-done z =
+      go (lengthsFor s w t) refl (ltb 0 model && ltb 0 serial) refl (fit0 (s .n) w) refl (walked .whole) refl
+    where
+      go : (a : Bool) → lengthsFor s w t ≡ a → (b : Bool) → (ltb 0 model && ltb 0 serial) ≡ b
+          → (c : Bool) → fit0 (s .n) w ≡ c → (d : Bool) → walked .whole ≡ d
+          → newest w t s model serial .answer ≡ newestIn (walked .found)
+      go false p b q c o d h = absurd (omega (arith, rw (p, newest) at z))
+      go true p false q c o d h = absurd (omega (arith, rw (p, newest, q) at z))
+      go true p true q false o d h = absurd (omega (arith, rw (p, newest, q, o) at z))
+      go true p true q true o false h = absurd (omega (arith, rw (p, newest, q, o, newestMeter, h) at z))
+      go true p true q true o true h = rw (p, newest, q, o, newestMeter, h)
 
 -- ── List ────────────────────────────────────────────────────────────────────────────────────────────────────────
 
@@ -72,3 +107,16 @@ module _ (w t : List ℕ) (s : Session) (start : ℕ) (ks xs : List ℕ) where
       go true p true q false h = inr (good-lengths w t s p, inl (rw (p, list, q, listFrom, h), inr h))
       go true p true q true h =
           inr (good-lengths w t s p, inr (whole-range s (upFrom start ks xs) w q h, rw (p, list, q, listFrom, h)))
+
+  -- done: as many as were found
+  pub list-done : listedNo (list w t s start ks xs .answer) ≡ 0
+      → list w t s start ks xs .answer ≡ Listed.Filled (length (listing .found))
+  unfolding list listFrom listDone listRefused listedNo
+  list-done z = go (lengthsFor s w t) refl (fit0 (s .n) w) refl (listing .whole) refl
+    where
+      go : (a : Bool) → lengthsFor s w t ≡ a → (b : Bool) → fit0 (s .n) w ≡ b → (c : Bool) → listing .whole ≡ c
+          → list w t s start ks xs .answer ≡ Listed.Filled (length (listing .found))
+      go false p b q c h = absurd (omega (arith, rw (p, list) at z))
+      go true p false q c h = absurd (omega (arith, rw (p, list, q) at z))
+      go true p true q false h = absurd (omega (arith, rw (p, list, q, listFrom, h) at z))
+      go true p true q true h = rw (p, list, q, listFrom, h)

@@ -44,7 +44,6 @@ pub record When : Type 0 where
   pub list-when : (w t : List ℕ) (s : Session) (start : ℕ) (ks xs : List ℕ) (k : ℕ)
       → (listedNo (list w t s start ks xs .answer) ≡ k) ↔ Given (listCauses w t s start ks xs) k
   pub sync-when : (w t : List ℕ) (s : Session) (k : ℕ) → (syncedNo (sync w t s .answer) ≡ k) ↔ Given (syncCauses w t s) k
-
   -- and with 0, what is answered beside it
   pub found-when : (w t : List ℕ) (s : Session) (model serial issue x : ℕ)
       → (lookup w t s model serial issue .answer ≡ Looked.Found x)
