@@ -2,12 +2,10 @@
 use Prim.Native.Nat.{ℕ}
 use mathlib.Core.Path.{_≡_, refl, sym, _∙_}
 use mathlib.Core.Logic.{_⊎_, inl, inr, _↔_}
-use mathlib.Core.Bool.{Bool, true, _||_}
+use mathlib.Core.Bool.{true}
 use mathlib.Core.List.{List, [], _∷_}
-use lib.Dec.{eqb}
-use borrow.Author.Tests.{eq-eqb}
 use Rattle.rules.specs.Test.{mem}
-use Rattle.rules.proofs.Tests.{mem-head, mem-tail, or-cases, or-left, or-right}
+use Rattle.rules.proofs.Tests.{mem-head, mem-tail, mem-cases}
 use Rattle.answers.specs.Given.{Cause, Given, numbersIn}
 
 -- no second number is given
@@ -23,11 +21,11 @@ pub exactly : (cs : List Cause) (n k : ℕ) → Given cs n → (n ≡ k) ↔ Giv
 exactly cs n k g = ((λ e. rw e at g), given-one cs n k g)
 
 -- what is given is 0 or a number of the table
-pub given-number : (cs : List Cause) (k : ℕ) → Given cs k → (k ≡ 0) ⊎ (mem k (numbersIn cs) ≡ true)
-given-number [] k g = inl g
-given-number (c ∷ cs) k (inl p) = inr (rw (p .0) (mem-head (c .number) (numbersIn cs)))
-given-number (c ∷ cs) k (inr p) = go (given-number cs k (p .1))
+pub given-number : (cs : List Cause) (k : ℕ) → Given cs k → mem k (0 ∷ numbersIn cs) ≡ true
+given-number [] k g = rw g (mem-head 0 [])
+given-number (c ∷ cs) k (inl p) = rw (p .0) (mem-tail (c .number) 0 (c .number ∷ numbersIn cs) (mem-head (c .number) (numbersIn cs)))
+given-number (c ∷ cs) k (inr p) = go (mem-cases k 0 (numbersIn cs) (given-number cs k (p .1)))
   where
-    go : (k ≡ 0) ⊎ (mem k (numbersIn cs) ≡ true) → (k ≡ 0) ⊎ (mem k (c .number ∷ numbersIn cs) ≡ true)
-    go (inl e) = inl e
-    go (inr m) = inr (mem-tail k (c .number) (numbersIn cs) m)
+    go : (k ≡ 0) ⊎ (mem k (numbersIn cs) ≡ true) → mem k (0 ∷ c .number ∷ numbersIn cs) ≡ true
+    go (inl e) = rw e (mem-head 0 (c .number ∷ numbersIn cs))
+    go (inr m) = mem-tail k 0 (c .number ∷ numbersIn cs) (mem-tail k (c .number) (numbersIn cs) m)

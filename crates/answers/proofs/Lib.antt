@@ -6,3 +6,6 @@ pub mod Looks
 pub mod Inserts
 pub mod Ranges
 pub mod Whens
+pub mod Walks
+pub mod Refused
+pub mod Demands

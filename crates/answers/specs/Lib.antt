@@ -2,3 +2,5 @@
 pub mod Given
 pub mod Causes
 pub mod When
+pub mod Mends
+pub mod Demand1

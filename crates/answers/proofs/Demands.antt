@@ -1,0 +1,141 @@
+-- Demand 1. Assumes nothing.
+use Prim.Native.Nat.{ℕ}
+use mathlib.Core.Path.{_≡_, refl, ap}
+use mathlib.Core.Bool.{false}
+use mathlib.Core.List.{List}
+use Rattle.rules.specs.Call.{
+  formattedNo,
+  openedNo,
+  insertedNo,
+  lookedNo,
+  lookedRecord,
+  newestNo,
+  newestIssue,
+  newestRecord,
+  listedNo,
+  listedCount,
+  syncedNo,
+}
+use Rattle.rules.specs.Format.{Formatting, format}
+use Rattle.rules.specs.Open.{opening}
+use Rattle.rules.specs.Insert.{insert}
+use Rattle.rules.specs.Lookup.{lookup}
+use Rattle.rules.specs.Newest.{newest}
+use Rattle.rules.specs.List.{ListLeft, list}
+use Rattle.rules.specs.Sync.{sync}
+use Rattle.rules.specs.declared.Formatted.{Formatted}
+use Rattle.rules.specs.declared.Opened.{Opened}
+use Rattle.rules.specs.declared.Looked.{Looked}
+use Rattle.rules.specs.declared.Newest.{Newest}
+use Rattle.rules.specs.declared.Listed.{Listed}
+use Rattle.rules.specs.declared.Synced.{Synced}
+use Rattle.rules.proofs.Refusals as rules
+use Rattle.answers.specs.Causes.{
+  formatCauses,
+  openCauses,
+  insertCauses,
+  lookupCauses,
+  newestCauses,
+  listCauses,
+  syncCauses,
+}
+use Rattle.answers.specs.Demand1.{Refused, Demand1}
+use Rattle.answers.proofs.Exactly.{given-number}
+use Rattle.answers.proofs.Ends.{format-given, open-given, sync-given}
+use Rattle.answers.proofs.Looks.{lookup-given}
+use Rattle.answers.proofs.Inserts.{insert-given}
+use Rattle.answers.proofs.Ranges.{newest-given, list-given}
+use Rattle.answers.proofs.Refused.{insert-mended}
+
+-- ── The numbers beside a refusal ────────────────────────────────────────────────────────────────────────────────
+
+looked-zero : (a : Looked) → Refused (lookedNo a) → lookedRecord a ≡ 0
+unfolding lookedNo lookedRecord
+looked-zero (Looked.Found x) h = absurd (h refl)
+looked-zero Looked.Length h = refl
+looked-zero Looked.BadKey h = refl
+looked-zero Looked.Damaged h = refl
+looked-zero Looked.Missing h = refl
+
+issue-zero : (a : Newest) → Refused (newestNo a) → newestIssue a ≡ 0
+unfolding newestNo newestIssue
+issue-zero (Newest.Found i x) h = absurd (h refl)
+issue-zero Newest.Length h = refl
+issue-zero Newest.BadKey h = refl
+issue-zero Newest.Damaged h = refl
+issue-zero Newest.Missing h = refl
+
+record-of-newest-zero : (a : Newest) → Refused (newestNo a) → newestRecord a ≡ 0
+unfolding newestNo newestRecord
+record-of-newest-zero (Newest.Found i x) h = absurd (h refl)
+record-of-newest-zero Newest.Length h = refl
+record-of-newest-zero Newest.BadKey h = refl
+record-of-newest-zero Newest.Damaged h = refl
+record-of-newest-zero Newest.Missing h = refl
+
+listed-zero : (a : Listed) → Refused (listedNo a) → listedCount a ≡ 0
+unfolding listedNo listedCount
+listed-zero (Listed.Filled k) h = absurd (h refl)
+listed-zero Listed.Length h = refl
+listed-zero Listed.Damaged h = refl
+
+-- a refused listing has filled nothing
+not-filled : (a : Listed) → Refused (listedNo a) → rules.isFilled a ≡ false
+unfolding listedNo rules.isFilled
+not-filled (Listed.Filled k) h = absurd (h refl)
+not-filled Listed.Length h = refl
+not-filled Listed.Damaged h = refl
+
+-- ── A refusal is no done ────────────────────────────────────────────────────────────────────────────────────────
+
+not-formatted : (a : Formatted) → Refused (formattedNo a) → a ≡ Formatted.Done → ⊥
+unfolding formattedNo
+not-formatted a h e = h (ap formattedNo e)
+
+not-opened : (a : Opened) → Refused (openedNo a) → a ≡ Opened.Done → ⊥
+unfolding openedNo
+not-opened a h e = h (ap openedNo e)
+
+not-synced : (a : Synced) → Refused (syncedNo a) → a ≡ Synced.Done → ⊥
+unfolding syncedNo
+not-synced a h e = h (ap syncedNo e)
+
+-- ── The demand ──────────────────────────────────────────────────────────────────────────────────────────────────
+
+pub demand1 : Demand1
+demand1 = record {
+  format-answers = λ w s. given-number (formatCauses w s) (formattedNo (format w s .answer)) (format-given w s);
+  open-answers = λ w s. given-number (openCauses w s) (openedNo (opening w s .answer)) (open-given w s);
+  insert-answers = λ w t s model serial issue x.
+      given-number (insertCauses w t s model serial issue) (insertedNo (insert w t s model serial issue x .answer))
+      (insert-given w t s model serial issue x);
+  lookup-answers = λ w t s model serial issue.
+      given-number (lookupCauses w t s model serial issue) (lookedNo (lookup w t s model serial issue .answer))
+      (lookup-given w t s model serial issue);
+  newest-answers = λ w t s model serial.
+      given-number (newestCauses w t s model serial) (newestNo (newest w t s model serial .answer))
+      (newest-given w t s model serial);
+  list-answers = λ w t s start ks xs.
+      given-number (listCauses w t s start ks xs) (listedNo (list w t s start ks xs .answer))
+      (list-given w t s start ks xs);
+  sync-answers = λ w t s. given-number (syncCauses w t s) (syncedNo (sync w t s .answer)) (sync-given w t s);
+  insert-refused = insert-mended;
+  open-refused = λ w s h. rules.opening-refused w s (not-opened (opening w s .answer) h);
+  sync-refused = λ w t s h. rules.sync-refused w t s (not-synced (sync w t s .answer) h);
+  list-refused-keys = λ w t s start ks xs h.
+      rules.list-refused s w t start ks xs (not-filled (list w t s start ks xs .answer) h) .keys;
+  list-refused-records = λ w t s start ks xs h.
+      rules.list-refused s w t start ks xs (not-filled (list w t s start ks xs .answer) h) .records;
+  record-zero = looked-zero;
+  newest-issue-zero = issue-zero;
+  newest-record-zero = record-of-newest-zero;
+  count-zero = listed-zero;
+  lookup-session = λ w t s model serial issue. rules.lookup-mends w t s model serial issue .session;
+  newest-session = λ w t s model serial. rules.newest-mends w t s model serial .session;
+  list-session = λ w t s start ks xs. rules.list-mends s w t start ks xs .session;
+  format-stable = λ w s h. rules.format-refused w s (not-formatted (format w s .answer) h);
+  insert-stable = rules.insert-stable;
+  lookup-stable = λ w t s model serial issue. rules.lookup-mends w t s model serial issue .stable;
+  newest-stable = λ w t s model serial. rules.newest-mends w t s model serial .stable;
+  list-stable = λ w t s start ks xs. rules.list-mends s w t start ks xs .stable;
+}

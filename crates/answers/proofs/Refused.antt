@@ -1,0 +1,69 @@
+-- A refused insert leaves what the walk of its key has mended, and nothing else. Assumes nothing.
+use Prim.Native.Nat.{ℕ}
+use mathlib.Core.Path.{_≡_, refl, ap}
+use mathlib.Core.Bool.{Bool, true, false}
+use mathlib.Core.List.{List}
+use mathlib.Core.Option.{Option, some, none}
+use Rattle.rules.specs.Key.{keyOf, goodParts}
+use Rattle.rules.specs.Entry.{find}
+use Rattle.rules.specs.Table.{fit0}
+use Rattle.rules.specs.Walk.{Step, Way, numbers, certsAt, wayOf}
+use Rattle.rules.specs.Marks.{freePages}
+use Rattle.rules.specs.Call.{Left, insertedNo, lengthsFor}
+use Rattle.rules.specs.Insert.{insert, insertKey, insertAlong, insertDone, insertRefused, splitting, tooSoon, noRoom}
+use Rattle.rules.specs.declared.Session.{Session}
+use Rattle.rules.specs.declared.Inserted.{Inserted}
+use Rattle.rules.proofs.Refusals as rules
+use Rattle.answers.specs.Mends.{MendedBy, nothing}
+use Rattle.answers.specs.Demand1.{Refused, WalkMended}
+use Rattle.answers.proofs.Walks.{way-mended}
+
+-- past the walk nothing more is written
+along-left : (k x : ℕ) (s : Session) (way : List Step) (w t : List ℕ)
+    → Refused (insertedNo (insertAlong k x s way w t .answer)) → insertAlong k x s way w t .working ≡ w
+unfolding insertAlong insertRefused insertDone insertedNo
+along-left k x s way w t h =
+    go (find k (certsAt way)) refl (tooSoon (s .c) (splitting way)) refl (noRoom way (freePages s (numbers way))) refl
+  where
+    go : (o : Option ℕ) → find k (certsAt way) ≡ o → (a : Bool) → tooSoon (s .c) (splitting way) ≡ a
+        → (b : Bool) → noRoom way (freePages s (numbers way)) ≡ b → insertAlong k x s way w t .working ≡ w
+    go (some y) o a p b q = rw (insertAlong, o)
+    go none o true p b q = rw (insertAlong, o, p)
+    go none o false p true q = rw (insertAlong, o, p, q)
+    go none o false p false q = absurd (h (rw (insertAlong, o, p, q)))
+
+key-left : (k x : ℕ) (s : Session) (w t : List ℕ) → Refused (insertedNo (insertKey k x s w t .answer))
+    → MendedBy (s .n) (s .c) k w (insertKey k x s w t .working)
+unfolding insertKey insertRefused
+key-left k x s w t h = go (wayOf (s .n) (s .c) k w .steps) refl
+  where
+    go : (o : Option (List Step)) → wayOf (s .n) (s .c) k w .steps ≡ o
+        → MendedBy (s .n) (s .c) k w (insertKey k x s w t .working)
+    go none o = rw (insertKey, o) (way-mended (s .n) (s .c) k w)
+    go (some steps) o =
+        rw (insertKey, o, along-left k x s steps (wayOf (s .n) (s .c) k w .table) t (λ e. h (rw (insertKey, o) e)))
+        (way-mended (s .n) (s .c) k w)
+
+module _ (w t : List ℕ) (s : Session) (model serial issue x : ℕ) where
+  abbrev k : ℕ
+  k = keyOf model serial issue
+
+  insert-left : Refused (insertedNo (insert w t s model serial issue x .answer))
+      → MendedBy (s .n) (s .c) k w (insert w t s model serial issue x .working)
+  unfolding insert insertRefused
+  insert-left h = go (lengthsFor s w t) refl (goodParts model serial issue) refl (fit0 (s .n) w) refl
+    where
+      go : (a : Bool) → lengthsFor s w t ≡ a → (b : Bool) → goodParts model serial issue ≡ b
+          → (c : Bool) → fit0 (s .n) w ≡ c
+          → MendedBy (s .n) (s .c) k w (insert w t s model serial issue x .working)
+      go false p b q c o = rw (insert, p) nothing
+      go true p false q c o = rw (insert, p, q) nothing
+      go true p true q false o = rw (insert, p, q, o) nothing
+      go true p true q true o = rw (insert, p, q, o) (key-left k x s w t (λ e. h (rw (insert, p, q, o) e)))
+
+  pub insert-mended : Refused (insertedNo (insert w t s model serial issue x .answer))
+      → WalkMended k w t s (insert w t s model serial issue x)
+  unfolding insertedNo
+  insert-mended h =
+      let r = rules.insert-refused w t s model serial issue x (λ e. h (ap insertedNo e)) in
+      record { working = insert-left h; stable = r .stable; session = r .session }

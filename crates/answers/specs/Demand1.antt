@@ -1,0 +1,98 @@
+-- Demand 1 about the rules, and what document 01 says beside its table of answers. For any page bytes, length, session
+-- and key: nothing is asked of them.
+use Prim.Native.Nat.{ℕ}
+use mathlib.Core.Path.{_≡_}
+use mathlib.Core.Bool.{Bool, true}
+use mathlib.Core.List.{List, [], _∷_}
+use Rattle.rules.specs.Test.{mem}
+use Rattle.rules.specs.Key.{keyOf}
+use Rattle.rules.specs.Marks.{nobody}
+use Rattle.rules.specs.Call.{
+  Left,
+  formattedNo,
+  openedNo,
+  insertedNo,
+  lookedNo,
+  lookedRecord,
+  newestNo,
+  newestIssue,
+  newestRecord,
+  listedNo,
+  listedCount,
+  syncedNo,
+}
+use Rattle.rules.specs.Format.{Formatting, format}
+use Rattle.rules.specs.Open.{opening}
+use Rattle.rules.specs.Insert.{insert}
+use Rattle.rules.specs.Lookup.{lookup}
+use Rattle.rules.specs.Newest.{newest}
+use Rattle.rules.specs.List.{ListLeft, list}
+use Rattle.rules.specs.Sync.{sync}
+use Rattle.rules.specs.declared.Session.{Session}
+use Rattle.rules.specs.declared.Looked.{Looked}
+use Rattle.rules.specs.declared.Newest.{Newest}
+use Rattle.rules.specs.declared.Listed.{Listed}
+use Rattle.rules.proofs.Refusals.{Unchanged}
+use Rattle.answers.specs.Mends.{MendedBy}
+
+-- ── Words ───────────────────────────────────────────────────────────────────────────────────────────────────────
+
+-- a number stands in a list of numbers
+abbrev pub Among : ℕ → List ℕ → Type 0
+Among k ks = mem k ks ≡ true
+
+-- any answer but 0
+abbrev pub Refused : ℕ → Type 0
+Refused k = k ≡ 0 → ⊥
+
+-- nothing changed but pages that the walk of key k had to mend, each by the mending rule
+pub record WalkMended {A : Type 0} (k : ℕ) (w t : List ℕ) (s : Session) (r : Left A) : Type 0 where
+  pub working : MendedBy (s .n) (s .c) k w (r .working)
+  pub stable : r .stable ≡ t
+  pub session : r .session ≡ s
+
+-- ── The demand ──────────────────────────────────────────────────────────────────────────────────────────────────
+
+pub record Demand1 : Type 0 where
+  -- every call ends with an answer from the table, and one that it can give
+  pub format-answers : (w s : List ℕ) → Among (formattedNo (format w s .answer)) (0 ∷ 1 ∷ [])
+  pub open-answers : (w s : List ℕ) → Among (openedNo (opening w s .answer)) (0 ∷ 1 ∷ 3 ∷ 8 ∷ [])
+  pub insert-answers : (w t : List ℕ) (s : Session) (model serial issue x : ℕ)
+      → Among (insertedNo (insert w t s model serial issue x .answer)) (0 ∷ 1 ∷ 2 ∷ 3 ∷ 5 ∷ 6 ∷ 7 ∷ [])
+  pub lookup-answers : (w t : List ℕ) (s : Session) (model serial issue : ℕ)
+      → Among (lookedNo (lookup w t s model serial issue .answer)) (0 ∷ 1 ∷ 2 ∷ 3 ∷ 4 ∷ [])
+  pub newest-answers : (w t : List ℕ) (s : Session) (model serial : ℕ)
+      → Among (newestNo (newest w t s model serial .answer)) (0 ∷ 1 ∷ 2 ∷ 3 ∷ 4 ∷ [])
+  pub list-answers : (w t : List ℕ) (s : Session) (start : ℕ) (ks xs : List ℕ)
+      → Among (listedNo (list w t s start ks xs .answer)) (0 ∷ 1 ∷ 3 ∷ [])
+  pub sync-answers : (w t : List ℕ) (s : Session) → Among (syncedNo (sync w t s .answer)) (0 ∷ 1 ∷ 8 ∷ [])
+  -- a refused insert changes nothing but the pages its walk had to mend, each by the mending rule
+  pub insert-refused : (w t : List ℕ) (s : Session) (model serial issue x : ℕ)
+      → Refused (insertedNo (insert w t s model serial issue x .answer))
+      → WalkMended (keyOf model serial issue) w t s (insert w t s model serial issue x)
+  -- a refused opening or sync changes no byte; the one hands out nobody's session, the other the one that it got
+  pub open-refused : (w s : List ℕ) → Refused (openedNo (opening w s .answer)) → Unchanged w s nobody (opening w s)
+  pub sync-refused : (w t : List ℕ) (s : Session) → Refused (syncedNo (sync w t s .answer)) → Unchanged w t s (sync w t s)
+  -- a refused listing changes none of the lent lists
+  pub list-refused-keys : (w t : List ℕ) (s : Session) (start : ℕ) (ks xs : List ℕ)
+      → Refused (listedNo (list w t s start ks xs .answer)) → list w t s start ks xs .keys ≡ ks
+  pub list-refused-records : (w t : List ℕ) (s : Session) (start : ℕ) (ks xs : List ℕ)
+      → Refused (listedNo (list w t s start ks xs .answer)) → list w t s start ks xs .records ≡ xs
+  -- with any answer but 0, the numbers beside it are 0
+  pub record-zero : (a : Looked) → Refused (lookedNo a) → lookedRecord a ≡ 0
+  pub newest-issue-zero : (a : Newest) → Refused (newestNo a) → newestIssue a ≡ 0
+  pub newest-record-zero : (a : Newest) → Refused (newestNo a) → newestRecord a ≡ 0
+  pub count-zero : (a : Listed) → Refused (listedNo a) → listedCount a ≡ 0
+  -- the session of a call that reads is returned as it came
+  pub lookup-session : (w t : List ℕ) (s : Session) (model serial issue : ℕ)
+      → lookup w t s model serial issue .session ≡ s
+  pub newest-session : (w t : List ℕ) (s : Session) (model serial : ℕ) → newest w t s model serial .session ≡ s
+  pub list-session : (w t : List ℕ) (s : Session) (start : ℕ) (ks xs : List ℕ) → list w t s start ks xs .session ≡ s
+  -- stable bytes change only in format, open and sync that answer 0
+  pub format-stable : (w s : List ℕ) → Refused (formattedNo (format w s .answer)) → format w s .stable ≡ s
+  pub insert-stable : (w t : List ℕ) (s : Session) (model serial issue x : ℕ)
+      → insert w t s model serial issue x .stable ≡ t
+  pub lookup-stable : (w t : List ℕ) (s : Session) (model serial issue : ℕ)
+      → lookup w t s model serial issue .stable ≡ t
+  pub newest-stable : (w t : List ℕ) (s : Session) (model serial : ℕ) → newest w t s model serial .stable ≡ t
+  pub list-stable : (w t : List ℕ) (s : Session) (start : ℕ) (ks xs : List ℕ) → list w t s start ks xs .stable ≡ t
