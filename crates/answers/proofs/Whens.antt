@@ -5,7 +5,9 @@ use mathlib.Core.Logic.{_↔_}
 use mathlib.Core.List.{List}
 use mathlib.Core.Option.{some}
 use lib.ListN.{length}
+use Rattle.rules.specs.Test.{every}
 use Rattle.rules.specs.Key.{keyOf}
+use Rattle.rules.specs.Entry.{rising, risesFrom}
 use Rattle.rules.specs.Walk.{Walked, walkOf}
 use Rattle.rules.specs.Call.{formattedNo, openedNo, insertedNo, lookedNo, newestNo, listedNo, listedCount, syncedNo}
 use Rattle.rules.specs.Format.{Formatting, format}
@@ -89,7 +91,9 @@ module _ (w t : List ℕ) (s : Session) (start : ℕ) (ks xs : List ℕ) (k : �
 -- ── The table ───────────────────────────────────────────────────────────────────────────────────────────────────
 
 pub whens : When
+unfolding every rising risesFrom
 whens = record {
+  lower-first = λ w t s model serial issue start ks xs. refl;
   format-when = λ w s k. exactly (formatCauses w s) (formattedNo (format w s .answer)) k (format-given w s);
   open-when = λ w s k. exactly (openCauses w s) (openedNo (opening w s .answer)) k (open-given w s);
   insert-when = λ w t s model serial issue x k.

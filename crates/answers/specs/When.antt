@@ -2,10 +2,13 @@
 use Prim.Native.Nat.{ℕ}
 use mathlib.Core.Path.{_≡_}
 use mathlib.Core.Logic.{_↔_}
-use mathlib.Core.List.{List}
+use mathlib.Core.Bool.{true}
+use mathlib.Core.List.{List, [], _∷_}
 use mathlib.Core.Option.{some}
 use lib.ListN.{length}
+use Rattle.rules.specs.Test.{every}
 use Rattle.rules.specs.Key.{keyOf}
+use Rattle.rules.specs.Entry.{rising}
 use Rattle.rules.specs.Walk.{Walked, walkOf}
 use Rattle.rules.specs.Call.{formattedNo, openedNo, insertedNo, lookedNo, newestNo, listedNo, syncedNo}
 use Rattle.rules.specs.Format.{Formatting, format}
@@ -19,7 +22,7 @@ use Rattle.rules.specs.declared.Session.{Session}
 use Rattle.rules.specs.declared.Looked.{Looked}
 use Rattle.rules.specs.declared.Newest.{Newest}
 use Rattle.rules.specs.declared.Listed.{Listed}
-use Rattle.answers.specs.Given.{Given}
+use Rattle.answers.specs.Given.{Given, numbersIn}
 use Rattle.answers.specs.Causes.{
   under,
   formatCauses,
@@ -33,6 +36,19 @@ use Rattle.answers.specs.Causes.{
 
 -- for any page bytes, length, session and key
 pub record When : Type 0 where
+  -- lower number first
+  pub lower-first : (w t : List ℕ) (s : Session) (model serial issue start : ℕ) (ks xs : List ℕ)
+      → every
+      (rising (numbersIn (formatCauses w t))
+      ∷ rising (numbersIn (openCauses w t))
+      ∷ rising (numbersIn (insertCauses w t s model serial issue))
+      ∷ rising (numbersIn (lookupCauses w t s model serial issue))
+      ∷ rising (numbersIn (newestCauses w t s model serial))
+      ∷ rising (numbersIn (listCauses w t s start ks xs))
+      ∷ rising (numbersIn (syncCauses w t s))
+      ∷ [])
+      ≡ true
+  -- the table
   pub format-when : (w s : List ℕ) (k : ℕ) → (formattedNo (format w s .answer) ≡ k) ↔ Given (formatCauses w s) k
   pub open-when : (w s : List ℕ) (k : ℕ) → (openedNo (opening w s .answer) ≡ k) ↔ Given (openCauses w s) k
   pub insert-when : (w t : List ℕ) (s : Session) (model serial issue x k : ℕ)
