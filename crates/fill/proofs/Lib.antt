@@ -3,3 +3,4 @@ pub mod Copies
 pub mod Leaves
 pub mod Walks
 pub mod Steps
+pub mod Tight

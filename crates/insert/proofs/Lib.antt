@@ -1,3 +1,4 @@
 pub mod Went
 pub mod Decided
 pub mod Call
+pub mod Tight

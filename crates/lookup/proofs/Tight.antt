@@ -1,5 +1,5 @@
 -- No second outcome satisfies a contract of this crate. Assumes nothing.
-use mathlib.Core.Path.{sym, _∙_}
+use mathlib.Core.Path.{refl, sym, _∙_}
 use Rattle.tight.specs.Tight.{Tight}
 use Rattle.lookup.proofs as this
 
@@ -7,3 +7,6 @@ pub lookup-tight : Tight this.lookup.Kinds.ps this.lookup.Kinds.r this.lookup.Re
 lookup-tight κs a pre z z′ l l′ p q =
     let e = p ∙ sym q in
     ((λ i. record { answer = e i .answer; session = e i .session }), (λ i. (e i .working, l .1)))
+
+pub find-at-tight : Tight this.find_at.Kinds.ps this.find_at.Kinds.r this.find_at.Reads.Pre this.find_at.Reads.Post
+find-at-tight κs a pre z z′ l l′ p q = (p ∙ sym q, refl)

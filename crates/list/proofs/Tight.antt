@@ -1,0 +1,11 @@
+-- No second outcome satisfies a contract of this crate. Assumes nothing.
+use mathlib.Core.Path.{sym, _∙_}
+use Rattle.tight.specs.Tight.{Tight}
+use Rattle.list.proofs as this
+
+pub list-tight : Tight this.list.Kinds.ps this.list.Kinds.r this.list.Reads.Pre this.list.Reads.Post
+list-tight κs a pre z z′ l l′ p q =
+    let e = p ∙ sym q in (
+      (λ i. record { answer = e i .answer; session = e i .session }),
+      (λ i. (e i .working, (tt, (tt, (tt, (e i .keys, (e i .records, tt))))))),
+    )
