@@ -54,7 +54,7 @@ module _ {t : List ℕ} {s : Sofar} (w : Walked) (q : sweeping t s ≡ told w) w
   unfolding told stops sofarOf
   stop-told u = ap (λ (x : Sofar). sweeping u (stopped x)) same-sofar
 
-  enters-told : (a : Asked) (e : Place) → enters a e w ≡ entersBy a e s
+  pub enters-told : (a : Asked) (e : Place) → enters a e w ≡ entersBy a e s
   unfolding enters entersBy sofarOf
   enters-told a e = sym (ap (entersBy a e) same-sofar)
 
@@ -131,7 +131,7 @@ module _ (t : List ℕ) (page : ℕ) (r : Run) where
       let l : length (places t page r) ≤ r .count - r .left = omega (arith, length-run) in
       drop-of-length-le (places t page r) l
 
-  left-more : 1 ≤ r .left → r .left ≤ r .count → placesLeft t page r ≡ firstOf t page r ∷ placesLeft t page (restOf r)
+  pub left-more : 1 ≤ r .left → r .left ≤ r .count → placesLeft t page r ≡ firstOf t page r ∷ placesLeft t page (restOf r)
   unfolding placesLeft firstOf places
   left-more o h =
       let l = length-run in

@@ -113,6 +113,16 @@ firstOf t page r = getD (places t page r) (r .count - r .left) nowhere
 abbrev pub restOf : Run → Run
 restOf r = record { left = r .left - 1; count = r .count; want = r .want; high = r .high }
 
+-- the run from the first entry on whose place is entered; at level 0 none is passed
+unfoldable pub skipped : ℕ → Asked → List ℕ → ℕ → Sofar → Run → Run
+skipped zero a t page s r = r
+skipped (suc k) a t page s r =
+    elim (entersBy a (firstOf t page r) s) [ true ↦ r | false ↦ skipped k a t page s (restOf r) ]
+
+unfoldable pub skipOf : ℕ → Asked → List ℕ → ℕ → Run → Sofar → Run
+skipOf zero a t page r s = r
+skipOf (suc level) a t page r s = skipped (r .left) a t page s r
+
 -- a leaf asks for none
 unfoldable pub runOf : Place → Head → Run
 runOf e h =

@@ -24,7 +24,7 @@ ghost use Rattle.rules.specs.Table.{pageAt, read, fit0};
 ghost use Rattle.rules.specs.Walk.{Walked, walk, walkEach, walkOf};
 ghost use Rattle.rules.specs.Entry.{Entry};
 ghost use Rattle.head.proofs.Headers.{headOf};
-ghost use Rattle.sweep.specs.Sweeps.{sweeping, told, entersBy, stopped, noted, noteEach, aboveAt, Deep, Ready, placesLeft, runOf, firstOf, restOf, Lies, Known};
+ghost use Rattle.sweep.specs.Sweeps.{sweeping, told, entersBy, stopped, noted, noteEach, aboveAt, Deep, Ready, placesLeft, runOf, firstOf, restOf, skipOf, Lies, Known};
 
 // What a walk has come to: whether no damaged place was met, how many certificates were found, and the last of them.
 pub struct Sofar {
@@ -156,6 +156,24 @@ pub fn rest_of(mut run: Run) -> Run
     run
 }
 
+// The run from the first entry on whose place is entered. At level 0 no entry is passed: the walk ends at the first.
+fn skip(t: &[u8], page: usize, level: usize, a: Asked, run: Run, s: Sofar) -> Run
+    requires { ⌜ ((page + 1) * pageSize ≤ length (now t)) × (run .left ≤ run .count) × (run .count ≤ innerRoom) ⌝ }
+    ensures { λ r. ⌜ r ≡ skipOf level a (now (t .entry)) page run s ⌝ }
+{
+    if level == 0 {
+        return run;
+    }
+    let mut next = run;
+    while 0 < next.left {
+        if enters(a, first_of(t, page, next), s) {
+            return next;
+        }
+        next = rest_of(next);
+    }
+    next
+}
+
 // The page walk: a place is entered, and its entries are walked one level lower.
 fn walk_page(
     t: &mut [u8],
@@ -188,7 +206,7 @@ fn walk_page(
     walk_entries(t, n, c, level - 1, a, below, run_of(e, head), found)
 }
 
-// The entry walk: the first entry's page, then the entries behind it.
+// The entry walk: the page of the first entry that is entered, then the entries behind it.
 fn walk_entries(
     t: &mut [u8],
     n: usize,
@@ -203,12 +221,13 @@ fn walk_entries(
     ensures { λ r. ⌜ ((w : Walked) → sweeping (now (t .entry)) s ≡ told w
         → sweeping (now (t .exit)) r ≡ told (walkEach (walk level n c a (aboveAt level above)) (placesLeft (now (t .entry)) (above .parent) run) w)) ⌝ }
 {
-    if run.left == 0 {
+    let next = skip(t, above.parent as usize, level, a, run, s);
+    if next.left == 0 {
         return s;
     }
-    let e = first_of(t, above.parent as usize, run);
+    let e = first_of(t, above.parent as usize, next);
     let found = walk_page(t, n, c, level, a, above, e, s);
-    walk_entries(t, n, c, level, a, above, rest_of(run), found)
+    walk_entries(t, n, c, level, a, above, rest_of(next), found)
 }
 
 // The whole walk, from the root on.

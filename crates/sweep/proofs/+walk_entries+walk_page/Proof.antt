@@ -1,6 +1,7 @@
 -- The proof of the cycle {walk_entries, walk_page}. A level counts 64, more than a page has entries: a page's measure
 -- stands above that of the entries one level lower, and entries above the pages of their own level.
 -- Assumes nothing.
+use Rattle.sweep.proofs.Skips.{next-lies, next-left, next-told}
 use mathlib.Core.Path.{sym, ap, _∙_}
 use borrow.Author.Tests.{not-true, not-false}
 use Rattle.rules.specs.Table.{read}
@@ -11,7 +12,7 @@ use Rattle.sweep.proofs.Notes.{known-noted}
 use Rattle.sweep.proofs.Steps.{step-deep, step-past, step-damaged, head-here, certs-room, kind-from, lies, step-page, deep-below, step-none, first-ready, rest-lies, rest-known, step-more}
 use borrow.Author.Needs.{needs}
 use native.Mathlib.Omega.{arith}
-use Prim.Native.Nat.{_+_, _*_, ℕ, _<_}
+use Prim.Native.Nat.{ℕ, _<_, _+_, _*_}
 use borrow.Fn.Kinds.{In}
 use borrow.Fn.PlainCycle.{Measures, is, falls, and}
 use Rattle.sweep.proofs.walk_entries.Reads as walk-entries
@@ -26,6 +27,7 @@ use Rattle.sweep.proofs.first_of.Reads as first-of-reads
 use Rattle.sweep.proofs.note_page.Reads as note-page-reads
 use Rattle.sweep.proofs.rest_of.Reads as rest-of-reads
 use Rattle.sweep.proofs.run_of.Reads as run-of-reads
+use Rattle.sweep.proofs.skip.Reads as skip-reads
 use Rattle.sweep.proofs.stop.Reads as stop-reads
 use Rattle.sweep.proofs.+walk_entries+walk_page.{statement}
 use Rattle.sweep.proofs.+walk_entries+walk_page.Tie.{close}
@@ -56,34 +58,43 @@ walk-page-below t =
     and 1 walk-page-kinds.ps (falls 1 walk-page-kinds.ps _<_ μ-walk-page t) walk-page.Pre
 
 abbrev walk-entries-in : ℕ → walk-entries-lts.Claims
-walk-entries-in t = (first-of-reads.Asked, first-of-reads.Learnt, walk-page-below t, walk-page.Post, rest-of-reads.Asked, rest-of-reads.Learnt, walk-entries-below t, walk-entries.Post)
+walk-entries-in t = (skip-reads.Asked, skip-reads.Learnt, first-of-reads.Asked, first-of-reads.Learnt, walk-page-below t, walk-page.Post, rest-of-reads.Asked, rest-of-reads.Learnt, walk-entries-below t, walk-entries.Post)
 
 abbrev walk-page-in : ℕ → walk-page-lts.Claims
 walk-page-in t = (stop-reads.Asked, stop-reads.Learnt, enters-reads.Asked, enters-reads.Learnt, enter-reads.Asked, enter-reads.Learnt, note-page-reads.Asked, note-page-reads.Learnt, run-of-reads.Asked, run-of-reads.Learnt, walk-entries-below t, walk-entries.Post)
 
+walk-entries-cast-skip : (t : ℕ) → walk-entries-lts.Need-cast-skip (walk-entries-in t) (walk-entries-at t) walk-entries.Post
+walk-entries-cast-skip t c = search needs
+
+walk-entries-skip-requires : (t : ℕ) → walk-entries-lts.Need-skip-requires (walk-entries-in t) (walk-entries-at t) walk-entries.Post
+walk-entries-skip-requires t c κs = (omega (arith, c .before .before .before .pre .1 .0, c .before .before .before .pre .1 .3 .inside), c .before .before .before .pre .1 .3 .left, c .before .before .before .pre .1 .3 .room)
+
+walk-entries-same-length : (t : ℕ) → walk-entries-lts.Need-same-length (walk-entries-in t) (walk-entries-at t) walk-entries.Post
+walk-entries-same-length t c = omega arith
+
 walk-entries-returns : (t : ℕ) → walk-entries-lts.Need-returns (walk-entries-in t) (walk-entries-at t) walk-entries.Post
-walk-entries-returns t c = step-none (c .before .before .before .args .level) (c .before .before .before .args .n) (c .before .before .before .args .c) (c .before .before .before .args .a) (c .before .before .before .args .above) (c .before .before .before .args .run) (c .before .before .before .args .t .now) (c .before .before .before .args .s) (c .if1 .taken)
+walk-entries-returns t c = next-told (c .before .before .before .before .before .before .args .level) (c .before .before .before .before .before .before .args .n) (c .before .before .before .before .before .before .args .c) (c .before .before .before .before .before .before .args .a) (c .before .before .before .before .before .before .args .above) (c .before .before .before .before .before .before .args .run) (c .before .before .before .before .before .before .args .t .now) (c .before .before .before .before .before .before .args .s) (c .before .before .before .before .before .before .pre .1 .3) (c .before .before .skip .result) (c .before .before .skip .ensures) (c .before .before .before .before .before .before .args .t .now) (c .before .before .before .before .before .before .args .s) (step-none (c .before .before .before .before .before .before .args .level) (c .before .before .before .before .before .before .args .n) (c .before .before .before .before .before .before .args .c) (c .before .before .before .before .before .before .args .a) (c .before .before .before .before .before .before .args .above) (c .before .before .skip .result) (c .before .before .before .before .before .before .args .t .now) (c .before .before .before .before .before .before .args .s) (c .if1 .taken))
 
 walk-entries-cast-first-of : (t : ℕ) → walk-entries-lts.Need-cast-first-of (walk-entries-in t) (walk-entries-at t) walk-entries.Post
 walk-entries-cast-first-of t c = search needs
 
 walk-entries-first-of-requires : (t : ℕ) → walk-entries-lts.Need-first-of-requires (walk-entries-in t) (walk-entries-at t) walk-entries.Post
-walk-entries-first-of-requires t c κs = (omega (arith, c .before .before .before .before .before .pre .1 .0, c .before .before .before .before .before .pre .1 .3 .inside), omega (arith, c .before .before .if1 .left), c .before .before .before .before .before .pre .1 .3 .left, c .before .before .before .before .before .pre .1 .3 .room)
+walk-entries-first-of-requires t c κs = let y = next-lies (c .before .before .before .before .before .before .before .before .args .level) (c .before .before .before .before .before .before .before .before .args .n) (c .before .before .before .before .before .before .before .before .args .c) (c .before .before .before .before .before .before .before .before .args .a) (c .before .before .before .before .before .before .before .before .args .above) (c .before .before .before .before .before .before .before .before .args .run) (c .before .before .before .before .before .before .before .before .args .t .now) (c .before .before .before .before .before .before .before .before .args .s) (c .before .before .before .before .before .before .before .before .pre .1 .3) (c .before .before .before .before .skip .result) (c .before .before .before .before .skip .ensures) in (omega (arith, c .before .before .before .before .before .before .before .before .pre .1 .0, c .before .before .before .before .before .before .before .before .pre .1 .3 .inside), omega (arith, c .before .before .if1 .left), y .left, y .room)
 
 walk-entries-walk-page-requires : (t : ℕ) → walk-entries-lts.Need-walk-page-requires (walk-entries-in t) (walk-entries-at t) walk-entries.Post
-walk-entries-walk-page-requires t c κs = (omega (arith, c .before .before .before .before .before .before .before .pre .0, c .before .before .before .before .if1 .left), (c .before .before .before .before .before .before .before .pre .1 .0, c .before .before .before .before .before .before .before .pre .1 .1, first-ready (c .before .before .before .before .before .before .before .args .level) (c .before .before .before .before .before .before .before .args .n) (c .before .before .before .before .before .before .before .args .c) (c .before .before .before .before .before .before .before .args .a) (c .before .before .before .before .before .before .before .args .above) (c .before .before .before .before .before .before .before .args .run) (c .before .before .before .before .before .before .before .args .t .now) (c .before .before .before .before .before .before .before .args .s) (c .before .before .before .before .before .before .before .pre .1 .0) (c .before .before .before .before .before .before .slice-known .given) (c .before .before .before .before .before .before .before .pre .1 .2) (c .before .before .before .before .before .before .before .pre .1 .3) (omega (arith, c .before .before .before .before .if1 .left)) (c .before .first-of .result) (c .before .first-of .ensures), c .before .before .before .before .before .before .before .pre .1 .4))
+walk-entries-walk-page-requires t c κs = let y = next-lies (c .before .before .before .before .before .before .before .before .before .before .args .level) (c .before .before .before .before .before .before .before .before .before .before .args .n) (c .before .before .before .before .before .before .before .before .before .before .args .c) (c .before .before .before .before .before .before .before .before .before .before .args .a) (c .before .before .before .before .before .before .before .before .before .before .args .above) (c .before .before .before .before .before .before .before .before .before .before .args .run) (c .before .before .before .before .before .before .before .before .before .before .args .t .now) (c .before .before .before .before .before .before .before .before .before .before .args .s) (c .before .before .before .before .before .before .before .before .before .before .pre .1 .3) (c .before .before .before .before .before .before .skip .result) (c .before .before .before .before .before .before .skip .ensures) in (omega (arith, c .before .before .before .before .before .before .before .before .before .before .pre .0, c .before .before .before .before .if1 .left), (c .before .before .before .before .before .before .before .before .before .before .pre .1 .0, c .before .before .before .before .before .before .before .before .before .before .pre .1 .1, first-ready (c .before .before .before .before .before .before .before .before .before .before .args .level) (c .before .before .before .before .before .before .before .before .before .before .args .n) (c .before .before .before .before .before .before .before .before .before .before .args .c) (c .before .before .before .before .before .before .before .before .before .before .args .a) (c .before .before .before .before .before .before .before .before .before .before .args .above) (c .before .before .before .before .before .before .skip .result) (c .before .before .before .before .before .before .before .before .before .before .args .t .now) (c .before .before .before .before .before .before .before .before .before .before .args .s) (c .before .before .before .before .before .before .before .before .before .before .pre .1 .0) (c .before .before .before .before .before .before .before .before .before .slice-known .given) (c .before .before .before .before .before .before .before .before .before .before .pre .1 .2) y (omega (arith, c .before .before .before .before .if1 .left)) (c .before .first-of .result) (c .before .first-of .ensures), c .before .before .before .before .before .before .before .before .before .before .pre .1 .4))
 
 walk-entries-rest-of-requires : (t : ℕ) → walk-entries-lts.Need-rest-of-requires (walk-entries-in t) (walk-entries-at t) walk-entries.Post
 walk-entries-rest-of-requires t c κs = omega (arith, c .before .before .before .before .before .before .before .before .if1 .left)
 
 walk-entries-walk-entries-requires : (t : ℕ) → walk-entries-lts.Need-walk-entries-requires (walk-entries-in t) (walk-entries-at t) walk-entries.Post
-walk-entries-walk-entries-requires t c κs = (omega (arith, c .before .before .before .before .before .before .before .before .before .before .before .before .pre .0, ap (λ (x : Run). x .left) (c .rest-of .ensures), c .before .before .before .before .before .before .before .before .before .if1 .left), (omega (arith, c .before .before .before .before .walk-page .kept .0, c .before .before .before .before .before .before .before .before .before .before .before .before .pre .1 .0), c .before .before .before .before .before .before .before .before .before .before .before .before .pre .1 .1, c .before .before .before .before .before .before .before .before .before .before .before .before .pre .1 .2, rest-lies (c .before .before .before .before .before .before .before .before .before .before .before .before .args .level) (c .before .before .before .before .before .before .before .before .before .before .before .before .args .n) (c .before .before .before .before .before .before .before .before .before .before .before .before .args .c) (c .before .before .before .before .before .before .before .before .before .before .before .before .args .a) (c .before .before .before .before .before .before .before .before .before .before .before .before .args .above) (c .before .before .before .before .before .before .before .before .before .before .before .before .args .run) (c .before .before .before .before .before .before .before .before .before .before .before .before .args .t .now) (c .before .before .before .before .before .before .before .before .before .before .before .before .args .s) (c .before .before .before .before .before .before .before .before .before .before .before .before .pre .1 .0) (c .before .before .before .before .before .before .before .before .before .before .before .slice-known .given) (c .before .before .before .before .before .before .before .before .before .before .before .before .pre .1 .2) (c .before .before .before .before .before .before .before .before .before .before .before .before .pre .1 .3) (omega (arith, c .before .before .before .before .before .before .before .before .before .if1 .left)) (c .before .before .before .before .before .before .first-of .result) (c .before .before .before .before .before .before .first-of .ensures) (c .before .before .before .before .walk-page .last .0) (c .before .before .before .before .walk-page .result) (c .rest-of .result) (c .rest-of .ensures) (c .before .before .before .before .walk-page .ensures) (c .before .before .before .before .before .before .before .before .before .before .before .before .pre .1 .4), rest-known (c .before .before .before .before .before .before .before .before .before .before .before .before .args .level) (c .before .before .before .before .before .before .before .before .before .before .before .before .args .n) (c .before .before .before .before .before .before .before .before .before .before .before .before .args .c) (c .before .before .before .before .before .before .before .before .before .before .before .before .args .a) (c .before .before .before .before .before .before .before .before .before .before .before .before .args .above) (c .before .before .before .before .before .before .before .before .before .before .before .before .args .run) (c .before .before .before .before .before .before .before .before .before .before .before .before .args .t .now) (c .before .before .before .before .before .before .before .before .before .before .before .before .args .s) (c .before .before .before .before .before .before .before .before .before .before .before .before .pre .1 .0) (c .before .before .before .before .before .before .before .before .before .before .before .slice-known .given) (c .before .before .before .before .before .before .before .before .before .before .before .before .pre .1 .2) (c .before .before .before .before .before .before .before .before .before .before .before .before .pre .1 .3) (omega (arith, c .before .before .before .before .before .before .before .before .before .if1 .left)) (c .before .before .before .before .before .before .first-of .result) (c .before .before .before .before .before .before .first-of .ensures) (c .before .before .before .before .walk-page .last .0) (c .before .before .before .before .walk-page .result) (c .rest-of .result) (c .rest-of .ensures) (c .before .before .before .before .walk-page .ensures) (c .before .before .before .before .before .before .before .before .before .before .before .before .pre .1 .4)))
+walk-entries-walk-entries-requires t c κs = let y = next-lies (c .before .before .before .before .before .before .before .before .before .before .before .before .before .before .before .args .level) (c .before .before .before .before .before .before .before .before .before .before .before .before .before .before .before .args .n) (c .before .before .before .before .before .before .before .before .before .before .before .before .before .before .before .args .c) (c .before .before .before .before .before .before .before .before .before .before .before .before .before .before .before .args .a) (c .before .before .before .before .before .before .before .before .before .before .before .before .before .before .before .args .above) (c .before .before .before .before .before .before .before .before .before .before .before .before .before .before .before .args .run) (c .before .before .before .before .before .before .before .before .before .before .before .before .before .before .before .args .t .now) (c .before .before .before .before .before .before .before .before .before .before .before .before .before .before .before .args .s) (c .before .before .before .before .before .before .before .before .before .before .before .before .before .before .before .pre .1 .3) (c .before .before .before .before .before .before .before .before .before .before .before .skip .result) (c .before .before .before .before .before .before .before .before .before .before .before .skip .ensures) in (omega (arith, c .before .before .before .before .before .before .before .before .before .before .before .before .before .before .before .pre .0, ap (λ (x : Run). x .left) (c .rest-of .ensures), c .before .before .before .before .before .before .before .before .before .if1 .left, next-left (c .before .before .before .before .before .before .before .before .before .before .before .before .before .before .before .args .level) (c .before .before .before .before .before .before .before .before .before .before .before .before .before .before .before .args .n) (c .before .before .before .before .before .before .before .before .before .before .before .before .before .before .before .args .c) (c .before .before .before .before .before .before .before .before .before .before .before .before .before .before .before .args .a) (c .before .before .before .before .before .before .before .before .before .before .before .before .before .before .before .args .above) (c .before .before .before .before .before .before .before .before .before .before .before .before .before .before .before .args .run) (c .before .before .before .before .before .before .before .before .before .before .before .before .before .before .before .args .t .now) (c .before .before .before .before .before .before .before .before .before .before .before .before .before .before .before .args .s) (c .before .before .before .before .before .before .before .before .before .before .before .before .before .before .before .pre .1 .3) (c .before .before .before .before .before .before .before .before .before .before .before .skip .result) (c .before .before .before .before .before .before .before .before .before .before .before .skip .ensures)), (omega (arith, c .before .before .before .before .walk-page .kept .0, c .before .before .before .before .before .before .before .before .before .before .before .before .before .before .before .pre .1 .0), c .before .before .before .before .before .before .before .before .before .before .before .before .before .before .before .pre .1 .1, c .before .before .before .before .before .before .before .before .before .before .before .before .before .before .before .pre .1 .2, rest-lies (c .before .before .before .before .before .before .before .before .before .before .before .before .before .before .before .args .level) (c .before .before .before .before .before .before .before .before .before .before .before .before .before .before .before .args .n) (c .before .before .before .before .before .before .before .before .before .before .before .before .before .before .before .args .c) (c .before .before .before .before .before .before .before .before .before .before .before .before .before .before .before .args .a) (c .before .before .before .before .before .before .before .before .before .before .before .before .before .before .before .args .above) (c .before .before .before .before .before .before .before .before .before .before .before .skip .result) (c .before .before .before .before .before .before .before .before .before .before .before .before .before .before .before .args .t .now) (c .before .before .before .before .before .before .before .before .before .before .before .before .before .before .before .args .s) (c .before .before .before .before .before .before .before .before .before .before .before .before .before .before .before .pre .1 .0) (c .before .before .before .before .before .before .before .before .before .before .before .before .before .before .slice-known .given) (c .before .before .before .before .before .before .before .before .before .before .before .before .before .before .before .pre .1 .2) y (omega (arith, c .before .before .before .before .before .before .before .before .before .if1 .left)) (c .before .before .before .before .before .before .first-of .result) (c .before .before .before .before .before .before .first-of .ensures) (c .before .before .before .before .walk-page .last .0) (c .before .before .before .before .walk-page .result) (c .rest-of .result) (c .rest-of .ensures) (c .before .before .before .before .walk-page .ensures) (c .before .before .before .before .before .before .before .before .before .before .before .before .before .before .before .pre .1 .4), rest-known (c .before .before .before .before .before .before .before .before .before .before .before .before .before .before .before .args .level) (c .before .before .before .before .before .before .before .before .before .before .before .before .before .before .before .args .n) (c .before .before .before .before .before .before .before .before .before .before .before .before .before .before .before .args .c) (c .before .before .before .before .before .before .before .before .before .before .before .before .before .before .before .args .a) (c .before .before .before .before .before .before .before .before .before .before .before .before .before .before .before .args .above) (c .before .before .before .before .before .before .before .before .before .before .before .skip .result) (c .before .before .before .before .before .before .before .before .before .before .before .before .before .before .before .args .t .now) (c .before .before .before .before .before .before .before .before .before .before .before .before .before .before .before .args .s) (c .before .before .before .before .before .before .before .before .before .before .before .before .before .before .before .pre .1 .0) (c .before .before .before .before .before .before .before .before .before .before .before .before .before .before .slice-known .given) (c .before .before .before .before .before .before .before .before .before .before .before .before .before .before .before .pre .1 .2) y (omega (arith, c .before .before .before .before .before .before .before .before .before .if1 .left)) (c .before .before .before .before .before .before .first-of .result) (c .before .before .before .before .before .before .first-of .ensures) (c .before .before .before .before .walk-page .last .0) (c .before .before .before .before .walk-page .result) (c .rest-of .result) (c .rest-of .ensures) (c .before .before .before .before .walk-page .ensures) (c .before .before .before .before .before .before .before .before .before .before .before .before .before .before .before .pre .1 .4)))
 
-walk-entries-same-length : (t : ℕ) → walk-entries-lts.Need-same-length (walk-entries-in t) (walk-entries-at t) walk-entries.Post
-walk-entries-same-length t c = omega (arith, c .before .before .walk-entries .kept .0, c .before .before .before .before .before .before .before .walk-page .kept .0)
+walk-entries-same-length-2 : (t : ℕ) → walk-entries-lts.Need-same-length-2 (walk-entries-in t) (walk-entries-at t) walk-entries.Post
+walk-entries-same-length-2 t c = omega (arith, c .before .before .walk-entries .kept .0, c .before .before .before .before .before .before .before .walk-page .kept .0)
 
 walk-entries-returns-2 : (t : ℕ) → walk-entries-lts.Need-returns-2 (walk-entries-in t) (walk-entries-at t) walk-entries.Post
-walk-entries-returns-2 t c = step-more (c .before .before .before .before .before .before .before .before .before .before .before .before .before .before .before .args .level) (c .before .before .before .before .before .before .before .before .before .before .before .before .before .before .before .args .n) (c .before .before .before .before .before .before .before .before .before .before .before .before .before .before .before .args .c) (c .before .before .before .before .before .before .before .before .before .before .before .before .before .before .before .args .a) (c .before .before .before .before .before .before .before .before .before .before .before .before .before .before .before .args .above) (c .before .before .before .before .before .before .before .before .before .before .before .before .before .before .before .args .run) (c .before .before .before .before .before .before .before .before .before .before .before .before .before .before .before .args .t .now) (c .before .before .before .before .before .before .before .before .before .before .before .before .before .before .before .args .s) (c .before .before .before .before .before .before .before .before .before .before .before .before .before .before .before .pre .1 .0) (c .before .before .before .before .before .before .before .before .before .before .before .before .before .before .slice-known .given) (c .before .before .before .before .before .before .before .before .before .before .before .before .before .before .before .pre .1 .2) (c .before .before .before .before .before .before .before .before .before .before .before .before .before .before .before .pre .1 .3) (omega (arith, c .before .before .before .before .before .before .before .before .before .before .before .before .if1 .left)) (c .before .before .before .before .before .before .before .before .before .first-of .result) (c .before .before .before .before .before .before .before .before .before .first-of .ensures) (c .before .before .before .before .before .before .before .walk-page .last .0) (c .before .before .before .before .before .before .before .walk-page .result) (c .before .before .before .rest-of .result) (c .before .before .before .rest-of .ensures) (c .before .before .before .before .before .before .before .walk-page .ensures) (c .before .before .walk-entries .last .0) (c .before .before .walk-entries .result) (c .before .before .walk-entries .ensures)
+walk-entries-returns-2 t c = let y = next-lies (c .before .before .before .before .before .before .before .before .before .before .before .before .before .before .before .before .before .before .args .level) (c .before .before .before .before .before .before .before .before .before .before .before .before .before .before .before .before .before .before .args .n) (c .before .before .before .before .before .before .before .before .before .before .before .before .before .before .before .before .before .before .args .c) (c .before .before .before .before .before .before .before .before .before .before .before .before .before .before .before .before .before .before .args .a) (c .before .before .before .before .before .before .before .before .before .before .before .before .before .before .before .before .before .before .args .above) (c .before .before .before .before .before .before .before .before .before .before .before .before .before .before .before .before .before .before .args .run) (c .before .before .before .before .before .before .before .before .before .before .before .before .before .before .before .before .before .before .args .t .now) (c .before .before .before .before .before .before .before .before .before .before .before .before .before .before .before .before .before .before .args .s) (c .before .before .before .before .before .before .before .before .before .before .before .before .before .before .before .before .before .before .pre .1 .3) (c .before .before .before .before .before .before .before .before .before .before .before .before .before .before .skip .result) (c .before .before .before .before .before .before .before .before .before .before .before .before .before .before .skip .ensures) in next-told (c .before .before .before .before .before .before .before .before .before .before .before .before .before .before .before .before .before .before .args .level) (c .before .before .before .before .before .before .before .before .before .before .before .before .before .before .before .before .before .before .args .n) (c .before .before .before .before .before .before .before .before .before .before .before .before .before .before .before .before .before .before .args .c) (c .before .before .before .before .before .before .before .before .before .before .before .before .before .before .before .before .before .before .args .a) (c .before .before .before .before .before .before .before .before .before .before .before .before .before .before .before .before .before .before .args .above) (c .before .before .before .before .before .before .before .before .before .before .before .before .before .before .before .before .before .before .args .run) (c .before .before .before .before .before .before .before .before .before .before .before .before .before .before .before .before .before .before .args .t .now) (c .before .before .before .before .before .before .before .before .before .before .before .before .before .before .before .before .before .before .args .s) (c .before .before .before .before .before .before .before .before .before .before .before .before .before .before .before .before .before .before .pre .1 .3) (c .before .before .before .before .before .before .before .before .before .before .before .before .before .before .skip .result) (c .before .before .before .before .before .before .before .before .before .before .before .before .before .before .skip .ensures) (c .before .before .walk-entries .last .0) (c .before .before .walk-entries .result) (step-more (c .before .before .before .before .before .before .before .before .before .before .before .before .before .before .before .before .before .before .args .level) (c .before .before .before .before .before .before .before .before .before .before .before .before .before .before .before .before .before .before .args .n) (c .before .before .before .before .before .before .before .before .before .before .before .before .before .before .before .before .before .before .args .c) (c .before .before .before .before .before .before .before .before .before .before .before .before .before .before .before .before .before .before .args .a) (c .before .before .before .before .before .before .before .before .before .before .before .before .before .before .before .before .before .before .args .above) (c .before .before .before .before .before .before .before .before .before .before .before .before .before .before .skip .result) (c .before .before .before .before .before .before .before .before .before .before .before .before .before .before .before .before .before .before .args .t .now) (c .before .before .before .before .before .before .before .before .before .before .before .before .before .before .before .before .before .before .args .s) (c .before .before .before .before .before .before .before .before .before .before .before .before .before .before .before .before .before .before .pre .1 .0) (c .before .before .before .before .before .before .before .before .before .before .before .before .before .before .before .before .before .slice-known .given) (c .before .before .before .before .before .before .before .before .before .before .before .before .before .before .before .before .before .before .pre .1 .2) y (omega (arith, c .before .before .before .before .before .before .before .before .before .before .before .before .if1 .left)) (c .before .before .before .before .before .before .before .before .before .first-of .result) (c .before .before .before .before .before .before .before .before .before .first-of .ensures) (c .before .before .before .before .before .before .before .walk-page .last .0) (c .before .before .before .before .before .before .before .walk-page .result) (c .before .before .before .rest-of .result) (c .before .before .before .rest-of .ensures) (c .before .before .before .before .before .before .before .walk-page .ensures) (c .before .before .walk-entries .last .0) (c .before .before .walk-entries .result) (c .before .before .walk-entries .ensures))
 
 walk-page-stop-requires : (t : ℕ) → walk-page-lts.Need-stop-requires (walk-page-in t) (walk-page-at t) walk-page.Post
 walk-page-stop-requires t c κs = search needs
@@ -140,13 +151,16 @@ pub +walk-entries+walk-page-spec : {M : Type 1} → statement M
 +walk-entries+walk-page-spec = close μ-walk-entries μ-walk-page (λ t. walk-entries-lts.spec (walk-entries-in t)
     (walk-entries-at t)
     walk-entries.Post
+    (walk-entries-cast-skip t)
+    (walk-entries-skip-requires t)
+    (walk-entries-same-length t)
     (walk-entries-returns t)
     (walk-entries-cast-first-of t)
     (walk-entries-first-of-requires t)
     (walk-entries-walk-page-requires t)
     (walk-entries-rest-of-requires t)
     (walk-entries-walk-entries-requires t)
-    (walk-entries-same-length t)
+    (walk-entries-same-length-2 t)
     (walk-entries-returns-2 t))
     λ t. walk-page-lts.spec (walk-page-in t)
     (walk-page-at t)
