@@ -5,12 +5,12 @@ use mathlib.Core.Path.{_≡_, refl, ap, sym, subst, _∙_}
 use mathlib.Core.Bool.{Bool, true, false}
 use mathlib.Core.List.{List, [], _∷_}
 use lib.ListN.{length}
-use Rattle.rules.specs.Layout.{pageSize, leafRoom}
+use Rattle.rules.specs.Layout.{pageSize}
 use Rattle.rules.specs.Test.{mem}
 use Rattle.rules.specs.Table.{read}
 use Rattle.rules.specs.declared.Asked.{Asked}
 use Rattle.rules.specs.declared.Place.{Place}
-use Rattle.rules.proofs.Sounds.{Sound}
+use Rattle.rules.proofs.Sounds.{Sound, sound-same}
 use Rattle.rules.proofs.Places.{fits-true, mendable-true}
 use Rattle.seen.specs.declared.Run.{Run}
 use Rattle.seen.specs.Run.{runOf, placeIn, places, restOf, Runs, Lies}
@@ -19,7 +19,7 @@ use Rattle.seen.proofs.Looks.{runs-sound, lies-sound, places-sound}
 use Rattle.seen.proofs.Shows.{fits-inside}
 use Rattle.dry.specs.Walk.{keeps, helps, meets, counts, breaks, dryEach, dry}
 use Rattle.dry.specs.Source.{source, markedBy}
-use Rattle.dry.specs.Count.{tally, tallyAt, sofarAt, stopped}
+use Rattle.dry.specs.Count.{tally, Within, tallyAt, sofarAt, stopped}
 use Rattle.dry.specs.declared.Dry.{Dry}
 use Rattle.dry.specs.declared.Sofar.{Sofar}
 use Rattle.dry.specs.declared.Source.{Source}
@@ -30,22 +30,21 @@ use Rattle.dry.proofs.Steps.{step-goes}
 
 -- a sound page of the table
 pub record Sourced (n : ℕ) (t : List ℕ) (i : ℕ) : Type 0 where
-  pub low : ℕ
-  pub high : ℕ
-  pub sound : Sound n low high (read t i .view)
+  pub sound : Sound n (read t i .low) (read t i .high) (read t i .view)
   pub inside : i < n
 
 module _ (n : ℕ) (t : List ℕ) (long : length t ≡ n * pageSize) where
   module _ (above : List ℕ) (m : List Bool) (e : Place) where
     sourced-child : keeps n t m e ≡ true → Sourced n t (e .child)
     sourced-child k =
-        let f = keeps-fits n above t m e k in
-        record { low = e .low; high = e .high; sound = fits-true n e (read t (e .child)) f .sound; inside = fits-inside n t e long f }
+        let h = keeps-fits n above t m e k in
+        let f = fits-true n e (read t (e .child)) h in
+        record { sound = sound-same (sym (f .low)) (sym (f .high)) (f .sound); inside = fits-inside n t e long h }
 
     sourced-previous : helps n t m e ≡ true → Sourced n t (e .previous)
     sourced-previous k =
         let q = mendable-true n e (read t (e .previous)) (helps-mendable n above t m e k) in
-        record { low = read t (e .previous) .low; high = read t (e .previous) .high; sound = q .sound; inside = q .below }
+        record { sound = q .sound; inside = q .below }
 
     pub sourced : (i : ℕ) → source n above t m e ≡ Source.Page i → Sourced n t i
     sourced i s = go (mem (e .child) above) refl (keeps n t m e) refl (helps n t m e) refl
@@ -59,14 +58,14 @@ module _ (n : ℕ) (t : List ℕ) (long : length t ≡ n * pageSize) where
         go false p false q false r = absurd (never n above t m e i (source-none n above t m e p q r ∙ s))
 
   module _ (i : ℕ) (s : Sourced n t i) where
-    pub source-counts : ((i + 1) * pageSize ≤ length t) × (length (read t i .view .certs) ≤ leafRoom)
-    source-counts = (omega (arith, s .inside, long), s .sound .certs-room)
+    pub source-counts : ((i + 1) * pageSize ≤ length t) × Within (read t i)
+    source-counts = (omega (arith, s .inside, long), record { room = s .sound .certs-room; keys-within = s .sound .certs-within })
 
     pub source-runs : Runs t i
-    source-runs = runs-sound n (s .low) (s .high) t i (s .sound) (s .inside) long
+    source-runs = runs-sound n (read t i .low) (read t i .high) t i (s .sound) (s .inside) long
 
     pub source-lies : (low high : ℕ) (r : Run) → r ≡ runOf t i low high → Lies n r
-    source-lies low high r h = subst (Lies n) (sym h) (lies-sound n (s .low) (s .high) t i (s .sound) low high (s .inside))
+    source-lies low high r h = subst (Lies n) (sym h) (lies-sound n (read t i .low) (read t i .high) t i (s .sound) low high (s .inside))
 
   -- ── A page ────────────────────────────────────────────────────────────────────────────────────────────────────
 
@@ -83,7 +82,7 @@ module _ (n : ℕ) (t : List ℕ) (long : length t ≡ n * pageSize) where
         let q = sourced (parent ∷ top ∷ []) m e i p in
         ap
         (λ (es : List Place). dryEach (dry l n a (e .child) parent t) es (counted (tallyAt t i a e (s .count)) (markedBy i e m)))
-        (sym (places-sound n (q .low) (q .high) t i (q .sound) e))
+        (sym (places-sound n (read t i .low) (read t i .high) t i (q .sound) e))
         ∙ step-goes n a parent top t e (sofarAt s m) l i h p
 
     -- as code takes the step

@@ -5,8 +5,8 @@ use mathlib.Core.Path.{_≡_, refl, ap, sym, _∙_}
 use mathlib.Core.Bool.{Bool, true, false, _&&_}
 use mathlib.Core.List.{List, [], _∷_}
 use lib.Dec.{leb, ltb}
-use lib.ListN.{length, drop}
-use lib.Seq.{take-nil}
+use lib.ListN.{length, take, drop}
+use lib.Seq.{take-nil, take-all, length-take-le}
 use borrow.Author.Tests.{leb-true, leb-false, le-leb, lt-leb, lt-ltb, le-ltb, ltb-true, ltb-false}
 use Rattle.rules.specs.Layout.{headerSize, certSize, leafKind, leafRoom}
 use Rattle.rules.specs.Test.{between}
@@ -16,16 +16,16 @@ use Rattle.rules.specs.Table.{pageAt, read}
 use Rattle.rules.specs.Place.{cutView}
 use Rattle.rules.specs.declared.Asked.{Asked}
 use Rattle.rules.specs.declared.Place.{Place}
-use Rattle.rules.proofs.Tests.{fails, not-both, between-of, between-low, between-high, between-below, between-above}
+use Rattle.rules.proofs.Tests.{fails, not-both, and-left, and-right, between-of, between-low, between-high, between-below, between-above}
 use Rattle.rules.proofs.Each.{length-readEach}
-use Rattle.rules.proofs.Entries.{cut-nil, cut-in, cut-out}
+use Rattle.rules.proofs.Entries.{cut-nil, cut-in, cut-out, cut-all, cut-wider}
 use Rattle.head.specs.Head.{certAt, headIn}
 use Rattle.head.specs.declared.Head.{Head}
 use Rattle.head.proofs.Headers.{view-leaf, view-inner}
 use Rattle.head.proofs.Left.{left, left-all, left-more, left-none}
 use Rattle.seen.specs.Run.{kindAt, countAt}
 use Rattle.seen.proofs.Looks.{head-kind, head-count}
-use Rattle.dry.specs.Count.{larger, smaller, tallied, tally, tallyAt}
+use Rattle.dry.specs.Count.{larger, smaller, tallied, tally, tallyAll, liesIn, Within, tallyAt}
 
 -- ── The narrower range ──────────────────────────────────────────────────────────────────────────────────────────
 
@@ -175,8 +175,47 @@ module _ (low high room : ℕ) where
     pub tally-end : (j count : ℕ) → entries ≤ j → tallies j count ≡ count
     tally-end j count h = rw (left-none certIn certSize b entries j h) (tally-nil count)
 
-    pub tally-all : (count : ℕ) → tallies 0 count ≡ tally low high room (readEach certIn certSize entries (drop headerSize b)) count
-    tally-all count = ap (λ (xs : List Cert). tally low high room xs count) (sym (left-all certIn certSize b entries))
+    pub tally-start : (count : ℕ) → tallies 0 count ≡ tally low high room (readEach certIn certSize entries (drop headerSize b)) count
+    tally-start count = ap (λ (xs : List Cert). tally low high room xs count) (sym (left-all certIn certSize b entries))
+
+-- ── All of them ─────────────────────────────────────────────────────────────────────────────────────────────────
+
+length-first : (k : ℕ) (xs : List Cert) → length (take k xs) ≡ smaller (length xs) k
+length-first k xs = go (leb (length xs) k) refl
+  where
+    go : (b : Bool) → leb (length xs) k ≡ b → length (take k xs) ≡ smaller (length xs) k
+    go true e =
+        let h = leb-true (length xs) k e in
+        ap length (take-all k xs h) ∙ smaller-left (length xs) k h
+    go false e =
+        let h = leb-false (length xs) k e in
+        length-take-le k xs (omega arith) ∙ smaller-right (length xs) k h
+
+module _ (entries room count : ℕ) where
+  pub all-none : room ≤ count → count ≡ tallyAll entries room count
+  unfolding tallyAll
+  all-none h = go (leb entries (room - count)) refl
+    where
+      go : (b : Bool) → leb entries (room - count) ≡ b → count ≡ count + smaller entries (room - count)
+      go true e = omega (arith, smaller-left entries (room - count) (leb-true entries (room - count) e), leb-true entries (room - count) e)
+      go false e = omega (arith, smaller-right entries (room - count) (leb-false entries (room - count) e))
+
+  pub all-fit : entries ≤ room - count → count + entries ≡ tallyAll entries room count
+  unfolding tallyAll
+  all-fit h = ap (λ (j : ℕ). count + j) (smaller-left entries (room - count) h)
+
+  pub all-full : count < room → room - count < entries → room ≡ tallyAll entries room count
+  unfolding tallyAll
+  all-full r h = omega (arith, smaller-right entries (room - count) h)
+
+module _ (h : Head) (low high : ℕ) where
+  pub lies-below : h .low < low → false ≡ liesIn h low high
+  unfolding liesIn
+  lies-below p = rw (liesIn, lt-leb low (h .low) p)
+
+  pub lies-up-to : low ≤ h .low → leb (h .high) high ≡ liesIn h low high
+  unfolding liesIn
+  lies-up-to p = rw (liesIn, le-leb low (h .low) p)
 
 -- ── A page ──────────────────────────────────────────────────────────────────────────────────────────────────────
 
@@ -191,9 +230,19 @@ module _ (t : List ℕ) (page : ℕ) (h : Head) (f : h ≡ headIn (pageAt t page
   unfolding read pageIn kindAt
   certs-inner k = ap (λ (v : View). v .certs) (view-inner (pageAt t page) (λ q. k (head-kind t page h f ∙ q)))
 
-  pub leaf-room : length (read t page .view .certs) ≤ leafRoom → h .kind ≡ leafKind → h .count ≤ leafRoom
-  leaf-room r k =
-      omega (arith, ap length (certs-leaf k), length-readEach certIn certSize (h .count) (drop headerSize (pageAt t page)))
+  length-leaf : h .kind ≡ leafKind → length (read t page .view .certs) ≡ h .count
+  length-leaf k = ap length (certs-leaf k) ∙ length-readEach certIn certSize (h .count) (drop headerSize (pageAt t page))
+
+  pub leaf-room : Within (read t page) → h .kind ≡ leafKind → h .count ≤ leafRoom
+  leaf-room w k = omega (arith, length-leaf k, w .room)
+
+  head-low : h .low ≡ read t page .low
+  unfolding read pageIn headIn
+  head-low = ap (λ (x : Head). x .low) f
+
+  head-high : h .high ≡ read t page .high
+  unfolding read pageIn headIn
+  head-high = ap (λ (x : Head). x .high) f
 
   module _ (a : Asked) (e : Place) (count : ℕ) where
     pub tally-inner : (h .kind ≡ leafKind → ⊥) → count ≡ tallyAt t page a e count
@@ -210,3 +259,29 @@ module _ (t : List ℕ) (page : ℕ) (h : Head) (f : h ≡ headIn (pageAt t page
     unfolding tallyAt cutView tally
     tally-leaf low high k p q =
         rw (p, q, sym (certs-leaf k), sym (cut-both (a .low) (a .high) (e .low) (e .high) (read t page .view .certs)))
+
+    -- a range that holds the page's cuts nothing
+    module _ (low high : ℕ) (w : Within (read t page)) (i : liesIn h low high ≡ true) where
+      from-low : low ≤ read t page .low
+      unfolding liesIn
+      from-low = omega (arith, leb-true low (h .low) (and-left (leb low (h .low)) (leb (h .high) high) i), head-low)
+
+      to-high : read t page .high ≤ high
+      unfolding liesIn
+      to-high = omega (arith, leb-true (h .high) high (and-right (leb low (h .low)) (leb (h .high) high) i), head-high)
+
+      cut-none-off : cut low high (read t page .view .certs) ≡ read t page .view .certs
+      cut-none-off =
+          let xs = read t page .view .certs in
+          let own = cut-all (read t page .low) (read t page .high) xs (w .keys-within) in
+          ap (cut low high) (sym own) ∙ cut-wider (read t page .low) (read t page .high) low high xs from-low to-high ∙ own
+
+      pub tally-whole : h .kind ≡ leafKind → low ≡ larger (a .low) (e .low) → high ≡ smaller (a .high) (e .high)
+          → tallyAll (h .count) (a .room) count ≡ tallyAt t page a e count
+      unfolding tallyAll tally
+      tally-whole k p q =
+          ap (λ (j : ℕ). count + smaller j (a .room - count)) (sym (length-leaf k))
+          ∙ ap (λ (j : ℕ). count + j) (sym (length-first (a .room - count) (read t page .view .certs)))
+          ∙ ap (λ (xs : List Cert). count + length (take (a .room - count) xs)) (sym cut-none-off)
+          ∙ ap (λ (xs : List Cert). tally low high (a .room) xs count) (certs-leaf k)
+          ∙ tally-leaf low high k p q

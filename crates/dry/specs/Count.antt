@@ -1,15 +1,19 @@
 -- How many certificates a dry walk has counted, page by page, and what it has come to.
-use Prim.Native.Nat.{ℕ, _+_, _-_}
+use Prim.Native.Nat.{ℕ, _+_, _-_, _≤_}
+use mathlib.Core.Path.{_≡_}
 use mathlib.Core.Bool.{Bool, true, false, _&&_}
 use mathlib.Core.List.{List}
 use lib.Dec.{leb, ltb}
 use lib.ListN.{length, take}
-use Rattle.rules.specs.Test.{between}
-use Rattle.rules.specs.Entry.{Cert, cut}
+use Rattle.rules.specs.Layout.{leafRoom}
+use Rattle.rules.specs.Test.{between, all}
+use Rattle.rules.specs.Entry.{Cert, cut, keys}
+use Rattle.rules.specs.Page.{Page}
 use Rattle.rules.specs.Table.{read}
 use Rattle.rules.specs.Place.{cutView}
 use Rattle.rules.specs.declared.Asked.{Asked}
 use Rattle.rules.specs.declared.Place.{Place}
+use Rattle.head.specs.declared.Head.{Head}
 use Rattle.dry.specs.declared.Dry.{Dry}
 use Rattle.dry.specs.declared.Sofar.{Sofar}
 
@@ -26,6 +30,18 @@ tallied low high room key count = elim (between low high key && ltb count room) 
 -- as many more as have keys in a range, while there is room
 unfoldable pub tally : ℕ → ℕ → ℕ → List Cert → ℕ → ℕ
 tally low high room xs count = count + length (take (room - count) (cut low high xs))
+
+-- as many more as there are, while there is room
+unfoldable pub tallyAll : ℕ → ℕ → ℕ → ℕ
+tallyAll entries room count = count + smaller entries (room - count)
+
+-- a page's range lies in another one, and its certificates, few enough, in its own
+unfoldable pub liesIn : Head → ℕ → ℕ → Bool
+liesIn h low high = leb low (h .low) && leb (h .high) high
+
+pub record Within (p : Page) : Type 0 where
+  pub room : length (p .view .certs) ≤ leafRoom
+  pub keys-within : all (between (p .low) (p .high)) (keys (p .view .certs)) ≡ true
 
 -- those of a page, as a place shows them
 unfoldable pub tallyAt : List ℕ → ℕ → Asked → Place → ℕ → ℕ

@@ -11,6 +11,7 @@
 //
 // Below stand `seen`, which finds the entries of a page that lie in a range, `sound`, which tests a page against a
 // place, `head`, which reads headers and entries, and `rules`.
+use head::Head;
 use head::cert_key_at;
 use head::head_at;
 use head::root_place;
@@ -39,7 +40,7 @@ ghost use Rattle.rules.specs.Table.{pageAt, read, fit0};
 ghost use Rattle.seen.specs.Run.{places, Lies};
 ghost use Rattle.dry.specs.Walk.{keeps, helps, meetsWith, dry, dryEach, dryOf};
 ghost use Rattle.dry.specs.Source.{source, markedBy};
-ghost use Rattle.dry.specs.Count.{larger, smaller, tallied, tally, tallyAt, sofarAt, stopped};
+ghost use Rattle.dry.specs.Count.{larger, smaller, tallied, tally, tallyAll, liesIn, Within, tallyAt, sofarAt, stopped};
 
 // What a dry walk has found so far: whether it met no damaged place, how many certificates there are, and which numbers
 // it would have mended.
@@ -193,18 +194,46 @@ fn tally_each(
     found
 }
 
-// The certificates of a page, as a place shows them, that are asked for.
+// All of them, while there is room.
+fn tally_all(entries: usize, room: usize, count: usize) -> usize
+    ensures { λ r. ⌜ r ≡ tallyAll entries room count ⌝ }
+{
+    if count >= room {
+        return count;
+    }
+    if entries <= room - count {
+        return count + entries;
+    }
+    room
+}
+
+// Whether a page's range lies in another one.
+fn lies_in(head: Head, low: u64, high: u64) -> bool
+    ensures { λ r. ⌜ r ≡ liesIn head low high ⌝ }
+{
+    if low > head.low {
+        return false;
+    }
+    head.high <= high
+}
+
+// The certificates of a page, as a place shows them, that are asked for. A list asks for most leaves whole: those are
+// not looked through.
 fn tally_page(table: &[u8], page: usize, a: Asked, e: Place, count: usize) -> usize
-    requires { ⌜ ((page + 1) * pageSize ≤ length (now table)) × (length (read (now table) page .view .certs) ≤ leafRoom) ⌝ }
+    requires { ⌜ ((page + 1) * pageSize ≤ length (now table)) × Within (read (now table) page) ⌝ }
     ensures { λ r. ⌜ r ≡ tallyAt (now (table .entry)) page a e count ⌝ }
 {
     let head = head_at(table, page);
     if head.kind != LEAF {
         return count;
     }
+    let entries = head.count as usize;
     let low = larger(a.low, e.low);
     let high = smaller(a.high, e.high);
-    tally_each(table, page, head.count as usize, low, high, a.room, count)
+    if lies_in(head, low, high) {
+        return tally_all(entries, a.room, count);
+    }
+    tally_each(table, page, entries, low, high, a.room, count)
 }
 
 // A damaged place ends the walk.

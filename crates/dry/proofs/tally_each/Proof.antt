@@ -1,7 +1,7 @@
 use Prim.Native.Nat.{_-_, _≤_}
 use mathlib.Core.Path.{_≡_, refl, sym, _∙_}
 use Rattle.rules.specs.Table.{pageAt}
-use Rattle.dry.proofs.Tallies.{tallies, tally-turn, tally-end, tally-all}
+use Rattle.dry.proofs.Tallies.{tallies, tally-turn, tally-end, tally-start}
 use borrow.Author.Needs.{needs}
 use native.Mathlib.Omega.{arith}
 use Rattle.dry.proofs.tally_each.Statement.{statement}
@@ -32,7 +32,7 @@ loop-again : tie.Need-loop-again Inv-loop μ-loop
 loop-again c = (omega (arith, c .before .before .loop-test .taken), tally-turn (c .before .before .before .before .before .args .low) (c .before .before .before .before .before .args .high) (c .before .before .before .before .before .args .room) (pageAt (c .before .before .before .before .before .args .table .now) (c .before .before .before .before .before .args .page)) (c .before .before .before .before .before .args .entries) (c .before .before .before .loop .j) (c .before .cert-key-at .result) (c .before .before .before .loop .found) (c .tally-key .result) (c .before .before .loop-test .taken) (c .before .cert-key-at .ensures) (c .tally-key .ensures) ∙ c .before .before .before .loop .inv .1)
 
 returns : tie.Need-returns Inv-loop μ-loop
-returns c = sym (tally-end (c .before .before .before .args .low) (c .before .before .before .args .high) (c .before .before .before .args .room) (pageAt (c .before .before .before .args .table .now) (c .before .before .before .args .page)) (c .before .before .before .args .entries) (c .before .loop .j) (c .before .loop .found) (c .loop-test .left)) ∙ (c .before .loop .inv .1 ∙ tally-all (c .before .before .before .args .low) (c .before .before .before .args .high) (c .before .before .before .args .room) (pageAt (c .before .before .before .args .table .now) (c .before .before .before .args .page)) (c .before .before .before .args .entries) (c .before .before .before .args .count))
+returns c = sym (tally-end (c .before .before .before .args .low) (c .before .before .before .args .high) (c .before .before .before .args .room) (pageAt (c .before .before .before .args .table .now) (c .before .before .before .args .page)) (c .before .before .before .args .entries) (c .before .loop .j) (c .before .loop .found) (c .loop-test .left)) ∙ (c .before .loop .inv .1 ∙ tally-start (c .before .before .before .args .low) (c .before .before .before .args .high) (c .before .before .before .args .room) (pageAt (c .before .before .before .args .table .now) (c .before .before .before .args .page)) (c .before .before .before .args .entries) (c .before .before .before .args .count))
 
 pub tally-each-spec : {M : Type 1} → statement M
 tally-each-spec =
