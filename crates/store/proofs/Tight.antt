@@ -1,0 +1,42 @@
+-- No second outcome satisfies a contract of this crate. Assumes nothing.
+use mathlib.Core.Path.{sym, _∙_}
+use Rattle.tight.specs.Tight.{Tight}
+use Rattle.store.proofs as this
+
+pub format-tight : Tight this.format.Kinds.ps this.format.Kinds.r this.format.Reads.Pre this.format.Reads.Post
+format-tight κs a pre z z′ l l′ p q =
+    let e = p ∙ sym q in
+    ((λ i. e i .answer), (λ i. (l .0, (e i .stable, l .1 .1))))
+
+pub open-tight : Tight this.open.Kinds.ps this.open.Kinds.r this.open.Reads.Pre this.open.Reads.Post
+open-tight κs a pre z z′ l l′ p q =
+    let e = p ∙ sym q in
+    ((λ i. record { answer = e i .answer; session = e i .session }), (λ i. (e i .working, (e i .stable, l .1 .1))))
+
+pub insert-tight : Tight this.insert.Kinds.ps this.insert.Kinds.r this.insert.Reads.Pre this.insert.Reads.Post
+insert-tight κs a pre z z′ l l′ p q =
+    let e = p ∙ sym q in
+    ((λ i. record { answer = e i .answer; session = e i .session }), (λ i. (e i .working, l .1)))
+
+pub lookup-tight : Tight this.lookup.Kinds.ps this.lookup.Kinds.r this.lookup.Reads.Pre this.lookup.Reads.Post
+lookup-tight κs a pre z z′ l l′ p q =
+    let e = p ∙ sym q in
+    ((λ i. record { answer = e i .answer; session = e i .session }), (λ i. (e i .working, l .1)))
+
+pub newest-tight : Tight this.newest.Kinds.ps this.newest.Kinds.r this.newest.Reads.Pre this.newest.Reads.Post
+newest-tight κs a pre z z′ l l′ p q =
+    let e = p ∙ sym q in
+    ((λ i. record { answer = e i .answer; session = e i .session }), (λ i. (e i .working, l .1)))
+
+pub list-tight : Tight this.list.Kinds.ps this.list.Kinds.r this.list.Reads.Pre this.list.Reads.Post
+list-tight κs a pre z z′ l l′ p q =
+    let e = p ∙ sym q in
+    let rest = l .1 .1 .1 .1 .1 .1 in (
+      (λ i. record { answer = e i .answer; session = e i .session }),
+      (λ i. (e i .working, (l .1 .0, (l .1 .1 .0, (l .1 .1 .1 .0, (e i .keys, (e i .records, rest))))))),
+    )
+
+pub sync-tight : Tight this.sync.Kinds.ps this.sync.Kinds.r this.sync.Reads.Pre this.sync.Reads.Post
+sync-tight κs a pre z z′ l l′ p q =
+    let e = p ∙ sym q in
+    ((λ i. record { answer = e i .answer; session = e i .session }), (λ i. (e i .working, (e i .stable, l .1 .1))))

@@ -1,0 +1,145 @@
+// The store: certificates and their records, kept through crashes.
+//
+// A certificate has a model, a serial and an issue, none of them 0; its record is any 32-bit number. The caller lends
+// two tables of bytes: `working`, in memory, and `stable`, which outlasts a crash. Both have 512 bytes for each of n
+// pages, 4 ≤ n ≤ 128. A session is handed in and handed back with each call but `format` and `open`; `open` hands out the
+// first. Nothing is required of a caller: any bytes, any lengths, any session and any key get an answer.
+//
+//     format  once: stable becomes an empty store
+//     open    at the start and after a crash: working becomes a copy of stable, and a session is handed out
+//     insert  puts a certificate in; from the next sync on it outlasts every crash
+//     lookup  the record of a certificate
+//     newest  the largest issue of a meter, and its record
+//     list    the certificates from a start key upwards, into two lent lists, up to the shorter one
+//     sync    stable becomes a copy of working
+//
+// What the answers mean; where more than one would do, the one named first is given:
+//
+//     Length     a table's length is wrong, the two differ, or the session is that of other tables
+//     BadKey     a zero model, serial or issue
+//     Damaged    a page that the call needs is spoilt and cannot be mended, or page 0 is
+//     Missing    lookup, newest: there is no such certificate
+//     Present    insert: the certificate is there, with whatever record
+//     SyncFirst  insert: sync, and try again
+//     Full       insert: too few pages are free; sync, and try again
+//     Spent      open, sync: the counter is at its end
+//     Done, Found, Filled   none of these: the call did what it is for
+//
+// What a refused call leaves: the session as it was handed in, the stable table and the lists as they were, and in the
+// working table nothing changed but pages that the call mended on its way; a mended page holds what it held before the
+// crash. Pages reach the stable table in `sync`, in `format`, in one page write of `open`, and at a crash.
+//
+// Each contract is one equation with the rule of that name: answer, session and every byte lent are the rule's. What
+// the rules promise of crashes is the theorem `demand3` of `rules`. Stack: `tools/frames` reads off the object code what
+// each function takes, at most 2 KiB, arrays and all.
+//
+// Below stand the calls, a crate each.
+ghost use mathlib.Core.Path.{_≡_};
+ghost use Rattle.rules.specs.Format;
+ghost use Rattle.rules.specs.Open;
+ghost use Rattle.rules.specs.Insert;
+ghost use Rattle.rules.specs.Lookup;
+ghost use Rattle.rules.specs.Newest;
+ghost use Rattle.rules.specs.List;
+ghost use Rattle.rules.specs.Sync;
+ghost use Rattle.format.specs.Formats;
+ghost use Rattle.opening.specs.Opens;
+ghost use Rattle.insert.specs.Inserts;
+ghost use Rattle.lookup.specs.Looks;
+ghost use Rattle.newest.specs.Newests;
+ghost use Rattle.list.specs.Lists;
+ghost use Rattle.sync.specs.Syncs;
+use rules::Formatted;
+use rules::Inserting;
+use rules::Listing;
+use rules::Looking;
+use rules::NewestOf;
+use rules::Opening;
+use rules::Session;
+use rules::Syncing;
+
+// Answers Done or Length. The working table is only measured.
+pub fn format(working: &[u8], stable: &mut [u8]) -> Formatted
+    ensures { λ r. ⌜ Formats.formatting r (now (stable .exit))
+        ≡ Format.format (now (working .entry)) (now (stable .entry)) ⌝ }
+{
+    format::format(working, stable)
+}
+
+// Answers Done, Length, Damaged or Spent. A refused opening hands out the session of nobody, with which every other call
+// answers Length.
+pub fn open(working: &mut [u8], stable: &mut [u8]) -> Opening
+    ensures { λ r. ⌜ Opens.left r (now (working .exit)) (now (stable .exit))
+        ≡ Open.opening (now (working .entry)) (now (stable .entry)) ⌝ }
+{
+    opening::open(working, stable)
+}
+
+// Answers Done, Length, BadKey, Damaged, Present, SyncFirst or Full.
+pub fn insert(
+    working: &mut [u8],
+    stable: &[u8],
+    session: Session,
+    model: u16,
+    serial: u32,
+    issue: u16,
+    value: u32,
+) -> Inserting
+    ensures { λ r. ⌜ Inserts.leaving r (now (working .exit)) (now (stable .entry))
+        ≡ Insert.insert (now (working .entry)) (now (stable .entry)) session model serial issue value ⌝ }
+{
+    insert::insert(working, stable, session, model, serial, issue, value)
+}
+
+// Answers Found with the record, Length, BadKey, Damaged or Missing.
+pub fn lookup(
+    working: &mut [u8],
+    stable: &[u8],
+    session: Session,
+    model: u16,
+    serial: u32,
+    issue: u16,
+) -> Looking
+    ensures { λ r. ⌜ Looks.leaving r (now (working .exit)) (now (stable .entry))
+        ≡ Lookup.lookup (now (working .entry)) (now (stable .entry)) session model serial issue ⌝ }
+{
+    lookup::lookup(working, stable, session, model, serial, issue)
+}
+
+// Answers Found with the issue and the record, Length, BadKey, Damaged or Missing.
+pub fn newest(
+    working: &mut [u8],
+    stable: &[u8],
+    session: Session,
+    model: u16,
+    serial: u32,
+) -> NewestOf
+    ensures { λ r. ⌜ Newests.leaving r (now (working .exit)) (now (stable .entry))
+        ≡ Newest.newest (now (working .entry)) (now (stable .entry)) session model serial ⌝ }
+{
+    newest::newest(working, stable, session, model, serial)
+}
+
+// Answers Filled with how many places of both lists it filled, Length or Damaged. A start is any number: a key is model
+// times 2^48, serial times 2^16 and issue.
+pub fn list(
+    working: &mut [u8],
+    stable: &[u8],
+    session: Session,
+    start: u64,
+    keys: &mut [u64],
+    records: &mut [u32],
+) -> Listing
+    ensures { λ r. ⌜ Lists.leaving r (now (working .exit)) (now (stable .entry)) (now (keys .exit)) (now (records .exit))
+        ≡ List.list (now (working .entry)) (now (stable .entry)) session start (now (keys .entry)) (now (records .entry)) ⌝ }
+{
+    list::list(working, stable, session, start, keys, records)
+}
+
+// Answers Done, Length or Spent.
+pub fn sync(working: &mut [u8], stable: &mut [u8], session: Session) -> Syncing
+    ensures { λ r. ⌜ Syncs.left r (now (working .exit)) (now (stable .exit))
+        ≡ Sync.sync (now (working .entry)) (now (stable .entry)) session ⌝ }
+{
+    sync::sync(working, stable, session)
+}
