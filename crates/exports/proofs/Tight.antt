@@ -1,0 +1,42 @@
+-- No second outcome satisfies a contract of this crate. Assumes nothing.
+use mathlib.Core.Path.{sym, _∙_}
+use Rattle.tight.specs.Tight.{Tight}
+use Rattle.exports.proofs as this
+
+pub kh-format-tight : Tight this.kh_format.Kinds.ps this.kh_format.Kinds.r this.kh_format.Reads.Pre this.kh_format.Reads.Post
+kh-format-tight κs a pre z z′ l l′ p q =
+    let e = p ∙ sym q in
+    ((λ i. e i .answer), (λ i. (l .0, (e i .stable, l .1 .1))))
+
+pub kh-open-tight : Tight this.kh_open.Kinds.ps this.kh_open.Kinds.r this.kh_open.Reads.Pre this.kh_open.Reads.Post
+kh-open-tight κs a pre z z′ l l′ p q =
+    let e = p ∙ sym q in
+    ((λ i. e i .back), (λ i. (e i .working, (e i .stable, l .1 .1))))
+
+pub kh-insert-tight : Tight this.kh_insert.Kinds.ps this.kh_insert.Kinds.r this.kh_insert.Reads.Pre this.kh_insert.Reads.Post
+kh-insert-tight κs a pre z z′ l l′ p q =
+    let e = p ∙ sym q in
+    ((λ i. e i .back), (λ i. (e i .working, l .1)))
+
+pub kh-lookup-tight : Tight this.kh_lookup.Kinds.ps this.kh_lookup.Kinds.r this.kh_lookup.Reads.Pre this.kh_lookup.Reads.Post
+kh-lookup-tight κs a pre z z′ l l′ p q =
+    let e = p ∙ sym q in
+    ((λ i. e i .back), (λ i. (e i .working, l .1)))
+
+pub kh-newest-tight : Tight this.kh_newest.Kinds.ps this.kh_newest.Kinds.r this.kh_newest.Reads.Pre this.kh_newest.Reads.Post
+kh-newest-tight κs a pre z z′ l l′ p q =
+    let e = p ∙ sym q in
+    ((λ i. e i .back), (λ i. (e i .working, l .1)))
+
+pub kh-list-tight : Tight this.kh_list.Kinds.ps this.kh_list.Kinds.r this.kh_list.Reads.Pre this.kh_list.Reads.Post
+kh-list-tight κs a pre z z′ l l′ p q =
+    let e = p ∙ sym q in
+    let rest = l .1 .1 .1 .1 .1 .1 in (
+      (λ i. e i .back),
+      (λ i. (e i .working, (l .1 .0, (l .1 .1 .0, (l .1 .1 .1 .0, (e i .keys, (e i .records, rest))))))),
+    )
+
+pub kh-sync-tight : Tight this.kh_sync.Kinds.ps this.kh_sync.Kinds.r this.kh_sync.Reads.Pre this.kh_sync.Reads.Post
+kh-sync-tight κs a pre z z′ l l′ p q =
+    let e = p ∙ sym q in
+    ((λ i. e i .back), (λ i. (e i .working, (e i .stable, l .1 .1))))

@@ -1,0 +1,25 @@
+-- `exports::kh_lookup`: what the store's call leaves, with the answer as a number and the session as it came.
+-- Assumes nothing.
+use Rattle.exports.proofs.Reading.{looked-same}
+use borrow.Author.Needs.{needs}
+use Rattle.exports.proofs.kh_lookup.Statement.{statement}
+use Rattle.exports.proofs.kh_lookup.Tie as tie
+
+lookup-requires : tie.Need-lookup-requires
+lookup-requires c κs = search needs
+
+looked-requires : tie.Need-looked-requires
+looked-requires c κs = search needs
+
+looked-record-requires : tie.Need-looked-record-requires
+looked-record-requires c κs = search needs
+
+same-length : tie.Need-same-length
+same-length c = search needs
+
+returns : tie.Need-returns
+returns c = rw (c .before .looked .ensures, c .looked-record .ensures) (looked-same (c .before .before .before .before .before .before .before .before .args .working .now) (c .before .before .before .before .before .before .before .before .args .stable .now) (c .before .before .before .before .before .before .before .before .args .session) (c .before .before .before .before .before .before .before .before .args .model) (c .before .before .before .before .before .before .before .before .args .serial) (c .before .before .before .before .before .before .before .before .args .issue) (c .before .before .before .before .lookup .result) (c .before .before .before .before .lookup .last .0) (c .before .before .before .before .lookup .ensures))
+
+pub kh-lookup-spec : {M : Type 1} → statement M
+kh-lookup-spec =
+    tie.close (tie.spec lookup-requires looked-requires looked-record-requires same-length returns)

@@ -1,0 +1,84 @@
+-- What a call leaves for a caller in C: what it hands back, and both tables. Answers are document 01's numbers; the
+-- numbers beside a refusal are 0.
+use Prim.Native.Nat.{ℕ}
+use mathlib.Core.List.{List}
+use Rattle.rules.specs.Call.{Left, formattedNo, lookedNo, lookedRecord, newestNo, newestIssue, newestRecord, listedNo, listedCount}
+use Rattle.rules.specs.Format.{Formatting}
+use Rattle.rules.specs.List.{ListLeft}
+use Rattle.rules.specs.declared.Session.{Session}
+use Rattle.rules.specs.declared.Looked.{Looked}
+use Rattle.rules.specs.declared.Newest.{Newest}
+use Rattle.rules.specs.declared.Listed.{Listed}
+use Rattle.exports.specs.declared.KhAnswered.{KhAnswered}
+use Rattle.exports.specs.declared.KhLooked.{KhLooked}
+use Rattle.exports.specs.declared.KhNewest.{KhNewest}
+use Rattle.exports.specs.declared.KhListed.{KhListed}
+
+pub record Leaves (A : Type 0) : Type 0 where
+  pub back : A
+  pub working : List ℕ
+  pub stable : List ℕ
+
+abbrev pub leaves : {A : Type 0} → A → List ℕ → List ℕ → Leaves A
+leaves back working stable = record { back = back; working = working; stable = stable }
+
+-- a format leaves working as it is
+pub record Formats : Type 0 where
+  pub answer : ℕ
+  pub stable : List ℕ
+
+abbrev pub formatting : ℕ → List ℕ → Formats
+formatting answer stable = record { answer = answer; stable = stable }
+
+-- a list leaves both lists too
+pub record Lists : Type 0 where
+  pub back : KhListed
+  pub working : List ℕ
+  pub stable : List ℕ
+  pub keys : List ℕ
+  pub records : List ℕ
+
+abbrev pub listing : KhListed → List ℕ → List ℕ → List ℕ → List ℕ → Lists
+listing back working stable keys records = record {
+  back = back;
+  working = working;
+  stable = stable;
+  keys = keys;
+  records = records;
+}
+
+-- ── What is handed back ─────────────────────────────────────────────────────────────────────────────────────────
+
+abbrev pub answeredBack : ℕ → Session → KhAnswered
+answeredBack answer session = record { answer = answer; session = session }
+
+abbrev pub lookedBack : Looked → Session → KhLooked
+lookedBack a session = record { answer = lookedNo a; «record» = lookedRecord a; session = session }
+
+abbrev pub newestBack : Newest → Session → KhNewest
+newestBack a session = record {
+  answer = newestNo a;
+  issue = newestIssue a;
+  «record» = newestRecord a;
+  session = session;
+}
+
+abbrev pub listedBack : Listed → Session → KhListed
+listedBack a session = record { answer = listedNo a; count = listedCount a; session = session }
+
+-- ── The same of what the rules say ──────────────────────────────────────────────────────────────────────────────
+
+abbrev pub formatted : Formatting → Formats
+formatted l = formatting (formattedNo (l .answer)) (l .stable)
+
+abbrev pub answered : {A : Type 0} → (A → ℕ) → Left A → Leaves KhAnswered
+answered number l = leaves (answeredBack (number (l .answer)) (l .session)) (l .working) (l .stable)
+
+abbrev pub looked : Left Looked → Leaves KhLooked
+looked l = leaves (lookedBack (l .answer) (l .session)) (l .working) (l .stable)
+
+abbrev pub newest : Left Newest → Leaves KhNewest
+newest l = leaves (newestBack (l .answer) (l .session)) (l .working) (l .stable)
+
+abbrev pub listed : ListLeft → Lists
+listed l = listing (listedBack (l .answer) (l .session)) (l .working) (l .stable) (l .keys) (l .records)

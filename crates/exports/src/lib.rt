@@ -1,0 +1,173 @@
+// The store for callers in C: its seven calls under C names, with numbers for answers.
+//
+// Each call is that of `store`, of which every word holds here too: nothing is required but what C asks of any caller.
+// Slices are a pointer and a length; a session goes in and comes back by value, laid out as C lays it out. An answer is
+// document 01's number, 0 to 8, and the numbers beside a refusal are 0. include/khirpando.h declares the same for C.
+//
+// Each contract is one equation: what is handed back and every byte lent are the rule's, with its answer as a number.
+// Reading calls hand the session back from where it was handed in, which spares three copies of 256 bytes: the rules
+// say that it comes back as it came.
+//
+// Below stand `store` and `rules`.
+ghost use mathlib.Core.Path.{_≡_};
+ghost use Rattle.rules.specs.Call.{openedNo, insertedNo, syncedNo};
+ghost use Rattle.rules.specs.Format;
+ghost use Rattle.rules.specs.Open;
+ghost use Rattle.rules.specs.Insert;
+ghost use Rattle.rules.specs.Lookup;
+ghost use Rattle.rules.specs.Newest;
+ghost use Rattle.rules.specs.List;
+ghost use Rattle.rules.specs.Sync;
+ghost use Rattle.exports.specs.Leaves as C;
+use rules::Session;
+
+mod numbers;
+
+#[repr(C)]
+pub struct KhAnswered {
+    pub answer: u32,
+    pub session: Session,
+}
+
+#[repr(C)]
+pub struct KhLooked {
+    pub answer: u32,
+    pub record: u32,
+    pub session: Session,
+}
+
+#[repr(C)]
+pub struct KhNewest {
+    pub answer: u32,
+    pub issue: u32,
+    pub record: u32,
+    pub session: Session,
+}
+
+#[repr(C)]
+pub struct KhListed {
+    pub answer: u32,
+    pub count: u64,
+    pub session: Session,
+}
+
+#[no_mangle]
+pub extern "C" fn kh_format(working: &[u8], stable: &mut [u8]) -> u32
+    ensures { λ r. ⌜ C.formatting r (now (stable .exit))
+        ≡ C.formatted (Format.format (now (working .entry)) (now (stable .entry))) ⌝ }
+{
+    numbers::formatted(store::format(working, stable))
+}
+
+#[no_mangle]
+pub extern "C" fn kh_open(working: &mut [u8], stable: &mut [u8]) -> KhAnswered
+    ensures { λ r. ⌜ C.leaves r (now (working .exit)) (now (stable .exit))
+        ≡ C.answered openedNo (Open.opening (now (working .entry)) (now (stable .entry))) ⌝ }
+{
+    let left = store::open(working, stable);
+    let answer = left.answer;
+    let session = left.session;
+    KhAnswered {
+        answer: numbers::opened(answer),
+        session,
+    }
+}
+
+#[no_mangle]
+pub extern "C" fn kh_insert(
+    working: &mut [u8],
+    stable: &[u8],
+    session: Session,
+    model: u16,
+    serial: u32,
+    issue: u16,
+    value: u32,
+) -> KhAnswered
+    ensures { λ r. ⌜ C.leaves r (now (working .exit)) (now (stable .entry))
+        ≡ C.answered insertedNo (Insert.insert (now (working .entry)) (now (stable .entry)) session model serial issue value) ⌝ }
+{
+    let left = store::insert(working, stable, session, model, serial, issue, value);
+    let answer = left.answer;
+    let session = left.session;
+    KhAnswered {
+        answer: numbers::inserted(answer),
+        session,
+    }
+}
+
+#[no_mangle]
+pub extern "C" fn kh_lookup(
+    working: &mut [u8],
+    stable: &[u8],
+    session: Session,
+    model: u16,
+    serial: u32,
+    issue: u16,
+) -> KhLooked
+    ensures { λ r. ⌜ C.leaves r (now (working .exit)) (now (stable .entry))
+        ≡ C.looked (Lookup.lookup (now (working .entry)) (now (stable .entry)) session model serial issue) ⌝ }
+{
+    let left = store::lookup(working, stable, session, model, serial, issue);
+    let answer = left.answer;
+    KhLooked {
+        answer: numbers::looked(answer),
+        record: numbers::looked_record(answer),
+        session,
+    }
+}
+
+#[no_mangle]
+pub extern "C" fn kh_newest(
+    working: &mut [u8],
+    stable: &[u8],
+    session: Session,
+    model: u16,
+    serial: u32,
+) -> KhNewest
+    ensures { λ r. ⌜ C.leaves r (now (working .exit)) (now (stable .entry))
+        ≡ C.newest (Newest.newest (now (working .entry)) (now (stable .entry)) session model serial) ⌝ }
+{
+    let left = store::newest(working, stable, session, model, serial);
+    let answer = left.answer;
+    KhNewest {
+        answer: numbers::newest(answer),
+        issue: numbers::newest_issue(answer),
+        record: numbers::newest_record(answer),
+        session,
+    }
+}
+
+#[no_mangle]
+pub extern "C" fn kh_list(
+    working: &mut [u8],
+    stable: &[u8],
+    session: Session,
+    start: u64,
+    keys: &mut [u64],
+    records: &mut [u32],
+) -> KhListed
+    ensures { λ r. ⌜ C.listing r (now (working .exit)) (now (stable .entry)) (now (keys .exit)) (now (records .exit))
+        ≡ C.listed (List.list (now (working .entry)) (now (stable .entry)) session start (now (keys .entry)) (now (records .entry))) ⌝ }
+{
+    let left = store::list(working, stable, session, start, keys, records);
+    let answer = left.answer;
+    KhListed {
+        answer: numbers::listed(answer),
+        count: numbers::listed_count(answer),
+        session,
+    }
+}
+
+#[no_mangle]
+pub extern "C" fn kh_sync(working: &mut [u8], stable: &mut [u8], session: Session) -> KhAnswered
+    ensures { λ r. ⌜ C.leaves r (now (working .exit)) (now (stable .exit))
+        ≡ C.answered syncedNo (Sync.sync (now (working .entry)) (now (stable .entry)) session) ⌝ }
+{
+    let left = store::sync(working, stable, session);
+    let answer = left.answer;
+    let session = left.session;
+    KhAnswered {
+        answer: numbers::synced(answer),
+        session,
+    }
+}
