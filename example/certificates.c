@@ -1,0 +1,109 @@
+/* A store in C: certificates are put in and kept, the power fails, and what was kept is found again.
+ *
+ *     rt staticlib exports
+ *     cc -std=c11 -Wall -Wextra -Werror -Iinclude example/certificates.c target/staticlib/libexports.a -o certificates
+ *
+ * It prints what it does, and ends with status 1 at the first answer that it does not expect. */
+#include <stdio.h>
+#include <stdlib.h>
+#include <string.h>
+
+#include "khirpando.h"
+
+enum { PAGE = 512, PAGES = 8, BYTES = PAGE * PAGES, ROOM = 64 };
+
+static uint8_t working[BYTES]; /* in memory: lost at a crash */
+static uint8_t stable[BYTES];  /* on a disc: written in whole pages */
+static KhSession session;
+
+static void expect(const char *what, uint32_t answer, uint32_t expected)
+{
+    printf("%s: %u\n", what, (unsigned)answer);
+    if (answer != expected) {
+        printf("expected %u\n", (unsigned)expected);
+        exit(1);
+    }
+}
+
+static uint32_t open_store(void)
+{
+    KhAnswered opened = kh_open(working, BYTES, stable, BYTES);
+    session = opened.session;
+    return opened.answer;
+}
+
+static uint32_t insert(uint32_t serial, uint32_t record)
+{
+    KhAnswered inserted = kh_insert(working, BYTES, stable, BYTES, session, 7, serial, 1, record);
+    session = inserted.session;
+    return inserted.answer;
+}
+
+static uint32_t sync_store(void)
+{
+    KhAnswered synced = kh_sync(working, BYTES, stable, BYTES, session);
+    session = synced.session;
+    return synced.answer;
+}
+
+static KhLooked lookup(uint32_t serial)
+{
+    KhLooked looked = kh_lookup(working, BYTES, stable, BYTES, session, 7, serial, 1);
+    session = looked.session;
+    return looked;
+}
+
+/* The power fails: some working pages have reached the disc, everything else in memory is gone. */
+static void crash(const int *pages, size_t count)
+{
+    for (size_t i = 0; i < count; i++)
+        memcpy(stable + pages[i] * PAGE, working + pages[i] * PAGE, PAGE);
+    memset(working, 0xEE, BYTES);
+    memset(&session, 0, sizeof session);
+}
+
+static void list_all(uint64_t expected)
+{
+    static uint64_t keys[ROOM];
+    static uint32_t records[ROOM];
+    KhListed listed = kh_list(working, BYTES, stable, BYTES, session, 0, keys, ROOM, records, ROOM);
+    session = listed.session;
+    expect("list", listed.answer, KH_DONE);
+    printf("%llu certificates", (unsigned long long)listed.count);
+    if (listed.count > 0)
+        printf(", the last with serial %u and record %u", (unsigned)(keys[listed.count - 1] >> 16 & 0xFFFFFFFF),
+               (unsigned)records[listed.count - 1]);
+    printf("\n");
+    if (listed.count != expected)
+        exit(1);
+}
+
+int main(void)
+{
+    expect("format", kh_format(working, BYTES, stable, BYTES), KH_DONE);
+    expect("open", open_store(), KH_DONE);
+    for (uint32_t serial = 1; serial <= 40; serial++)
+        if (insert(serial, 900 + serial) != KH_DONE)
+            return 1;
+    expect("40 inserts and a sync", sync_store(), KH_DONE);
+    expect("the 41st, which splits a page", insert(41, 941), KH_DONE);
+    expect("the 41st again", insert(41, 1), KH_PRESENT);
+
+    /* The page with the new root and the page that names it are on the disc, the two halves are not. */
+    crash((const int[]){0, 4}, 2);
+    expect("lookup without an opening", lookup(21).answer, KH_LENGTH);
+    expect("open after a crash", open_store(), KH_DONE);
+    KhLooked looked = lookup(21);
+    expect("lookup of a kept certificate", looked.answer, KH_DONE);
+    printf("record %u\n", (unsigned)looked.record);
+    if (looked.record != 921)
+        return 1;
+    expect("lookup of one that was not kept", lookup(41).answer, KH_NONE);
+    expect("lookup of serial 0", lookup(0).answer, KH_BADKEY);
+    KhNewest newest = kh_newest(working, BYTES, stable, BYTES, session, 7, 40);
+    expect("newest of a meter", newest.answer, KH_DONE);
+    if (newest.issue != 1 || newest.record != 940)
+        return 1;
+    list_all(40);
+    return 0;
+}
