@@ -25,8 +25,13 @@ mod sync;
 pub mod bench;
 pub mod broken;
 pub mod bytes;
+#[cfg(store)]
+pub mod compare;
 pub mod histories;
 pub mod invariant;
+pub mod lines;
+#[cfg(store)]
+pub mod proved;
 pub mod rng;
 pub mod store;
 

@@ -3,7 +3,9 @@
 use crate::layout::PAGES_MOST;
 use crate::way::Way;
 
+/// Laid out as C lays it out: the proved store takes it so.
 #[derive(Clone, Copy, PartialEq, Eq, Debug)]
+#[repr(C)]
 pub struct Session {
     pub n: u16,
     pub c: u32,

@@ -142,7 +142,7 @@ fn try_call(store: &mut Store, rng: &Rng, counters: &mut Counters) -> Kept {
 }
 
 /// A key: often of some leaf, or beside one of its entries.
-fn some_key(store: &Store, rng: &Rng) -> u64 {
+pub fn some_key(store: &Store, rng: &Rng) -> u64 {
     let random = key(7, rng.below(1 << 20) as u32, rng.from(1, 3) as u16);
     if store.working.len() < PAGE || rng.once_in(4) {
         return rng.one_of(&[random, random, rng.next(), 0, u64::MAX]);

@@ -1,0 +1,80 @@
+//! The time of each call, side by side in one run: the proved store, the second program, a map in memory, LMDB, SQLite.
+
+mod lmdb;
+mod map;
+mod sqlite;
+mod stores;
+mod subject;
+mod table;
+
+use second::key::{key, parts};
+use second::rng::Rng;
+use std::collections::BTreeMap;
+use subject::Subject;
+use table::Table;
+
+/// Certificates in each store.
+const COUNT: usize = 1500;
+
+/// What is put in, and as many keys that are not.
+pub struct Certificates {
+    pub present: Vec<(u64, u32)>,
+    pub absent: Vec<u64>,
+}
+
+fn random_key(rng: &Rng) -> u64 {
+    let (model, issue) = (rng.from(1, 40) as u16, rng.from(1, 5) as u16);
+    key(model, rng.from(1, u32::MAX as usize) as u32, issue)
+}
+
+fn certificates(rng: &Rng) -> Certificates {
+    let mut all = BTreeMap::new();
+    let mut present = Vec::new();
+    while present.len() < COUNT {
+        let (key, record) = (random_key(rng), rng.next() as u32);
+        if all.insert(key, record).is_none() {
+            present.push((key, record));
+        }
+    }
+    let mut absent = Vec::new();
+    while absent.len() < COUNT {
+        let key = random_key(rng);
+        if !all.contains_key(&key) {
+            absent.push(key);
+        }
+    }
+    Certificates { present, absent }
+}
+
+// Which there are is a matter of what could be linked, so they are pushed one by one.
+#[allow(clippy::vec_init_then_push)]
+fn subjects() -> Vec<Box<dyn Subject>> {
+    let mut all: Vec<Box<dyn Subject>> = Vec::new();
+    #[cfg(store)]
+    all.push(Box::new(stores::Proven::new()));
+    all.push(Box::new(stores::Second::new()));
+    all.push(Box::new(map::Map::new()));
+    #[cfg(lmdb)]
+    all.push(Box::new(lmdb::Lmdb::new()));
+    #[cfg(sqlite)]
+    all.push(Box::new(sqlite::Sqlite::new()));
+    all
+}
+
+fn main() {
+    let words: Vec<String> = std::env::args().skip(1).collect();
+    let rounds = words.first().map_or(Some(100), |word| word.parse().ok());
+    let Some(rounds) = rounds else {
+        eprintln!("usage: speed [ROUNDS]");
+        std::process::exit(2);
+    };
+    let certificates = certificates(&Rng::new(1991));
+    let meters = certificates.present.iter().map(|(key, _)| parts(*key));
+    let meters: Vec<(u16, u32)> = meters.map(|(model, serial, _)| (model, serial)).collect();
+    let mut table = Table::new(subjects());
+    for _ in 0..rounds {
+        table.round(&certificates, &meters);
+    }
+    println!("{COUNT} certificates, best of {rounds} rounds, ns");
+    println!("{table}");
+}

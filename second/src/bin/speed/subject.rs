@@ -1,0 +1,36 @@
+//! What is measured of each store.
+
+/// A store of certificates under the clock. Each answer is checked, so that no work is left out.
+pub trait Subject {
+    fn name(&self) -> &'static str;
+
+    /// An empty store, nothing in it.
+    fn clear(&mut self);
+
+    /// Puts these in, with whatever that needs to be kept.
+    fn fill(&mut self, entries: &[(u64, u32)]);
+
+    fn lookup(&mut self, key: u64) -> Option<u32>;
+
+    /// The record of a meter's largest issue.
+    fn newest(&mut self, model: u16, serial: u32) -> Option<u32>;
+
+    /// How many certificates there are, each of them read.
+    fn list(&mut self) -> usize;
+
+    /// Puts one in, not yet kept.
+    fn put(&mut self, key: u64, record: u32);
+
+    /// Keeps what was put in.
+    fn sync(&mut self);
+
+    /// Opens the store anew; false if it has no such thing.
+    fn open(&mut self) -> bool {
+        false
+    }
+
+    /// A call that is refused at once; false if it has no such thing.
+    fn refused(&mut self) -> bool {
+        false
+    }
+}

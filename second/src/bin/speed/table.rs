@@ -1,0 +1,122 @@
+//! Rounds of measuring, and the table of the best times.
+
+use super::subject::Subject;
+use super::Certificates;
+use std::fmt;
+use std::time::Instant;
+
+const ROWS: [&str; 8] = [
+    "lookup, present",
+    "lookup, absent",
+    "newest",
+    "list, per entry",
+    "insert, all kept, each",
+    "sync after one insert",
+    "open",
+    "refused at once",
+];
+
+pub struct Table {
+    subjects: Vec<Box<dyn Subject>>,
+    /// The best time of each row, for each subject; none where there is no such thing.
+    best: Vec<[Option<f64>; ROWS.len()]>,
+}
+
+/// The time of `work` in ns, for each of `times`.
+fn each(times: usize, work: impl FnOnce()) -> f64 {
+    let start = Instant::now();
+    work();
+    start.elapsed().as_nanos() as f64 / times as f64
+}
+
+impl Table {
+    pub fn new(subjects: Vec<Box<dyn Subject>>) -> Table {
+        let best = vec![[None; ROWS.len()]; subjects.len()];
+        Table { subjects, best }
+    }
+
+    /// Every row once, for each subject in turn.
+    pub fn round(&mut self, all: &Certificates, meters: &[(u16, u32)]) {
+        for (subject, best) in self.subjects.iter_mut().zip(&mut self.best) {
+            for (best, time) in best.iter_mut().zip(round(subject.as_mut(), all, meters)) {
+                *best = match (*best, time) {
+                    (Some(best), Some(time)) => Some(best.min(time)),
+                    (_, time) => time,
+                };
+            }
+        }
+    }
+}
+
+fn round(
+    subject: &mut dyn Subject,
+    all: &Certificates,
+    meters: &[(u16, u32)],
+) -> [Option<f64>; ROWS.len()] {
+    let count = all.present.len();
+    subject.clear();
+    let insert = each(count, || subject.fill(&all.present));
+    let present = each(count, || {
+        for (key, record) in &all.present {
+            assert_eq!(subject.lookup(*key), Some(*record));
+        }
+    });
+    let absent = each(count, || {
+        for key in &all.absent {
+            assert_eq!(subject.lookup(*key), None);
+        }
+    });
+    let newest = each(count, || {
+        for (model, serial) in meters {
+            assert!(subject.newest(*model, *serial).is_some());
+        }
+    });
+    let list = each(count, || assert_eq!(subject.list(), count));
+    subject.put(all.absent[0], 1);
+    let sync = each(1, || subject.sync());
+    let mut opened = false;
+    let open = each(1, || opened = subject.open());
+    let mut refuses = false;
+    let refused = each(count, || {
+        for _ in 0..count {
+            refuses = subject.refused();
+        }
+    });
+    [
+        Some(present),
+        Some(absent),
+        Some(newest),
+        Some(list),
+        Some(insert),
+        Some(sync),
+        opened.then_some(open),
+        refuses.then_some(refused),
+    ]
+}
+
+impl fmt::Display for Table {
+    fn fmt(&self, out: &mut fmt::Formatter) -> fmt::Result {
+        write!(out, "{:24}", "")?;
+        for subject in &self.subjects {
+            write!(out, "{:>20}", subject.name())?;
+        }
+        for (row, name) in ROWS.iter().enumerate() {
+            write!(out, "\n{name:24}")?;
+            let first = self.best[0][row];
+            for best in &self.best {
+                match (best[row], first) {
+                    (Some(time), Some(first)) => {
+                        write!(out, "{time:>12.1} ({:>5.2})", first / time)?
+                    }
+                    (Some(time), None) => write!(out, "{time:>12.1} (  -  )")?,
+                    (None, _) => write!(out, "{:>20}", "-")?,
+                }
+            }
+        }
+        let first = self.subjects[0].name();
+        write!(
+            out,
+            "\nin brackets: the time of {first} over that of this one"
+        )
+    }
+}

@@ -1,0 +1,217 @@
+//! One call on both stores, and all that it leaves compared.
+
+use crate::answer::WORDS;
+use crate::layout::{LAST_NUMBER, PAGE, PAGES_MOST};
+use crate::proved::Proved;
+use crate::session::Session;
+use crate::store::Store;
+use crate::{crash, format, number_ahead};
+use std::fmt;
+
+use super::Alike;
+
+/// The calls with the answers that each can give.
+const ANSWERS: [(&str, &[usize]); 7] = [
+    ("format", &[0, 1]),
+    ("open", &[0, 1, 3, 8]),
+    ("insert", &[0, 1, 2, 3, 5, 6, 7]),
+    ("lookup", &[0, 1, 2, 3, 4]),
+    ("newest", &[0, 1, 2, 3, 4]),
+    ("list", &[0, 1, 3]),
+    ("sync", &[0, 1, 8]),
+];
+
+/// How often each answer was given, and both agreed.
+#[derive(Default)]
+pub struct Counters {
+    answers: [[u64; WORDS.len()]; ANSWERS.len()],
+    pub histories: u64,
+    pub tables: u64,
+}
+
+impl Counters {
+    fn count(&mut self, call: &str, answer: u32) {
+        let row = ANSWERS.iter().position(|(name, _)| *name == call);
+        self.answers[row.expect("a call's name")][answer as usize] += 1;
+    }
+
+    pub fn calls(&self) -> u64 {
+        self.answers.iter().flatten().sum()
+    }
+
+    /// The answers that a call can give and never gave.
+    pub fn missing(&self) -> Vec<String> {
+        let rows = ANSWERS.iter().zip(&self.answers);
+        rows.flat_map(|((call, answers), counts)| {
+            let never = answers.iter().filter(|answer| counts[**answer] == 0);
+            never.map(move |answer| format!("{call} {}", WORDS[*answer]))
+        })
+        .collect()
+    }
+}
+
+impl fmt::Display for Counters {
+    fn fmt(&self, out: &mut fmt::Formatter) -> fmt::Result {
+        for ((call, answers), counts) in ANSWERS.iter().zip(&self.answers) {
+            for answer in *answers {
+                writeln!(out, "{:>12}  {call} {}", counts[*answer], WORDS[*answer])?;
+            }
+        }
+        let (calls, histories, tables) = (self.calls(), self.histories, self.tables);
+        write!(
+            out,
+            "{calls} calls alike, in {histories} histories and on {tables} tables"
+        )
+    }
+}
+
+/// Two stores that have had the same calls.
+#[derive(Clone)]
+pub struct Both {
+    pub own: Store,
+    pub proved: Proved,
+}
+
+impl Both {
+    /// Two stores of the same bytes.
+    pub fn of(store: Store) -> Both {
+        Both {
+            proved: Proved(store.clone()),
+            own: store,
+        }
+    }
+
+    /// Fresh from format and open.
+    pub fn fresh(n: usize, counters: &mut Counters) -> Alike<Both> {
+        let mut both = Both::of(Store {
+            working: vec![0xA5; n * PAGE],
+            stable: vec![0x5A; n * PAGE],
+            session: Session::new(0, 0),
+        });
+        both.format(counters)?;
+        both.open(counters)?;
+        Ok(both)
+    }
+
+    pub fn format(&mut self, counters: &mut Counters) -> Alike<u32> {
+        let own = format(&self.own.working, &mut self.own.stable);
+        let proved = self.proved.format();
+        self.alike("format", own, &own, &proved, counters)
+    }
+
+    pub fn open(&mut self, counters: &mut Counters) -> Alike<u32> {
+        let (own, proved) = (self.own.open(), self.proved.open());
+        self.alike("open", own, &own, &proved, counters)
+    }
+
+    pub fn insert(&mut self, key: u64, record: u32, counters: &mut Counters) -> Alike<u32> {
+        let (own, proved) = (
+            self.own.insert(key, record),
+            self.proved.insert(key, record),
+        );
+        self.alike("insert", own, &own, &proved, counters)
+    }
+
+    pub fn lookup(&mut self, key: u64, counters: &mut Counters) -> Alike<u32> {
+        let (own, proved) = (self.own.lookup(key), self.proved.lookup(key));
+        self.alike("lookup", own.0, &own, &proved, counters)
+    }
+
+    pub fn newest(&mut self, model: u16, serial: u32, counters: &mut Counters) -> Alike<u32> {
+        let (answer, issue, record) = self.own.newest(model, serial);
+        let own = (answer, u32::from(issue), record);
+        let proved = self.proved.newest(model, serial);
+        self.alike("newest", answer, &own, &proved, counters)
+    }
+
+    /// Both lists start with the same marks in every place: what is not filled must keep them.
+    pub fn list(
+        &mut self,
+        start: u64,
+        keys: usize,
+        records: usize,
+        counters: &mut Counters,
+    ) -> Alike<u32> {
+        let marked = (vec![!start; keys], vec![start as u32; records]);
+        let (mut own, mut proved) = (marked.clone(), marked);
+        let (answer, count) = self.own.list(start, &mut own.0, &mut own.1);
+        let listed = self.proved.list(start, &mut proved.0, &mut proved.1);
+        if own != proved {
+            return Err(format!("list from {start}: other lists"));
+        }
+        self.alike("list", answer, &(answer, count as u64), &listed, counters)
+    }
+
+    pub fn sync(&mut self, counters: &mut Counters) -> Alike<u32> {
+        let (own, proved) = (self.own.sync(), self.proved.sync());
+        self.alike("sync", own, &own, &proved, counters)
+    }
+
+    /// The marked pages reach the stable tables, inside a sync or not; then both are opened.
+    pub fn crash(
+        &mut self,
+        pages: &[bool; PAGES_MOST],
+        inside_sync: bool,
+        counters: &mut Counters,
+    ) -> Alike<u32> {
+        for store in [&mut self.own, &mut self.proved.0] {
+            if inside_sync && store.session.c <= LAST_NUMBER {
+                number_ahead(&mut store.working, store.session.c);
+            }
+            crash(&store.working, &mut store.stable, pages);
+        }
+        self.open(counters)
+    }
+
+    /// Compares what a call answered and all that it left; the answer, if they are alike.
+    fn alike<T: PartialEq + fmt::Debug>(
+        &self,
+        call: &str,
+        answer: u32,
+        own: &T,
+        proved: &T,
+        counters: &mut Counters,
+    ) -> Alike<u32> {
+        let other = |what: String| Err(format!("{call}: {what}"));
+        let (mine, its) = (&self.own, &self.proved.0);
+        if own != proved {
+            return other(format!("{proved:?} is answered, not {own:?}"));
+        }
+        if let Some(part) = other_part(&mine.session, &its.session) {
+            return other(format!("the session differs in {part}"));
+        }
+        if let Some(place) = first_other(&mine.working, &its.working) {
+            return other(format!("working differs at {place}"));
+        }
+        if let Some(place) = first_other(&mine.stable, &its.stable) {
+            return other(format!("stable differs at {place}"));
+        }
+        counters.count(call, answer);
+        Ok(answer)
+    }
+}
+
+/// Where two sessions differ first.
+fn other_part(own: &Session, proved: &Session) -> Option<String> {
+    if own == proved {
+        return None;
+    }
+    let mark = |own: &[bool], proved: &[bool]| (0..PAGES_MOST).find(|&p| own[p] != proved[p]);
+    let free = mark(&own.free, &proved.free).map(|page| format!("the free mark of page {page}"));
+    let waiting = mark(&own.waiting, &proved.waiting);
+    let waiting = waiting.map(|page| format!("the waiting mark of page {page}"));
+    free.or(waiting).or(Some("n or c".to_string()))
+}
+
+/// Where two tables differ first.
+fn first_other(own: &[u8], proved: &[u8]) -> Option<String> {
+    if own == proved {
+        return None;
+    }
+    let at = own
+        .iter()
+        .zip(proved)
+        .position(|(own, proved)| own != proved);
+    let at = at.unwrap_or(own.len().min(proved.len()));
+    Some(format!("page {}, byte {}", at / PAGE, at % PAGE))
+}

@@ -1,0 +1,48 @@
+//! Calls on tables of arbitrary bytes, with any length and any session.
+
+use super::{Alike, Both, Counters};
+use crate::bytes::some_key;
+use crate::bytes::tables::arbitrary;
+use crate::key::parts;
+use crate::rng::Rng;
+
+/// Some calls, one after another, on the table of this seed.
+pub fn table(seed: u64, counters: &mut Counters) -> Alike<()> {
+    let rng = Rng::new(seed);
+    let mut both = Both::of(arbitrary(&rng));
+    counters.tables += 1;
+    for _ in 0..rng.from(4, 16) {
+        call(&mut both, &rng, counters)
+            .map_err(|what| format!("table of seed {seed} differs: {what}"))?;
+    }
+    Ok(())
+}
+
+fn call(both: &mut Both, rng: &Rng, counters: &mut Counters) -> Alike<u32> {
+    let key = some_key(&both.own, rng);
+    match rng.below(24) {
+        0 => both.clone().format(counters),
+        1..=2 => {
+            let session = both.own.session;
+            let answer = both.open(counters)?;
+            // After a refusal the calls go on with the session there was.
+            if both.own.session.n == 0 {
+                both.own.session = session;
+                both.proved.0.session = session;
+            }
+            Ok(answer)
+        }
+        3 => both.sync(counters),
+        4..=7 => both.lookup(key, counters),
+        8..=11 => {
+            let (model, serial, _) = parts(key);
+            both.newest(model, serial, counters)
+        }
+        12..=16 => {
+            let room = rng.one_of(&[0, 1, 10, 60, 2000]);
+            let start = rng.one_of(&[0, 0, key, rng.next()]);
+            both.list(start, room, room + rng.below(2), counters)
+        }
+        _ => both.insert(key, rng.next() as u32, counters),
+    }
+}

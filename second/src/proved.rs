@@ -1,0 +1,128 @@
+//! The proved store: a store whose calls are those that its library exports to C.
+
+use crate::key::parts;
+use crate::session::Session;
+use crate::store::Store;
+
+#[repr(C)]
+struct Answered {
+    answer: u32,
+    session: Session,
+}
+
+#[repr(C)]
+struct Looked {
+    answer: u32,
+    record: u32,
+    session: Session,
+}
+
+#[repr(C)]
+struct Newest {
+    answer: u32,
+    issue: u32,
+    record: u32,
+    session: Session,
+}
+
+#[repr(C)]
+struct Listed {
+    answer: u32,
+    count: u64,
+    session: Session,
+}
+
+// include/khirpando.h says the same.
+#[rustfmt::skip]
+extern "C" {
+    fn kh_format(working: *const u8, w: usize, stable: *mut u8, s: usize) -> u32;
+    fn kh_open(working: *mut u8, w: usize, stable: *mut u8, s: usize) -> Answered;
+    fn kh_insert(working: *mut u8, w: usize, stable: *const u8, s: usize, session: Session,
+                 model: u16, serial: u32, issue: u16, record: u32) -> Answered;
+    fn kh_lookup(working: *mut u8, w: usize, stable: *const u8, s: usize, session: Session,
+                 model: u16, serial: u32, issue: u16) -> Looked;
+    fn kh_newest(working: *mut u8, w: usize, stable: *const u8, s: usize, session: Session,
+                 model: u16, serial: u32) -> Newest;
+    fn kh_list(working: *mut u8, w: usize, stable: *const u8, s: usize, session: Session,
+               start: u64, keys: *mut u64, k: usize, records: *mut u32, r: usize) -> Listed;
+    fn kh_sync(working: *mut u8, w: usize, stable: *mut u8, s: usize, session: Session) -> Answered;
+}
+
+#[derive(Clone, PartialEq, Eq, Debug)]
+pub struct Proved(pub Store);
+
+/// A lent table as C takes it: pointer and length.
+macro_rules! lend {
+    ($table:expr) => {
+        ($table.as_ptr(), $table.len())
+    };
+    (mut $table:expr) => {
+        ($table.as_mut_ptr(), $table.len())
+    };
+}
+
+// Each call is lent slices that live as long as it runs, with their own lengths, and requires nothing else.
+impl Proved {
+    pub fn format(&mut self) -> u32 {
+        let (working, w) = lend!(self.0.working);
+        let (stable, s) = lend!(mut self.0.stable);
+        unsafe { kh_format(working, w, stable, s) }
+    }
+
+    pub fn open(&mut self) -> u32 {
+        let (working, w) = lend!(mut self.0.working);
+        let (stable, s) = lend!(mut self.0.stable);
+        let opened = unsafe { kh_open(working, w, stable, s) };
+        self.0.session = opened.session;
+        opened.answer
+    }
+
+    pub fn insert(&mut self, key: u64, record: u32) -> u32 {
+        let (model, serial, issue) = parts(key);
+        let (working, w) = lend!(mut self.0.working);
+        let (stable, s) = lend!(self.0.stable);
+        let session = self.0.session;
+        let inserted =
+            unsafe { kh_insert(working, w, stable, s, session, model, serial, issue, record) };
+        self.0.session = inserted.session;
+        inserted.answer
+    }
+
+    pub fn lookup(&mut self, key: u64) -> (u32, u32) {
+        let (model, serial, issue) = parts(key);
+        let (working, w) = lend!(mut self.0.working);
+        let (stable, s) = lend!(self.0.stable);
+        let session = self.0.session;
+        let looked = unsafe { kh_lookup(working, w, stable, s, session, model, serial, issue) };
+        self.0.session = looked.session;
+        (looked.answer, looked.record)
+    }
+
+    pub fn newest(&mut self, model: u16, serial: u32) -> (u32, u32, u32) {
+        let (working, w) = lend!(mut self.0.working);
+        let (stable, s) = lend!(self.0.stable);
+        let session = self.0.session;
+        let newest = unsafe { kh_newest(working, w, stable, s, session, model, serial) };
+        self.0.session = newest.session;
+        (newest.answer, newest.issue, newest.record)
+    }
+
+    pub fn list(&mut self, start: u64, keys: &mut [u64], records: &mut [u32]) -> (u32, u64) {
+        let (working, w) = lend!(mut self.0.working);
+        let (stable, s) = lend!(self.0.stable);
+        let (keys, k) = lend!(mut keys);
+        let (records, r) = lend!(mut records);
+        let session = self.0.session;
+        let listed = unsafe { kh_list(working, w, stable, s, session, start, keys, k, records, r) };
+        self.0.session = listed.session;
+        (listed.answer, listed.count)
+    }
+
+    pub fn sync(&mut self) -> u32 {
+        let (working, w) = lend!(mut self.0.working);
+        let (stable, s) = lend!(mut self.0.stable);
+        let synced = unsafe { kh_sync(working, w, stable, s, self.0.session) };
+        self.0.session = synced.session;
+        synced.answer
+    }
+}
