@@ -1,4 +1,4 @@
 pub mod Went
-pub mod Decided
+pub mod Along
 pub mod Call
 pub mod Tight

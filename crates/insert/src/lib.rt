@@ -7,6 +7,7 @@
 //
 // Below stand `tables`, which tests lengths, `keys`, `way`, which walks, `lookup`, which finds a key in a leaf, `plan`,
 // which decides, and `apply`, which splits pages and puts the entry.
+use marks::Chosen;
 use plan::Planned;
 use rules::Inserted;
 use rules::Inserting;
@@ -23,9 +24,10 @@ ghost use Rattle.rules.specs.Layout.{pageSize, mostPages};
 ghost use Rattle.rules.specs.Entry.{find};
 ghost use Rattle.rules.specs.Table.{read, fit0};
 ghost use Rattle.rules.specs.Insert;
+ghost use Rattle.rules.specs.declared.Session.{Session};
 ghost use Rattle.head.proofs.Headers.{headOf};
 ghost use Rattle.lookup.specs.Looks.{Holds};
-ghost use Rattle.insert.specs.Inserts.{leaving, presentIn, answerOf, stepsOf, Walked};
+ghost use Rattle.insert.specs.Inserts.{leaving, presentIn, answerOf, decidedOn, Deciding, testedBy};
 
 // The key is in the leaf, with any record.
 fn is_present(table: &[u8], leaf: Step, key: u64) -> bool
@@ -51,24 +53,16 @@ fn answer_of(planned: Planned) -> Inserted
     }
 }
 
-// An insert along a way that was walked: refused as planned, or done.
-fn along(t: &mut [u8], session: Session, key: u64, value: u32, way: Way) -> Inserting
-    requires { ⌜ Walked key (now t) session way ⌝ }
-    ensures { λ r. ⌜ ((stable : List ℕ) → leaving r (now (t .exit)) stable
-        ≡ Insert.insertAlong key value session (stepsOf (now (t .entry)) way) (now (t .entry)) stable) ⌝ }
+// The answer along a way, before anything is written: done where the insert is to go on.
+fn decided(t: &[u8], c: u32, key: u64, way: Way, chosen: Chosen) -> Inserted
+    requires { ⌜ Deciding c key (now t) way chosen ⌝ }
+    ensures { λ r. ⌜ ((d : Deciding c key (now (t .entry)) way chosen) → r ≡ decidedOn key (d .session) way (now (t .entry))) ⌝ }
 {
-    let present = is_present(t, way.leaf, key);
-    let chosen = plan::choose(session, way);
-    let planned = plan::plan(session, way, present, chosen);
-    let answer = answer_of(planned);
-    let Planned::Go = planned else {
-        return Inserting { answer, session };
-    };
-    let left = apply::apply(t, session, key, value, way, chosen);
-    Inserting {
-        answer,
-        session: left,
+    if way.len == 0 {
+        return Inserted::Damaged;
     }
+    let present = is_present(t, way.leaf, key);
+    answer_of(plan::plan(c, way, present, chosen))
 }
 
 // An insert of a good key into a table whose page 0 is fit.
@@ -78,13 +72,33 @@ fn insert_key(t: &mut [u8], session: Session, key: u64, value: u32) -> Inserting
         ≡ Insert.insertKey key value session (now (t .entry)) stable) ⌝ }
 {
     let way = way::way_of(t, session.n as usize, session.c, key);
-    if way.len == 0 {
-        return Inserting {
-            answer: Inserted::Damaged,
-            session,
-        };
+    let chosen = plan::choose(session, way);
+    let answer = decided(t, session.c, key, way, chosen);
+    let Inserted::Done = answer else {
+        return Inserting { answer, session };
+    };
+    let left = apply::apply(t, session, key, value, way, chosen);
+    Inserting {
+        answer,
+        session: left,
     }
-    along(t, session, key, value, way)
+}
+
+// The answer of the tests that come before the walk: done where all pass.
+fn tested(working: &[u8], stable: &[u8], n: u16, model: u16, serial: u32, issue: u16) -> Inserted
+    ensures { λ r. ⌜ ((s : Session) → s .n ≡ n
+        → r ≡ testedBy s (now (working .entry)) (now (stable .entry)) model serial issue) ⌝ }
+{
+    if !tables::lengths_for(n, working, stable) {
+        return Inserted::Length;
+    }
+    if !keys::good_parts(model, serial, issue) {
+        return Inserted::BadKey;
+    }
+    if !head::fit0(working, n as usize) {
+        return Inserted::Damaged;
+    }
+    Inserted::Done
 }
 
 pub fn insert(
@@ -99,23 +113,12 @@ pub fn insert(
     ensures { λ r. ⌜ leaving r (now (working .exit)) (now (stable .entry))
         ≡ Insert.insert (now (working .entry)) (now (stable .entry)) session model serial issue value ⌝ }
 {
-    if !tables::lengths_for(session.n, working, stable) {
+    let tests = tested(working, stable, session.n, model, serial, issue);
+    let Inserted::Done = tests else {
         return Inserting {
-            answer: Inserted::Length,
+            answer: tests,
             session,
         };
-    }
-    if !keys::good_parts(model, serial, issue) {
-        return Inserting {
-            answer: Inserted::BadKey,
-            session,
-        };
-    }
-    if !head::fit0(working, session.n as usize) {
-        return Inserting {
-            answer: Inserted::Damaged,
-            session,
-        };
-    }
+    };
     insert_key(working, session, keys::key_of(model, serial, issue), value)
 }

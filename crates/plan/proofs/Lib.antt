@@ -1,4 +1,5 @@
 pub mod Heads
 pub mod Plans
 pub mod Pages
+pub mod Steps
 pub mod Tight

@@ -11,3 +11,6 @@ splits-tight κs a pre z z′ l l′ p q = (p ∙ sym q, refl)
 
 pub choose-tight : Tight this.choose.Kinds.ps this.choose.Kinds.r this.choose.Reads.Pre this.choose.Reads.Post
 choose-tight κs a pre z z′ l l′ p q = (p ∙ sym q, refl)
+
+pub plan-tight : Tight this.plan.Kinds.ps this.plan.Kinds.r this.plan.Reads.Pre this.plan.Reads.Post
+plan-tight κs a pre z z′ l l′ p q = (p pre ∙ sym (q pre), refl)

@@ -97,6 +97,15 @@ pub record Headed (w : Way) (steps : List Step) : Type 0 where
   pub few : length steps ≤ 3
   pub shaped : All (λ (s : Step). Shaped (s .page .view)) steps
 
+-- what a plan is made of: a session with this counter, steps for the way, and the session's lowest free numbers
+pub record Planning (c : ℕ) (w : Way) (x : Chosen) : Type 0 where
+  pub session : Session
+  pub steps : List Step
+  pub counter : session .c ≡ c
+  pub headed : Headed w steps
+  pub some-page : 1 ≤ w .len
+  pub chosen : x ≡ chosenBy session w
+
 -- the rules' refusals of an insert, in their order
 unfoldable pub planOf : Session → Bool → List Step → Planned
 planOf s present steps =

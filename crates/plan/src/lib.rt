@@ -1,6 +1,6 @@
 // What an insert has to do, decided before anything is written.
 //
-// `plan` looks at the way that was walked, at the session and at whether the key was found, and answers in document
+// `plan` looks at the way that was walked, at the counter and at whether the key was found, and answers in document
 // 01's order: present, sync first, full, or go on. `choose` has the numbers of the new pages. Nothing changes here. Full
 // pages split from the leaf up as far as one stands above the other, so their number says all.
 //
@@ -15,12 +15,10 @@ use rules::Session;
 use rules::TOP;
 use way::Way;
 ghost use mathlib.Core.Path.{_≡_};
-ghost use mathlib.Core.List.{List};
 ghost use Prim.Native.Nat.{_≤_, _<_};
 ghost use lib.ListN.{take, getD};
 ghost use Rattle.rules.specs.Layout.{mostPages};
-ghost use Rattle.rules.specs.Walk.{Step};
-ghost use Rattle.plan.specs.Plan.{headsOf, fullBy, splitsBy, lateBy, tooSoonBy, enteredOf, needBy, stuckBy, chosenBy, Headed, planOf};
+ghost use Rattle.plan.specs.Plan.{headsOf, fullBy, splitsBy, lateBy, tooSoonBy, enteredOf, needBy, stuckBy, chosenBy, Planning, planOf};
 
 pub enum Planned {
     Present,
@@ -138,15 +136,16 @@ pub fn choose(session: Session, way: Way) -> Chosen
     marks::lowest(session, entered(way), need(way, many))
 }
 
-pub fn plan(session: Session, way: Way, present: bool, chosen: Chosen) -> Planned
-    requires { ⌜ (1 ≤ way .len) × (way .len ≤ 3) × (chosen ≡ chosenBy session way) ⌝ }
-    ensures { λ r. ⌜ ((steps : List Step) → Headed way steps → r ≡ planOf session present steps) ⌝ }
+// Refused, or to go on. Of the session the counter is enough: the free pages are known by the numbers chosen.
+pub fn plan(c: u32, way: Way, present: bool, chosen: Chosen) -> Planned
+    requires { ⌜ Planning c way chosen ⌝ }
+    ensures { λ r. ⌜ ((p : Planning c way chosen) → r ≡ planOf (p .session) present (p .steps)) ⌝ }
 {
     if present {
         return Planned::Present;
     }
     let many = splits(way);
-    if too_soon(session.c, way, many) {
+    if too_soon(c, way, many) {
         return Planned::SyncFirst;
     }
     if is_stuck(way, many) {

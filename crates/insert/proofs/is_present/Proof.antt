@@ -3,7 +3,7 @@
 use mathlib.Core.Path.{sym, _∙_}
 use Rattle.rules.specs.Entry.{find}
 use Rattle.rules.specs.Table.{read}
-use Rattle.insert.proofs.Decided.{not-found, is-found}
+use Rattle.insert.proofs.Along.{not-found, is-found}
 use borrow.Author.Needs.{needs}
 use Rattle.insert.proofs.is_present.Statement.{statement}
 use Rattle.insert.proofs.is_present.Tie as tie

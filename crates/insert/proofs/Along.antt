@@ -6,6 +6,7 @@ use mathlib.Core.Bool.{Bool, true, false}
 use mathlib.Core.List.{List, [], _∷_}
 use mathlib.Core.Option.{Option, some, none}
 use mathlib.Core.Logic.{inl, inr}
+use borrow.Author.Tests.{eq-eqb, ne-eqb}
 use lib.ListN.{length, take, getD}
 use denote.Enum.Declared.{tagOf}
 use types.Run.{OneOf}
@@ -22,6 +23,7 @@ use Rattle.rules.specs.declared.Session.{Session}
 use Rattle.rules.specs.declared.Inserted.{Inserted}
 use Rattle.rules.specs.declared.Looked.{Looked}
 use Rattle.rules.proofs.Looked as looks
+use Rattle.rules.proofs.Inserted as inserts
 use Rattle.rules.proofs.All.{All, all-head}
 use Rattle.head.proofs.Headers.{headOf}
 use Rattle.marks.specs.declared.Chosen.{Chosen}
@@ -31,14 +33,20 @@ use Rattle.way.specs.declared.Way.{Way}
 use Rattle.lookup.specs.Looks.{Holds, lookedIn}
 use Rattle.split.specs.Split.{stepAt}
 use Rattle.plan.specs.declared.Planned.{Planned}
-use Rattle.plan.proofs.Planned as plans
-use Rattle.plan.specs.Plan.{headsOf, splitsBy, chosenBy, Headed, planOf}
+use Rattle.plan.specs.Plan.{headsOf, splitsBy, chosenBy, Planning, planOf}
 use Rattle.plan.proofs.Plans.{splits-within, need-few}
 use Rattle.plan.proofs.Pages.{need-is, chosen-is}
 use Rattle.apply.specs.Leads.{Stands, Leads, EndsInLeaf, HeadRead, listed, stepsIn, ReadyWay, done}
-use Rattle.insert.specs.Inserts.{leaving, presentIn, answerOf, stepsOf, Walked}
+use Rattle.insert.specs.Inserts.{leaving, presentIn, answerOf, stepsOf, Walked, decidedOn}
 
 -- ── The rules' chain, by the plan ───────────────────────────────────────────────────────────────────────────────
+
+done-goes : (p : Planned) → answerOf p ≡ Inserted.Done → Planned.Go ≡ p
+unfolding answerOf
+done-goes Planned.Present e = let z : _≡_ {A = ℕ} 0 1 = cc in absurd (omega arith)
+done-goes Planned.SyncFirst e = let z : _≡_ {A = ℕ} 0 1 = cc in absurd (omega arith)
+done-goes Planned.Full e = let z : _≡_ {A = ℕ} 0 1 = cc in absurd (omega arith)
+done-goes Planned.Go e = refl
 
 module _ (k x : ℕ) (s : Session) (steps : List rules.Step) (w t : List ℕ) where
   abbrev planned : Planned
@@ -61,23 +69,22 @@ module _ (k x : ℕ) (s : Session) (steps : List rules.Step) (w t : List ℕ) wh
       go none f false q true r = rw (f, insertAlong, q, r) (rw (planOf, q, r))
       go none f false q false r = rw (f, insertAlong, q, r) (rw (planOf, q, r))
 
-  module _ (a : Inserted) (p : Planned) (f : a ≡ answerOf p) (e : p ≡ planned) where
-    pub refused-along : (p ≡ Planned.Go → ⊥) → leaving (record { answer = a; session = s }) w t ≡ insertAlong k x s steps w t
+  module _ (a : Inserted) (f : a ≡ answerOf planned) where
+    pub refused-along : (a ≡ Inserted.Done → ⊥) → leaving (record { answer = a; session = s }) w t ≡ insertAlong k x s steps w t
     unfolding insertRefused answerOf
-    refused-along n = ap (λ (b : Inserted). insertRefused b s w t) f ∙ (go p n ∙ (ap leftBy e ∙ along-planned))
+    refused-along n = ap (λ (b : Inserted). insertRefused b s w t) f ∙ (go planned (λ e. n (f ∙ e)) ∙ along-planned)
       where
-        go : (q : Planned) → (q ≡ Planned.Go → ⊥) → insertRefused (answerOf q) s w t ≡ leftBy q
+        go : (q : Planned) → (answerOf q ≡ Inserted.Done → ⊥) → insertRefused (answerOf q) s w t ≡ leftBy q
         go Planned.Present m = refl
         go Planned.SyncFirst m = refl
         go Planned.Full m = refl
         go Planned.Go m = absurd (m refl)
 
-    pub done-along : p ≡ Planned.Go → (r : Session) (u : List ℕ) → done r u t ≡ insertDone k x s steps w t
+    pub done-along : a ≡ Inserted.Done → (r : Session) (u : List ℕ) → done r u t ≡ insertDone k x s steps w t
         → leaving (record { answer = a; session = r }) u t ≡ insertAlong k x s steps w t
-    unfolding answerOf
     done-along g r u d =
-        ap (λ (b : Inserted). leaving (record { answer = b; session = r }) u t) (f ∙ ap answerOf g)
-        ∙ (d ∙ (ap leftBy (sym g ∙ e) ∙ along-planned))
+        ap (λ (b : Inserted). leaving (record { answer = b; session = r }) u t) g
+        ∙ (d ∙ (ap leftBy (done-goes planned (sym f ∙ g)) ∙ along-planned))
 
 module _ (s : Session) (steps : List rules.Step) where
   never : Planned.Go ≡ Planned.Present → ⊥
@@ -101,16 +108,17 @@ module _ (s : Session) (steps : List rules.Step) where
 
 -- ── What a refusal is told by ───────────────────────────────────────────────────────────────────────────────────
 
--- any other variant than the last
-pub not-go : (p : Planned) → OneOf (0 ∷ (1 ∷ (2 ∷ []))) (tagOf plans.the-type p) → p ≡ Planned.Go → ⊥
-not-go p h e = go (subst (λ (q : Planned). OneOf (0 ∷ (1 ∷ (2 ∷ []))) (tagOf plans.the-type q)) e h)
+pub not-done : (a : Inserted) → OneOf (1 ∷ (2 ∷ (3 ∷ (4 ∷ (5 ∷ (6 ∷ [])))))) (tagOf inserts.the-type a) → a ≡ Inserted.Done → ⊥
+not-done a h e = go (subst (λ (b : Inserted). OneOf (1 ∷ (2 ∷ (3 ∷ (4 ∷ (5 ∷ (6 ∷ [])))))) (tagOf inserts.the-type b)) e h)
   where
-    go : OneOf (0 ∷ (1 ∷ (2 ∷ []))) 3 → ⊥
+    go : OneOf (1 ∷ (2 ∷ (3 ∷ (4 ∷ (5 ∷ (6 ∷ [])))))) 0 → ⊥
     go (inl z) = omega arith
     go (inr (inl z)) = omega arith
-    go (inr (inr z)) = omega arith
+    go (inr (inr (inl z))) = omega arith
+    go (inr (inr (inr (inl z)))) = omega arith
+    go (inr (inr (inr (inr (inl z))))) = omega arith
+    go (inr (inr (inr (inr (inr z))))) = omega arith
 
--- any other variant than the first
 pub not-found : (o : Option ℕ) (r : Looked) → r ≡ lookedIn o → OneOf (1 ∷ (2 ∷ (3 ∷ (4 ∷ [])))) (tagOf looks.the-type r)
     → false ≡ presentIn o
 unfolding lookedIn presentIn
@@ -137,6 +145,11 @@ take-first (suc len) x xs h = (take len xs, refl)
 leads-first : {n k : ℕ} {t : List ℕ} (s : rules.Step) (above : List rules.Step) → Leads n k t (s ∷ above) → Stands n k t s
 leads-first s [] l = l .0
 leads-first s (u ∷ above) l = l .0
+
+-- no pages, a damaged place
+pub decided-nowhere : (k : ℕ) (s : Session) (w : Way) (t : List ℕ) → w .len ≡ 0 → Inserted.Damaged ≡ decidedOn k s w t
+unfolding decidedOn
+decided-nowhere k s w t z = rw (decidedOn, eq-eqb (w .len) 0 z)
 
 module _ {k : ℕ} {t : List ℕ} {s : Session} {w : Way} (W : Walked k t s w) where
   first : (ys : List Step) × (listed w ≡ w .leaf ∷ ys)
@@ -166,37 +179,51 @@ module _ {k : ℕ} {t : List ℕ} {s : Session} {w : Way} (W : Walked k t s w) w
   unfolding certsAt
   certs-leaf = sym (ap certsAt steps-first)
 
-  -- the plan, by the key in the leaf
-  pub plans-as : (present : Bool) → present ≡ presentIn (find k (read t (w .leaf .place .child) .view .certs)) → (p : Planned)
-      → ((steps : List rules.Step) → Headed w steps → p ≡ planOf s present steps)
-      → p ≡ planOf s (presentIn (find k (certsAt (stepsOf t w)))) (stepsOf t w)
-  plans-as present e p h =
-      h (stepsOf t w) (W .headed)
-      ∙ ap (λ (b : Bool). planOf s b (stepsOf t w)) (e ∙ ap (λ (cs : List Cert). presentIn (find k cs)) certs-leaf)
-
-  -- ── All is ready ──────────────────────────────────────────────────────────────────────────────────────────────
-
   pub few : w .len ≤ 3
   few = omega (arith, ap (λ (v : Way). v .len) (W .headed .way), W .headed .few)
+
+  -- ── The plan, by the key in the leaf ──────────────────────────────────────────────────────────────────────────
+
+  abbrev pub planning : {c : ℕ} {x : Chosen} → s .c ≡ c → x ≡ chosenBy s w → Planning c w x
+  planning e f = record {
+    session = s;
+    steps = stepsOf t w;
+    counter = e;
+    headed = W .headed;
+    some-page = W .some-page;
+    chosen = f;
+  }
+
+  pub decided-planned : (w .len ≡ 0 → ⊥) → (present : Bool) → present ≡ presentIn (find k (read t (w .leaf .place .child) .view .certs))
+      → (p : Planned) → p ≡ planOf s present (stepsOf t w) → (a : Inserted) → a ≡ answerOf p → a ≡ decidedOn k s w t
+  unfolding decidedOn
+  decided-planned o present e p h a f =
+      rw (decidedOn, ne-eqb (w .len) 0 o)
+      (f ∙ ap answerOf (h ∙ ap (λ (b : Bool). planOf s b (stepsOf t w)) (e ∙ ap (λ (cs : List Cert). presentIn (find k cs)) certs-leaf)))
+
+  -- ── All is ready ──────────────────────────────────────────────────────────────────────────────────────────────
 
   need-most : newPages (stepsOf t w) ≤ 7
   need-most =
       let z = splits-within w few (splitsBy (headsOf w)) refl in
       omega (arith, need-is (W .headed), need-few (w .len) (splitsBy (headsOf w)) (omega (arith, few)))
 
-  pub ready : (x : Chosen) → x ≡ chosenBy s w → Planned.Go ≡ planOf s (presentIn (find k (certsAt (stepsOf t w)))) (stepsOf t w)
+  pub ready : (x : Chosen) → x ≡ chosenBy s w → answerOf (planOf s (presentIn (find k (certsAt (stepsOf t w)))) (stepsOf t w)) ≡ Inserted.Done
       → ReadyWay k t s w (x .pages)
-  ready x e g = record {
+  ready x e d = record {
     heads = W .heads;
     ready = record {
       whole = W .whole;
       leads = W .leads;
       short = W .headed .few;
       ends = W .ends;
-      absent = go-absent s (stepsOf t w) (find k (certsAt (stepsOf t w))) g;
-      room = go-room s (stepsOf t w) (presentIn (find k (certsAt (stepsOf t w)))) g;
+      absent = go-absent s (stepsOf t w) (find k (certsAt (stepsOf t w))) goes;
+      room = go-room s (stepsOf t w) (presentIn (find k (certsAt (stepsOf t w)))) goes;
       lowest = λ j h.
           ap (λ (y : Chosen). getD (y .pages) j 0) (e ∙ chosen-is (W .headed) s)
           ∙ lowest-at (newPages (stepsOf t w)) (freePages s (numbers (stepsOf t w))) j h need-most;
     };
   }
+    where
+      goes : Planned.Go ≡ planOf s (presentIn (find k (certsAt (stepsOf t w)))) (stepsOf t w)
+      goes = done-goes (planOf s (presentIn (find k (certsAt (stepsOf t w)))) (stepsOf t w)) d
