@@ -21,6 +21,7 @@ use Rattle.way.specs.declared.Step.{Step}
 use Rattle.way.specs.declared.Way.{Way}
 use Rattle.apply.specs.Leads.{Leads, Fresh, Chosen, Ready, listed, stepsIn, ReadyWay, Level}
 use Rattle.apply.proofs.Same.{Agree}
+use Rattle.apply.proofs.Levels.{steps-long}
 
 -- ── Numbers that agree with the free pages ──────────────────────────────────────────────────────────────────────
 
@@ -44,10 +45,6 @@ agree-long m a b h q w = go (ltb (length a) m) refl
         let none : getD a (length a) 0 ≡ 0 = List·getD-eq-default a 0 (omega arith) in
         let some = all-at w (length a) 0 (omega arith) in
         absurd (omega (arith, h (length a) l))
-
-same-long : (t : List ℕ) (xs : List Step) → length (stepsIn t xs) ≡ length xs
-same-long t [] = refl
-same-long t (x ∷ xs) = ap suc (same-long t xs)
 
 and-false : (b d : Bool) → (b && d) ≡ false → b ≡ true → d ≡ false
 and-false b d h e = sym (ap (λ (z : Bool). z && d) e) ∙ h
@@ -94,7 +91,7 @@ module _ {k : ℕ} {t : List ℕ} {s : Session} {w : Way} {pages : List ℕ} (R 
     n = s .n;
     whole = R .ready .whole;
     leads = R .ready .leads;
-    short = omega (arith, R .ready .short, same-long t (listed w));
+    short = omega (arith, R .ready .short, steps-long t (listed w));
     heads = R .heads;
     new = ready-chosen (R .ready);
   }

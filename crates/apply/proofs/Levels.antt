@@ -22,6 +22,10 @@ use Rattle.apply.proofs.Splits.{split-stays, split-below, stands-below,
 use Rattle.apply.proofs.Whole.{split-gone}
 use Rattle.apply.proofs.Same.{agree-take, split-same}
 
+pub steps-long : (t : List ℕ) (xs : List Step) → length (stepsIn t xs) ≡ length xs
+steps-long t [] = refl
+steps-long t (x ∷ xs) = ap suc (steps-long t xs)
+
 -- a page that is not full stays, whatever stands above it
 pub level-stays : (c k : ℕ) (t : List ℕ) (x : Step) (above : List Step) (new : List ℕ) (m : Session)
     → full (read t (x .place .child) .view) ≡ false
@@ -48,12 +52,8 @@ module _ {c k : ℕ} {t : List ℕ} {x y : Step} {above : List Step} {a b : ℕ}
       let q : newPages (s ∷ (u ∷ us)) ≡ suc (suc (newPages (u ∷ us))) = omega (arith, pages-more s (u ∷ us) f) in
       subst (λ (m : ℕ). Chosen (L .n) (s ∷ (u ∷ us)) (take m (a ∷ (b ∷ new)))) q (L .new)
 
-  same-long : (xs : List Step) → length (stepsIn t xs) ≡ length xs
-  same-long [] = refl
-  same-long (z ∷ zs) = ap suc (same-long zs)
-
   few : length (s ∷ (u ∷ us)) ≤ 3
-  few = omega (arith, same-long above, L .short)
+  few = omega (arith, steps-long t above, L .short)
 
   above-chosen : Chosen (L .n) (u ∷ us) ns
   above-chosen = chosen-above s u us a b ns few f chosen

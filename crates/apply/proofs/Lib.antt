@@ -10,5 +10,4 @@ pub mod Root
 pub mod Numbers
 pub mod Handed
 pub mod Done
-pub mod Told
 pub mod Tight

@@ -25,7 +25,7 @@ use Rattle.split.specs.Split.{stepAt}
 use Rattle.way.specs.declared.Step as way
 use Rattle.way.specs.declared.Way.{Way}
 
--- a table of n pages, and a counter and a key that fit their fields
+-- a table of n pages, and a counter that fits its field
 pub record Whole (n c : ℕ) (t : List ℕ) : Type 0 where
   pub long : length t ≡ n * pageSize
   pub few : n ≤ mostPages
@@ -93,7 +93,7 @@ mostNew = 7
 abbrev pub HeadRead : List ℕ → way.Step → Type 0
 HeadRead t x = x .head ≡ headOf (read t (x .place .child))
 
--- its steps, leaf first
+-- the steps of a way, leaf first
 abbrev pub listed : Way → List way.Step
 listed w = take (w .len) (w .leaf ∷ (w .parent ∷ (w .top ∷ [])))
 

@@ -1,3 +1,5 @@
+-- `apply::apply`: the page at the end of the split way takes the entry, and all is as the rules' insert leaves it.
+-- Assumes nothing.
 use Rattle.apply.proofs.Done.{put-asks, all-done}
 use borrow.Author.Needs.{needs}
 use Rattle.apply.proofs.apply.Statement.{statement}

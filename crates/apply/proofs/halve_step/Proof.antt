@@ -1,3 +1,5 @@
+-- `apply::halve_step`: what it asks for and leaves is `split::halve`'s, with the numbers read from the array.
+-- Assumes nothing.
 use borrow.Author.Needs.{needs}
 use Rattle.apply.proofs.halve_step.Statement.{statement}
 use Rattle.apply.proofs.halve_step.Tie as tie

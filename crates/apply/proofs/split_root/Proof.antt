@@ -1,3 +1,5 @@
+-- `apply::split_root`: the root stays, or a new root grows over it and it is halved below that.
+-- Assumes nothing.
 use borrow.Author.Tests.{not-true, not-false}
 use Rattle.rules.specs.Insert.{making}
 use Rattle.apply.proofs.Numbers.{stays-then, top-grows, top-halves, top-split}

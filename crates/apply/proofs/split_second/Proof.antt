@@ -1,3 +1,5 @@
+-- `apply::split_second`: the page stays, or the root is split first and the page halved below what then stands there.
+-- Assumes nothing.
 use borrow.Author.Tests.{not-true, not-false}
 use Rattle.rules.specs.Insert.{making}
 use Rattle.apply.proofs.Numbers.{stays-then, below-above, below-halves, below-split}

@@ -1,3 +1,5 @@
+-- `apply::split_third`: the leaf stays, or the two pages above are split first and the leaf halved below them.
+-- Assumes nothing.
 use borrow.Author.Tests.{not-true, not-false}
 use Rattle.rules.specs.Insert.{making}
 use Rattle.apply.proofs.Numbers.{stays-then, below-above, below-halves, below-split}

@@ -1,3 +1,5 @@
+-- `apply::split_way`: the length of the way says which pages it has.
+-- Assumes nothing.
 use Rattle.apply.proofs.Handed.{ready-level, len-one, len-two, len-three, split-listed}
 use native.Mathlib.Omega.{arith}
 use borrow.Author.Needs.{needs}
