@@ -1,7 +1,7 @@
 -- Certificates copied into the two lists one by one. Assumes nothing.
 use mathlib.Core.Path.{_≡_, refl, sym, ap, _∙_}
 use mathlib.Core.Bool.{Bool}
-use mathlib.Core.List.{List, [], _∷_, _++_, append-assoc}
+use mathlib.Core.List.{List, [], _∷_, _++_}
 use Prim.Native.Nat.{ℕ, zero, suc, _+_, _-_, _*_, _≤_, _<_}
 use native.Mathlib.Nat.{add-zero, mul-add, add-assoc}
 use native.Mathlib.Numerals.{add-one}
@@ -9,8 +9,8 @@ use native.Mathlib.Omega.{arith}
 use lib.ListN.{length, take, drop, getD, set, length-append}
 use lib.Seq.{paste, paste-zero, paste-suc, take-nil, take-length, drop-drop}
 use Rattle.rules.specs.Layout.{headerSize, certSize}
-use Rattle.rules.specs.Entry.{Entry, Cert, keys, cut}
-use Rattle.rules.specs.Page.{readEach, certIn, over}
+use Rattle.rules.specs.Entry.{Cert, keys, cut}
+use Rattle.rules.specs.Page.{certIn, over}
 use Rattle.rules.specs.List.{recordsOf}
 use Rattle.rules.specs.declared.Asked.{Asked}
 use Rattle.rules.proofs.Each.{length-readEach, readEach-at}

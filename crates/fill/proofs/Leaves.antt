@@ -6,8 +6,8 @@ use Prim.Native.Nat.{ℕ, _≤_}
 use native.Mathlib.Omega.{arith}
 use lib.ListN.{length, drop}
 use Rattle.rules.specs.Layout.{headerSize, certSize, leafKind, leafRoom}
-use Rattle.rules.specs.Entry.{Cert, keys, rising}
-use Rattle.rules.specs.Page.{View, Page, certIn}
+use Rattle.rules.specs.Entry.{keys, rising}
+use Rattle.rules.specs.Page.{certIn}
 use Rattle.rules.specs.Table.{pageAt, read}
 use Rattle.rules.proofs.Each.{length-readEach}
 use Rattle.head.specs.declared.Head.{Head}

@@ -7,11 +7,11 @@ use native.Mathlib.Nat.{min-eq-left, min-eq-right, min-le-left, min-le-right}
 use native.Mathlib.Omega.{arith}
 use borrow.Author.Tests.{leb-true, leb-false}
 use lib.Dec.{leb}
-use lib.ListN.{length, take, drop, getD, length-take}
+use lib.ListN.{take, drop, getD, length-take}
 use lib.Seq.{take-all, take-take, drop-drop}
 use Rattle.rules.specs.Layout.{headerSize, certSize}
-use Rattle.rules.specs.Entry.{Entry, Cert, keys, cut, rising}
-use Rattle.rules.specs.Page.{readEach, certIn}
+use Rattle.rules.specs.Entry.{keys, rising}
+use Rattle.rules.specs.Page.{certIn}
 use Rattle.rules.specs.declared.Asked.{Asked}
 use Rattle.rules.proofs.Each.{readEach-at, take-readEach, drop-readEach}
 use Rattle.head.specs.Head.{certAt}

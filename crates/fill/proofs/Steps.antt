@@ -1,15 +1,14 @@
 -- The steps of a walk, said of the table and the two lists. Assumes nothing.
 use mathlib.Core.Path.{_≡_, refl, sym, ap, _∙_}
 use mathlib.Core.Bool.{Bool, true, false}
-use mathlib.Core.List.{List, [], _∷_, _++_}
+use mathlib.Core.List.{List, [], _++_}
 use Prim.Native.Nat.{ℕ, _-_, _*_, _≤_, _<_}
 use native.Mathlib.Omega.{arith}
 use borrow.Author.Tests.{ltb-true}
 use lib.ListN.{length, take}
 use Rattle.fields.specs.Field.{Bytes}
 use Rattle.rules.specs.Layout.{pageSize}
-use Rattle.rules.specs.Test.{every}
-use Rattle.rules.specs.Entry.{Cert, cut}
+use Rattle.rules.specs.Entry.{cut}
 use Rattle.rules.specs.Page.{View, Page, over}
 use Rattle.rules.specs.Table.{read}
 use Rattle.rules.specs.Place.{rootPlace}

@@ -1,15 +1,15 @@
 -- The rules' walk, step by step, by what the code learns at each: each step is an equation of two walks, and what is
 -- kept of the certificates found plays no part in it. The laws are those of `sweep`. Assumes nothing.
-use mathlib.Core.Path.{_≡_, refl, sym, ap, _∙_, subst}
+use mathlib.Core.Path.{_≡_, sym, ap, _∙_, subst}
 use mathlib.Core.Bool.{true, false}
-use mathlib.Core.List.{List, [], _∷_}
-use mathlib.Core.Option.{some, none}
-use Prim.Native.Nat.{ℕ, zero, suc, _-_, _*_, _≤_, _<_}
+use mathlib.Core.List.{List, _∷_}
+use mathlib.Core.Option.{some}
+use Prim.Native.Nat.{ℕ, suc, _-_, _*_, _≤_, _<_}
 use native.Mathlib.Omega.{arith}
 use lib.ListN.{length}
 use Rattle.fields.specs.Field.{Bytes}
 use Rattle.rules.specs.Layout.{pageSize}
-use Rattle.rules.specs.Page.{View, Page}
+use Rattle.rules.specs.Page.{Page}
 use Rattle.rules.specs.Table.{pageAt, read}
 use Rattle.rules.specs.Place.{kids}
 use Rattle.rules.specs.Enter as entry
@@ -25,7 +25,7 @@ use Rattle.enter.proofs.Told.{told-table, told-damaged}
 use Rattle.sweep.specs.Sweeps.{entersBy, aboveAt, Deep, Ready, placesLeft, firstOf, restOf, runOf, Lies}
 use Rattle.sweep.specs.declared.Sofar.{Sofar}
 use Rattle.sweep.specs.declared.Run.{Run}
-use Rattle.sweep.proofs.Keeps.{Keeps, walk-keeps}
+use Rattle.sweep.proofs.Keeps.{walk-keeps}
 use Rattle.sweep.proofs.Steps as steps
 
 -- ── The page walk ───────────────────────────────────────────────────────────────────────────────────────────────

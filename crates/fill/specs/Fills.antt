@@ -6,7 +6,7 @@ use mathlib.Core.List.{List}
 use lib.ListN.{length, take, drop}
 use lib.Seq.{paste}
 use Rattle.rules.specs.Layout.{headerSize, certSize, leafRoom}
-use Rattle.rules.specs.Entry.{Entry, Cert, keys, cut, rising}
+use Rattle.rules.specs.Entry.{Cert, keys, cut, rising}
 use Rattle.rules.specs.Page.{readEach, certIn, over}
 use Rattle.rules.specs.Walk.{Walked}
 use Rattle.rules.specs.List.{recordsOf}

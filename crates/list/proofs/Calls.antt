@@ -2,13 +2,13 @@
 use mathlib.Core.Path.{_≡_, refl, ap, _∙_}
 use mathlib.Core.Bool.{Bool, true, false}
 use mathlib.Core.List.{List}
-use Prim.Native.Nat.{ℕ, min, _≤_}
+use Prim.Native.Nat.{ℕ, min}
 use native.Mathlib.Nat.{min-le-left, min-le-right}
 use native.Mathlib.Omega.{arith}
 use lib.ListN.{length}
 use Rattle.rules.specs.Layout.{lastKey}
 use Rattle.rules.specs.Table.{fit0}
-use Rattle.rules.specs.Walk.{Walked, walkOf}
+use Rattle.rules.specs.Walk.{walkOf}
 use Rattle.rules.specs.Call.{lengthsFor}
 use Rattle.rules.specs.List as rules
 use Rattle.rules.specs.declared.Session.{Session}

@@ -1,5 +1,5 @@
 -- What the walks give to tell: the dry walk knows beforehand which of the other two is right. Assumes nothing.
-use mathlib.Core.Path.{_≡_, refl, sym, ap, _∙_}
+use mathlib.Core.Path.{_≡_, sym, ap, _∙_}
 use mathlib.Core.Bool.{true, false}
 use mathlib.Core.List.{List}
 use Prim.Native.Nat.{ℕ, min, _*_, _^_, _≤_, _<_}
@@ -17,9 +17,9 @@ use Rattle.sweep.specs.declared.Sofar.{Sofar}
 use Rattle.dry.specs.Walk.{dryOf}
 use Rattle.dry.specs.declared.Dry.{Dry}
 use Rattle.dry.proofs.Answers.{dry-whole}
-use Rattle.fill.specs.Fills.{Lists, listsOf, Fill, filling, filledIn}
+use Rattle.fill.specs.Fills.{listsOf, Fill, filling, filledIn}
 use Rattle.fill.specs.declared.Filled.{Filled}
-use Rattle.list.specs.Lists.{Told, telling, told}
+use Rattle.list.specs.Lists.{telling, told}
 
 -- ── The asked range ─────────────────────────────────────────────────────────────────────────────────────────────
 

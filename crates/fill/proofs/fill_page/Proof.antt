@@ -1,7 +1,6 @@
 use mathlib.Core.Path.{sym, ap, _∙_}
 use mathlib.Core.List.{List}
 use Rattle.rules.specs.Entry.{Cert}
-use Rattle.rules.specs.Page.{View, Page}
 use Rattle.rules.specs.Table.{read}
 use Rattle.rules.proofs.Tables.{length-pageAt}
 use Rattle.entries.proofs.Part.{page-part}
