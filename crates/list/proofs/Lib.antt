@@ -1,3 +1,4 @@
 pub mod Tells
 pub mod Calls
+pub mod Empty
 pub mod Tight
