@@ -1,14 +1,17 @@
+-- The proof of the cycle {walk_entries, walk_page}, as that of `sweep`: a level counts 64, more than a page has entries, so
+-- a page's measure stands above that of the entries one level lower, and entries above the pages of their own level.
+-- Assumes nothing.
 use mathlib.Core.Path.{sym, ap, _∙_}
 use borrow.Author.Tests.{not-true, not-false}
 use Rattle.enter.specs.Entering.{entering}
 use Rattle.sweep.specs.declared.Run.{Run}
 use Rattle.sweep.proofs.Steps as sweeps
-use Rattle.fill.specs.Fills.{filling, sofar}
+use Rattle.fill.specs.Fills.{filling, Roomy, sofar}
 use Rattle.fill.specs.declared.Filled.{Filled}
 use Rattle.fill.proofs.Steps.{room-entered, step-deep, step-past, step-damaged, page-sorted, page-known, step-page, step-none, first-ready, rest-lies, rest-known, step-more}
 use borrow.Author.Needs.{needs}
 use native.Mathlib.Omega.{arith}
-use Prim.Native.Nat.{ℕ, _<_, _+_, _*_}
+use Prim.Native.Nat.{ℕ, _≤_, _<_, _+_, _*_}
 use borrow.Fn.Kinds.{In}
 use borrow.Fn.PlainCycle.{Measures, is, falls, and}
 use Rattle.fill.proofs.walk_entries.Reads as walk-entries
@@ -59,22 +62,50 @@ abbrev walk-page-in : ℕ → walk-page-lts.Claims
 walk-page-in t = (stop-reads.Asked, stop-reads.Learnt, enters-reads.Asked, enters-reads.Learnt, enter-reads.Asked, enter-reads.Learnt, fill-page-reads.Asked, fill-page-reads.Learnt, run-of-reads.Asked, run-of-reads.Learnt, walk-entries-below t, walk-entries.Post)
 
 walk-entries-returns : (t : ℕ) → walk-entries-lts.Need-returns (walk-entries-in t) (walk-entries-at t) walk-entries.Post
-walk-entries-returns t c = let args = c .before .before .before .before .before .args in step-none (args .level) (args .n) (args .c) (args .a) (args .above) (args .run) (args .t .now) (args .s) (args .keys .now) (args .records .now) (c .if1 .taken)
+walk-entries-returns t c =
+    let args = c .before .before .before .before .before .args in
+    step-none (args .level) (args .n) (args .c) (args .a) (args .above) (args .run) (args .t .now) (args .s) (args .keys .now) (args .records .now) (c .if1 .taken)
 
 walk-entries-cast-first-of : (t : ℕ) → walk-entries-lts.Need-cast-first-of (walk-entries-in t) (walk-entries-at t) walk-entries.Post
 walk-entries-cast-first-of t c = search needs
 
 walk-entries-first-of-requires : (t : ℕ) → walk-entries-lts.Need-first-of-requires (walk-entries-in t) (walk-entries-at t) walk-entries.Post
-walk-entries-first-of-requires t c κs = let pre = c .before .before .before .before .before .before .before .pre .1 in (omega (arith, pre .0, pre .3 .inside), omega (arith, c .before .before .if1 .left), pre .3 .left, pre .3 .room)
+walk-entries-first-of-requires t c κs =
+    let pre = c .before .before .before .before .before .before .before .pre .1 in
+    (omega (arith, pre .0, pre .3 .inside), omega (arith, c .before .before .if1 .left), pre .3 .left, pre .3 .room)
 
 walk-entries-walk-page-requires : (t : ℕ) → walk-entries-lts.Need-walk-page-requires (walk-entries-in t) (walk-entries-at t) walk-entries.Post
-walk-entries-walk-page-requires t c κs = let args = c .before .before .before .before .before .before .before .before .before .before .before .args in let pre = c .before .before .before .before .before .before .before .before .before .before .before .pre .1 in (omega (arith, c .before .before .before .before .before .before .before .before .before .before .before .pre .0, c .before .before .before .before .before .before .if1 .left), (pre .0, pre .1, first-ready (args .level) (args .n) (args .c) (args .a) (args .above) (args .run) (args .t .now) (args .s) (args .keys .now) (args .records .now) (pre .0) (c .before .before .before .before .before .before .before .before .before .before .slice-known .given) (pre .2) (pre .3) (omega (arith, c .before .before .before .before .before .before .if1 .left)) (c .before .before .before .first-of .result) (c .before .before .before .first-of .ensures), pre .4, pre .5))
+walk-entries-walk-page-requires t c κs =
+    let args = c .before .before .before .before .before .before .before .before .before .before .before .args in
+    let pre = c .before .before .before .before .before .before .before .before .before .before .before .pre .1 in
+    let more : 1 ≤ args .run .left = omega (arith, c .before .before .before .before .before .before .if1 .left) in
+    let first = c .before .before .before .first-of in
+    let ready = first-ready (args .level) (args .n) (args .c) (args .a) (args .above) (args .run) (args .t .now) (args .s) (args .keys .now) (args .records .now)
+    (pre .0) (c .before .before .before .before .before .before .before .before .before .before .slice-known .given) (pre .2) (pre .3) more (first .result) (first .ensures) in
+    (omega (arith, c .before .before .before .before .before .before .before .before .before .before .before .pre .0), (pre .0, pre .1, ready, pre .4, pre .5))
 
 walk-entries-rest-of-requires : (t : ℕ) → walk-entries-lts.Need-rest-of-requires (walk-entries-in t) (walk-entries-at t) walk-entries.Post
 walk-entries-rest-of-requires t c κs = omega (arith, c .before .before .before .before .before .before .before .before .before .before .before .before .before .if1 .left)
 
 walk-entries-walk-entries-requires : (t : ℕ) → walk-entries-lts.Need-walk-entries-requires (walk-entries-in t) (walk-entries-at t) walk-entries.Post
-walk-entries-walk-entries-requires t c κs = let args = c .before .before .before .before .before .before .before .before .before .before .before .before .before .before .before .before .before .before .before .before .before .before .args in let pre = c .before .before .before .before .before .before .before .before .before .before .before .before .before .before .before .before .before .before .before .before .before .before .pre .1 in (omega (arith, c .before .before .before .before .before .before .before .before .before .before .before .before .before .before .before .before .before .before .before .before .before .before .pre .0, ap (λ (x : Run). x .left) (c .before .before .before .rest-of .ensures), c .before .before .before .before .before .before .before .before .before .before .before .before .before .before .before .before .before .if1 .left), (omega (arith, c .before .before .before .before .before .before .before .before .before .before .walk-page .kept .0, pre .0), pre .1, pre .2, rest-lies (args .level) (args .n) (args .c) (args .a) (args .above) (args .run) (args .t .now) (args .s) (args .keys .now) (args .records .now) (pre .0) (c .before .before .before .before .before .before .before .before .before .before .before .before .before .before .before .before .before .before .before .before .before .slice-known .given) (pre .2) (pre .3) (omega (arith, c .before .before .before .before .before .before .before .before .before .before .before .before .before .before .before .before .before .if1 .left)) (c .before .before .before .before .before .before .before .before .before .before .before .before .before .before .first-of .result) (c .before .before .before .before .before .before .before .before .before .before .before .before .before .before .first-of .ensures) (c .before .before .before .before .before .before .before .before .before .before .walk-page .last .0) (c .before .before .before .before .before .before .before .before .before .before .walk-page .result) (c .before .before .before .before .before .before .before .before .before .before .walk-page .last .1 .1 .1 .1 .1 .1 .1 .0) (c .before .before .before .before .before .before .before .before .before .before .walk-page .last .1 .1 .1 .1 .1 .1 .1 .1 .0) (c .before .before .before .rest-of .result) (c .before .before .before .rest-of .ensures) (c .before .before .before .before .before .before .before .before .before .before .walk-page .ensures) (pre .5), record { keys = omega (arith, c .before .before .before .before .before .before .before .before .before .before .walk-page .kept .1 .1 .1 .1 .1 .1 .1 .0, pre .4 .keys); records = omega (arith, c .before .before .before .before .before .before .before .before .before .before .walk-page .kept .1 .1 .1 .1 .1 .1 .1 .1 .0, pre .4 .records) }, rest-known (args .level) (args .n) (args .c) (args .a) (args .above) (args .run) (args .t .now) (args .s) (args .keys .now) (args .records .now) (pre .0) (c .before .before .before .before .before .before .before .before .before .before .before .before .before .before .before .before .before .before .before .before .before .slice-known .given) (pre .2) (pre .3) (omega (arith, c .before .before .before .before .before .before .before .before .before .before .before .before .before .before .before .before .before .if1 .left)) (c .before .before .before .before .before .before .before .before .before .before .before .before .before .before .first-of .result) (c .before .before .before .before .before .before .before .before .before .before .before .before .before .before .first-of .ensures) (c .before .before .before .before .before .before .before .before .before .before .walk-page .last .0) (c .before .before .before .before .before .before .before .before .before .before .walk-page .result) (c .before .before .before .before .before .before .before .before .before .before .walk-page .last .1 .1 .1 .1 .1 .1 .1 .0) (c .before .before .before .before .before .before .before .before .before .before .walk-page .last .1 .1 .1 .1 .1 .1 .1 .1 .0) (c .before .before .before .rest-of .result) (c .before .before .before .rest-of .ensures) (c .before .before .before .before .before .before .before .before .before .before .walk-page .ensures) (pre .5)))
+walk-entries-walk-entries-requires t c κs =
+    let args = c .before .before .before .before .before .before .before .before .before .before .before .before .before .before .before .before .before .before .before .before .before .before .args in
+    let pre = c .before .before .before .before .before .before .before .before .before .before .before .before .before .before .before .before .before .before .before .before .before .before .pre .1 in
+    let more : 1 ≤ args .run .left = omega (arith, c .before .before .before .before .before .before .before .before .before .before .before .before .before .before .before .before .before .if1 .left) in
+    let first = c .before .before .before .before .before .before .before .before .before .before .before .before .before .before .first-of in
+    let page = c .before .before .before .before .before .before .before .before .before .before .walk-page in
+    let lies = rest-lies (args .level) (args .n) (args .c) (args .a) (args .above) (args .run) (args .t .now) (args .s) (args .keys .now) (args .records .now)
+    (pre .0) (c .before .before .before .before .before .before .before .before .before .before .before .before .before .before .before .before .before .before .before .before .before .slice-known .given) (pre .2) (pre .3) more (first .result) (first .ensures)
+    (page .last .0) (page .result) (page .last .1 .1 .1 .1 .1 .1 .1 .0) (page .last .1 .1 .1 .1 .1 .1 .1 .1 .0) (c .before .before .before .rest-of .result) (c .before .before .before .rest-of .ensures) (page .ensures) (pre .5) in
+    let known = rest-known (args .level) (args .n) (args .c) (args .a) (args .above) (args .run) (args .t .now) (args .s) (args .keys .now) (args .records .now)
+    (pre .0) (c .before .before .before .before .before .before .before .before .before .before .before .before .before .before .before .before .before .before .before .before .before .slice-known .given) (pre .2) (pre .3) more (first .result) (first .ensures)
+    (page .last .0) (page .result) (page .last .1 .1 .1 .1 .1 .1 .1 .0) (page .last .1 .1 .1 .1 .1 .1 .1 .1 .0) (c .before .before .before .rest-of .result) (c .before .before .before .rest-of .ensures) (page .ensures) (pre .5) in
+    let roomy : Roomy (args .a) (page .last .1 .1 .1 .1 .1 .1 .1 .0) (page .last .1 .1 .1 .1 .1 .1 .1 .1 .0) = record {
+      keys = omega (arith, page .kept .1 .1 .1 .1 .1 .1 .1 .0, pre .4 .keys);
+      records = omega (arith, page .kept .1 .1 .1 .1 .1 .1 .1 .1 .0, pre .4 .records);
+    } in
+    let fewer = ap (λ (x : Run). x .left) (c .before .before .before .rest-of .ensures) in
+    (omega (arith, c .before .before .before .before .before .before .before .before .before .before .before .before .before .before .before .before .before .before .before .before .before .before .pre .0), (omega (arith, page .kept .0, pre .0), pre .1, pre .2, lies, roomy, known))
 
 walk-entries-same-length : (t : ℕ) → walk-entries-lts.Need-same-length (walk-entries-in t) (walk-entries-at t) walk-entries.Post
 walk-entries-same-length t c = omega (arith, c .before .before .before .before .before .before .walk-entries .kept .0, c .before .before .before .before .before .before .before .before .before .before .before .before .before .before .before .before .before .walk-page .kept .0)
@@ -86,19 +117,37 @@ walk-entries-same-length-3 : (t : ℕ) → walk-entries-lts.Need-same-length-3 (
 walk-entries-same-length-3 t c = omega (arith, c .before .before .before .before .before .before .walk-entries .kept .1 .1 .1 .1 .1 .1 .1 .1 .0, c .before .before .before .before .before .before .before .before .before .before .before .before .before .before .before .before .before .walk-page .kept .1 .1 .1 .1 .1 .1 .1 .1 .0)
 
 walk-entries-returns-2 : (t : ℕ) → walk-entries-lts.Need-returns-2 (walk-entries-in t) (walk-entries-at t) walk-entries.Post
-walk-entries-returns-2 t c = let args = c .before .before .before .before .before .before .before .before .before .before .before .before .before .before .before .before .before .before .before .before .before .before .before .before .before .before .before .before .before .args in let pre = c .before .before .before .before .before .before .before .before .before .before .before .before .before .before .before .before .before .before .before .before .before .before .before .before .before .before .before .before .before .pre .1 in step-more (args .level) (args .n) (args .c) (args .a) (args .above) (args .run) (args .t .now) (args .s) (args .keys .now) (args .records .now) (pre .0) (c .before .before .before .before .before .before .before .before .before .before .before .before .before .before .before .before .before .before .before .before .before .before .before .before .before .before .before .before .slice-known .given) (pre .2) (pre .3) (omega (arith, c .before .before .before .before .before .before .before .before .before .before .before .before .before .before .before .before .before .before .before .before .before .before .before .before .if1 .left)) (c .before .before .before .before .before .before .before .before .before .before .before .before .before .before .before .before .before .before .before .before .before .first-of .result) (c .before .before .before .before .before .before .before .before .before .before .before .before .before .before .before .before .before .before .before .before .before .first-of .ensures) (c .before .before .before .before .before .before .before .before .before .before .before .before .before .before .before .before .before .walk-page .last .0) (c .before .before .before .before .before .before .before .before .before .before .before .before .before .before .before .before .before .walk-page .result) (c .before .before .before .before .before .before .before .before .before .before .before .before .before .before .before .before .before .walk-page .last .1 .1 .1 .1 .1 .1 .1 .0) (c .before .before .before .before .before .before .before .before .before .before .before .before .before .before .before .before .before .walk-page .last .1 .1 .1 .1 .1 .1 .1 .1 .0) (c .before .before .before .before .before .before .before .before .before .before .rest-of .result) (c .before .before .before .before .before .before .before .before .before .before .rest-of .ensures) (c .before .before .before .before .before .before .before .before .before .before .before .before .before .before .before .before .before .walk-page .ensures) (c .before .before .before .before .before .before .walk-entries .last .0) (c .before .before .before .before .before .before .walk-entries .result) (c .before .before .before .before .before .before .walk-entries .last .1 .1 .1 .1 .1 .1 .1 .0) (c .before .before .before .before .before .before .walk-entries .last .1 .1 .1 .1 .1 .1 .1 .1 .0) (c .before .before .before .before .before .before .walk-entries .ensures)
+walk-entries-returns-2 t c =
+    let args = c .before .before .before .before .before .before .before .before .before .before .before .before .before .before .before .before .before .before .before .before .before .before .before .before .before .before .before .before .before .args in
+    let pre = c .before .before .before .before .before .before .before .before .before .before .before .before .before .before .before .before .before .before .before .before .before .before .before .before .before .before .before .before .before .pre .1 in
+    let more : 1 ≤ args .run .left = omega (arith, c .before .before .before .before .before .before .before .before .before .before .before .before .before .before .before .before .before .before .before .before .before .before .before .before .if1 .left) in
+    let first = c .before .before .before .before .before .before .before .before .before .before .before .before .before .before .before .before .before .before .before .before .before .first-of in
+    let page = c .before .before .before .before .before .before .before .before .before .before .before .before .before .before .before .before .before .walk-page in
+    let rest = c .before .before .before .before .before .before .walk-entries in
+    step-more (args .level) (args .n) (args .c) (args .a) (args .above) (args .run) (args .t .now) (args .s) (args .keys .now) (args .records .now)
+    (pre .0) (c .before .before .before .before .before .before .before .before .before .before .before .before .before .before .before .before .before .before .before .before .before .before .before .before .before .before .before .before .slice-known .given) (pre .2) (pre .3) more (first .result) (first .ensures)
+    (page .last .0) (page .result) (page .last .1 .1 .1 .1 .1 .1 .1 .0) (page .last .1 .1 .1 .1 .1 .1 .1 .1 .0) (c .before .before .before .before .before .before .before .before .before .before .rest-of .result) (c .before .before .before .before .before .before .before .before .before .before .rest-of .ensures) (page .ensures)
+    (rest .last .0) (rest .result) (rest .last .1 .1 .1 .1 .1 .1 .1 .0) (rest .last .1 .1 .1 .1 .1 .1 .1 .1 .0) (rest .ensures)
 
 walk-page-stop-requires : (t : ℕ) → walk-page-lts.Need-stop-requires (walk-page-in t) (walk-page-at t) walk-page.Post
 walk-page-stop-requires t c κs = search needs
 
 walk-page-returns : (t : ℕ) → walk-page-lts.Need-returns (walk-page-in t) (walk-page-at t) walk-page.Post
-walk-page-returns t c = let args = c .before .before .before .before .before .args in λ ks xs w q. ap (λ (f : Filled). filling (args .t .now) f (args .keys .now) (args .records .now)) (c .stop .ensures) ∙ step-deep (args .level) (args .n) (args .c) (args .a) (args .above) (args .e) (args .t .now) (args .s) (args .keys .now) (args .records .now) (c .before .if1 .taken) ks xs w q
+walk-page-returns t c =
+    let args = c .before .before .before .before .before .args in
+    λ ks xs w q.
+    ap (λ (f : Filled). filling (args .t .now) f (args .keys .now) (args .records .now)) (c .stop .ensures)
+    ∙ step-deep (args .level) (args .n) (args .c) (args .a) (args .above) (args .e) (args .t .now) (args .s) (args .keys .now) (args .records .now) (c .before .if1 .taken) ks xs w q
 
 walk-page-enters-requires : (t : ℕ) → walk-page-lts.Need-enters-requires (walk-page-in t) (walk-page-at t) walk-page.Post
 walk-page-enters-requires t c κs = search needs
 
 walk-page-returns-2 : (t : ℕ) → walk-page-lts.Need-returns-2 (walk-page-in t) (walk-page-at t) walk-page.Post
-walk-page-returns-2 t c = let args = c .before .before .before .before .before .before .args in step-past (args .level) (args .n) (args .c) (args .a) (args .above) (args .e) (args .t .now) (args .s) (args .keys .now) (args .records .now) (omega (arith, c .before .before .if1 .left)) (sym (c .before .enters .ensures) ∙ not-true (c .before .enters .result) (c .if2 .taken))
+walk-page-returns-2 t c =
+    let args = c .before .before .before .before .before .before .args in
+    let deep : 0 < args .level = omega (arith, c .before .before .if1 .left) in
+    step-past (args .level) (args .n) (args .c) (args .a) (args .above) (args .e) (args .t .now) (args .s) (args .keys .now) (args .records .now) deep
+    (sym (c .before .enters .ensures) ∙ not-true (c .before .enters .result) (c .if2 .taken))
 
 walk-page-enter-requires : (t : ℕ) → walk-page-lts.Need-enter-requires (walk-page-in t) (walk-page-at t) walk-page.Post
 walk-page-enter-requires t c κs = let pre = c .before .before .before .before .before .before .before .pre .1 in (pre .0, pre .2 .child-below)
@@ -116,22 +165,72 @@ walk-page-same-length : (t : ℕ) → walk-page-lts.Need-same-length (walk-page-
 walk-page-same-length t c = omega (arith, c .before .before .before .before .before .enter .kept .0)
 
 walk-page-returns-3 : (t : ℕ) → walk-page-lts.Need-returns-3 (walk-page-in t) (walk-page-at t) walk-page.Post
-walk-page-returns-3 t c = let args = c .before .before .before .before .before .before .before .before .before .before .before .before .before .args in let pre = c .before .before .before .before .before .before .before .before .before .before .before .before .before .pre .1 in λ ks xs w q. ap (λ (f : Filled). filling (c .before .before .before .before .before .enter .last .0) f (args .keys .now) (args .records .now)) (c .stop2 .ensures) ∙ step-damaged (args .level) (args .n) (args .c) (args .a) (args .above) (args .e) (args .t .now) (args .s) (args .keys .now) (args .records .now) (omega (arith, c .before .before .before .before .before .before .before .before .before .if1 .left)) (sym (c .before .before .before .before .before .before .before .before .enters .ensures) ∙ not-false (c .before .before .before .before .before .before .before .before .enters .result) (c .before .before .before .before .before .before .before .if2 .left)) (pre .0) (c .before .before .before .before .before .before .before .before .before .before .before .before .slice-known .given) (pre .1) (pre .2) (c .before .before .before .before .before .enter .last .0) (ap (entering (c .before .before .before .before .before .enter .last .0)) (sym (c .before .enum-told .given .1)) ∙ c .before .before .before .before .before .enter .ensures) ks xs w q
+walk-page-returns-3 t c =
+    let args = c .before .before .before .before .before .before .before .before .before .before .before .before .before .args in
+    let pre = c .before .before .before .before .before .before .before .before .before .before .before .before .before .pre .1 in
+    let deep : 0 < args .level = omega (arith, c .before .before .before .before .before .before .before .before .before .if1 .left) in
+    let meets = sym (c .before .before .before .before .before .before .before .before .enters .ensures) ∙ not-false (c .before .before .before .before .before .before .before .before .enters .result) (c .before .before .before .before .before .before .before .if2 .left) in
+    let table = c .before .before .before .before .before .enter .last .0 in
+    let told = ap (entering table) (sym (c .before .enum-told .given .1)) ∙ c .before .before .before .before .before .enter .ensures in
+    λ ks xs w q.
+    ap (λ (f : Filled). filling table f (args .keys .now) (args .records .now)) (c .stop2 .ensures)
+    ∙ step-damaged (args .level) (args .n) (args .c) (args .a) (args .above) (args .e) (args .t .now) (args .s) (args .keys .now) (args .records .now)
+    deep meets (pre .0) (c .before .before .before .before .before .before .before .before .before .before .before .before .slice-known .given) (pre .1) (pre .2) table told ks xs w q
 
 walk-page-cast-fill-page : (t : ℕ) → walk-page-lts.Need-cast-fill-page (walk-page-in t) (walk-page-at t) walk-page.Post
 walk-page-cast-fill-page t c = search needs
 
 walk-page-fill-page-requires : (t : ℕ) → walk-page-lts.Need-fill-page-requires (walk-page-in t) (walk-page-at t) walk-page.Post
-walk-page-fill-page-requires t c κs = let args = c .before .before .before .before .before .before .before .before .before .before .before .before .before .before .before .before .before .args in let pre = c .before .before .before .before .before .before .before .before .before .before .before .before .before .before .before .before .before .pre .1 in (omega (arith, c .before .before .before .before .before .before .before .before .before .enter .kept .0, pre .0, pre .2 .child-below), sweeps.head-here (args .level) (args .n) (args .c) (args .a) (args .above) (args .e) (args .t .now) (sofar (args .s)) (omega (arith, c .before .before .before .before .before .before .before .before .before .before .before .before .before .if1 .left)) (sym (c .before .before .before .before .before .before .before .before .before .before .before .before .enters .ensures) ∙ not-false (c .before .before .before .before .before .before .before .before .before .before .before .before .enters .result) (c .before .before .before .before .before .before .before .before .before .before .before .if2 .left)) (pre .0) (c .before .before .before .before .before .before .before .before .before .before .before .before .before .before .before .before .slice-known .given) (pre .1) (pre .2) (c .before .before .before .before .before .before .before .before .before .enter .last .0) (c .before .before .before .before .before .head .given .0 .0) (ap (entering (c .before .before .before .before .before .before .before .before .before .enter .last .0)) (sym (c .before .before .before .before .before .head .given .1)) ∙ c .before .before .before .before .before .before .before .before .before .enter .ensures), page-sorted (args .level) (args .n) (args .c) (args .a) (args .above) (args .e) (args .t .now) (args .s) (args .keys .now) (args .records .now) (omega (arith, c .before .before .before .before .before .before .before .before .before .before .before .before .before .if1 .left)) (sym (c .before .before .before .before .before .before .before .before .before .before .before .before .enters .ensures) ∙ not-false (c .before .before .before .before .before .before .before .before .before .before .before .before .enters .result) (c .before .before .before .before .before .before .before .before .before .before .before .if2 .left)) (pre .0) (c .before .before .before .before .before .before .before .before .before .before .before .before .before .before .before .before .slice-known .given) (pre .1) (pre .2) (c .before .before .before .before .before .before .before .before .before .enter .last .0) (c .before .before .before .before .before .head .given .0 .0) (ap (entering (c .before .before .before .before .before .before .before .before .before .enter .last .0)) (sym (c .before .before .before .before .before .head .given .1)) ∙ c .before .before .before .before .before .before .before .before .before .enter .ensures), room-entered (args .a) (args .e) (args .s) (sym (c .before .before .before .before .before .before .before .before .before .before .before .before .enters .ensures) ∙ not-false (c .before .before .before .before .before .before .before .before .before .before .before .before .enters .result) (c .before .before .before .before .before .before .before .before .before .before .before .if2 .left)), pre .3)
+walk-page-fill-page-requires t c κs =
+    let args = c .before .before .before .before .before .before .before .before .before .before .before .before .before .before .before .before .before .args in
+    let pre = c .before .before .before .before .before .before .before .before .before .before .before .before .before .before .before .before .before .pre .1 in
+    let deep : 0 < args .level = omega (arith, c .before .before .before .before .before .before .before .before .before .before .before .before .before .if1 .left) in
+    let meets = sym (c .before .before .before .before .before .before .before .before .before .before .before .before .enters .ensures) ∙ not-false (c .before .before .before .before .before .before .before .before .before .before .before .before .enters .result) (c .before .before .before .before .before .before .before .before .before .before .before .if2 .left) in
+    let table = c .before .before .before .before .before .before .before .before .before .enter .last .0 in
+    let head = c .before .before .before .before .before .head .given .0 .0 in
+    let told = ap (entering table) (sym (c .before .before .before .before .before .head .given .1)) ∙ c .before .before .before .before .before .before .before .before .before .enter .ensures in
+    let here = sweeps.head-here (args .level) (args .n) (args .c) (args .a) (args .above) (args .e) (args .t .now) (sofar (args .s))
+    deep meets (pre .0) (c .before .before .before .before .before .before .before .before .before .before .before .before .before .before .before .before .slice-known .given) (pre .1) (pre .2) table head told in
+    let sorted = page-sorted (args .level) (args .n) (args .c) (args .a) (args .above) (args .e) (args .t .now) (args .s) (args .keys .now) (args .records .now)
+    deep meets (pre .0) (c .before .before .before .before .before .before .before .before .before .before .before .before .before .before .before .before .slice-known .given) (pre .1) (pre .2) table head told in
+    (omega (arith, c .before .before .before .before .before .before .before .before .before .enter .kept .0, pre .0, pre .2 .child-below), here, sorted, room-entered (args .a) (args .e) (args .s) meets, pre .3)
 
 walk-page-run-of-requires : (t : ℕ) → walk-page-lts.Need-run-of-requires (walk-page-in t) (walk-page-at t) walk-page.Post
-walk-page-run-of-requires t c κs = let args = c .before .before .before .before .before .before .before .before .before .before .before .before .before .before .before .before .before .before .before .before .before .before .args in let pre = c .before .before .before .before .before .before .before .before .before .before .before .before .before .before .before .before .before .before .before .before .before .before .pre .1 in sweeps.kind-from (args .level) (args .n) (args .c) (args .a) (args .above) (args .e) (args .t .now) (sofar (args .s)) (omega (arith, c .before .before .before .before .before .before .before .before .before .before .before .before .before .before .before .before .before .before .if1 .left)) (sym (c .before .before .before .before .before .before .before .before .before .before .before .before .before .before .before .before .before .enters .ensures) ∙ not-false (c .before .before .before .before .before .before .before .before .before .before .before .before .before .before .before .before .before .enters .result) (c .before .before .before .before .before .before .before .before .before .before .before .before .before .before .before .before .if2 .left)) (pre .0) (c .before .before .before .before .before .before .before .before .before .before .before .before .before .before .before .before .before .before .before .before .before .slice-known .given) (pre .1) (pre .2) (c .before .before .before .before .before .before .before .before .before .before .before .before .before .before .enter .last .0) (c .before .before .before .before .before .before .before .before .before .before .head .given .0 .0) (ap (entering (c .before .before .before .before .before .before .before .before .before .before .before .before .before .before .enter .last .0)) (sym (c .before .before .before .before .before .before .before .before .before .before .head .given .1)) ∙ c .before .before .before .before .before .before .before .before .before .before .before .before .before .before .enter .ensures)
+walk-page-run-of-requires t c κs =
+    let args = c .before .before .before .before .before .before .before .before .before .before .before .before .before .before .before .before .before .before .before .before .before .before .args in
+    let pre = c .before .before .before .before .before .before .before .before .before .before .before .before .before .before .before .before .before .before .before .before .before .before .pre .1 in
+    let deep : 0 < args .level = omega (arith, c .before .before .before .before .before .before .before .before .before .before .before .before .before .before .before .before .before .before .if1 .left) in
+    let meets = sym (c .before .before .before .before .before .before .before .before .before .before .before .before .before .before .before .before .before .enters .ensures) ∙ not-false (c .before .before .before .before .before .before .before .before .before .before .before .before .before .before .before .before .before .enters .result) (c .before .before .before .before .before .before .before .before .before .before .before .before .before .before .before .before .if2 .left) in
+    let table = c .before .before .before .before .before .before .before .before .before .before .before .before .before .before .enter .last .0 in
+    let head = c .before .before .before .before .before .before .before .before .before .before .head .given .0 .0 in
+    let told = ap (entering table) (sym (c .before .before .before .before .before .before .before .before .before .before .head .given .1)) ∙ c .before .before .before .before .before .before .before .before .before .before .before .before .before .before .enter .ensures in
+    sweeps.kind-from (args .level) (args .n) (args .c) (args .a) (args .above) (args .e) (args .t .now) (sofar (args .s))
+    deep meets (pre .0) (c .before .before .before .before .before .before .before .before .before .before .before .before .before .before .before .before .before .before .before .before .before .slice-known .given) (pre .1) (pre .2) table head told
 
 walk-page-sub-walk-entries : (t : ℕ) → walk-page-lts.Need-sub-walk-entries (walk-page-in t) (walk-page-at t) walk-page.Post
 walk-page-sub-walk-entries t c = omega (arith, c .before .before .before .before .before .before .before .before .before .before .before .before .before .before .before .before .before .before .before .before .if1 .left)
 
 walk-page-walk-entries-requires : (t : ℕ) → walk-page-lts.Need-walk-entries-requires (walk-page-in t) (walk-page-at t) walk-page.Post
-walk-page-walk-entries-requires t c κs = let args = c .before .before .before .before .before .before .before .before .before .before .before .before .before .before .before .before .before .before .before .before .before .before .before .before .before .before .args in let pre = c .before .before .before .before .before .before .before .before .before .before .before .before .before .before .before .before .before .before .before .before .before .before .before .before .before .before .pre .1 in let y = sweeps.lies (args .level) (args .n) (args .c) (args .a) (args .above) (args .e) (args .t .now) (sofar (args .s)) (omega (arith, c .before .before .before .before .before .before .before .before .before .before .before .before .before .before .before .before .before .before .before .before .before .before .if1 .left)) (sym (c .before .before .before .before .before .before .before .before .before .before .before .before .before .before .before .before .before .before .before .before .before .enters .ensures) ∙ not-false (c .before .before .before .before .before .before .before .before .before .before .before .before .before .before .before .before .before .before .before .before .before .enters .result) (c .before .before .before .before .before .before .before .before .before .before .before .before .before .before .before .before .before .before .before .before .if2 .left)) (pre .0) (c .before .before .before .before .before .before .before .before .before .before .before .before .before .before .before .before .before .before .before .before .before .before .before .before .before .slice-known .given) (pre .1) (pre .2) (c .before .before .before .before .before .before .before .before .before .before .before .before .before .before .before .before .before .before .enter .last .0) (c .before .before .before .before .before .before .before .before .before .before .before .before .before .before .head .given .0 .0) (ap (entering (c .before .before .before .before .before .before .before .before .before .before .before .before .before .before .before .before .before .before .enter .last .0)) (sym (c .before .before .before .before .before .before .before .before .before .before .before .before .before .before .head .given .1)) ∙ c .before .before .before .before .before .before .before .before .before .before .before .before .before .before .before .before .before .before .enter .ensures) (c .before .before .before .run-of .result) (c .before .before .before .run-of .ensures) in (omega (arith, c .before .before .before .before .before .before .before .before .before .before .before .before .before .before .before .before .before .before .before .before .before .before .before .before .before .before .pre .0, c .before .before .before .before .before .before .before .before .before .before .before .before .before .before .before .before .before .before .before .before .before .before .if1 .left, y .left, y .room), (omega (arith, c .before .before .before .before .before .before .before .before .before .before .before .before .before .before .before .before .before .before .enter .kept .0, pre .0), sweeps.deep-below (args .level) (args .above) (args .e) (omega (arith, c .before .before .before .before .before .before .before .before .before .before .before .before .before .before .before .before .before .before .before .before .before .before .if1 .left)) (pre .1), omega (arith, pre .1 .most), y, record { keys = omega (arith, c .before .before .before .before .before .before .before .before .fill-page .kept .1 .1 .1 .1 .0, pre .3 .keys); records = omega (arith, c .before .before .before .before .before .before .before .before .fill-page .kept .1 .1 .1 .1 .1 .0, pre .3 .records) }, page-known (args .level) (args .n) (args .c) (args .a) (args .above) (args .e) (args .t .now) (args .s) (args .keys .now) (args .records .now) (omega (arith, c .before .before .before .before .before .before .before .before .before .before .before .before .before .before .before .before .before .before .before .before .before .before .if1 .left)) (sym (c .before .before .before .before .before .before .before .before .before .before .before .before .before .before .before .before .before .before .before .before .before .enters .ensures) ∙ not-false (c .before .before .before .before .before .before .before .before .before .before .before .before .before .before .before .before .before .before .before .before .before .enters .result) (c .before .before .before .before .before .before .before .before .before .before .before .before .before .before .before .before .before .before .before .before .if2 .left)) (pre .0) (c .before .before .before .before .before .before .before .before .before .before .before .before .before .before .before .before .before .before .before .before .before .before .before .before .before .slice-known .given) (pre .1) (pre .2) (c .before .before .before .before .before .before .before .before .before .before .before .before .before .before .before .before .before .before .enter .last .0) (c .before .before .before .before .before .before .before .before .before .before .before .before .before .before .head .given .0 .0) (ap (entering (c .before .before .before .before .before .before .before .before .before .before .before .before .before .before .before .before .before .before .enter .last .0)) (sym (c .before .before .before .before .before .before .before .before .before .before .before .before .before .before .head .given .1)) ∙ c .before .before .before .before .before .before .before .before .before .before .before .before .before .before .before .before .before .before .enter .ensures) (c .before .before .before .before .before .before .before .before .fill-page .result) (c .before .before .before .before .before .before .before .before .fill-page .last .1 .1 .1 .1 .0) (c .before .before .before .before .before .before .before .before .fill-page .last .1 .1 .1 .1 .1 .0) (c .before .before .before .before .before .before .before .before .fill-page .ensures) (pre .4)))
+walk-page-walk-entries-requires t c κs =
+    let args = c .before .before .before .before .before .before .before .before .before .before .before .before .before .before .before .before .before .before .before .before .before .before .before .before .before .before .args in
+    let pre = c .before .before .before .before .before .before .before .before .before .before .before .before .before .before .before .before .before .before .before .before .before .before .before .before .before .before .pre .1 in
+    let deep : 0 < args .level = omega (arith, c .before .before .before .before .before .before .before .before .before .before .before .before .before .before .before .before .before .before .before .before .before .before .if1 .left) in
+    let meets = sym (c .before .before .before .before .before .before .before .before .before .before .before .before .before .before .before .before .before .before .before .before .before .enters .ensures) ∙ not-false (c .before .before .before .before .before .before .before .before .before .before .before .before .before .before .before .before .before .before .before .before .before .enters .result) (c .before .before .before .before .before .before .before .before .before .before .before .before .before .before .before .before .before .before .before .before .if2 .left) in
+    let table = c .before .before .before .before .before .before .before .before .before .before .before .before .before .before .before .before .before .before .enter .last .0 in
+    let head = c .before .before .before .before .before .before .before .before .before .before .before .before .before .before .head .given .0 .0 in
+    let told = ap (entering table) (sym (c .before .before .before .before .before .before .before .before .before .before .before .before .before .before .head .given .1)) ∙ c .before .before .before .before .before .before .before .before .before .before .before .before .before .before .before .before .before .before .enter .ensures in
+    let filled = c .before .before .before .before .before .before .before .before .fill-page in
+    let lies = sweeps.lies (args .level) (args .n) (args .c) (args .a) (args .above) (args .e) (args .t .now) (sofar (args .s))
+    deep meets (pre .0) (c .before .before .before .before .before .before .before .before .before .before .before .before .before .before .before .before .before .before .before .before .before .before .before .before .before .slice-known .given) (pre .1) (pre .2) table head told (c .before .before .before .run-of .result) (c .before .before .before .run-of .ensures) in
+    let known = page-known (args .level) (args .n) (args .c) (args .a) (args .above) (args .e) (args .t .now) (args .s) (args .keys .now) (args .records .now)
+    deep meets (pre .0) (c .before .before .before .before .before .before .before .before .before .before .before .before .before .before .before .before .before .before .before .before .before .before .before .before .before .slice-known .given) (pre .1) (pre .2) table head told
+    (filled .result) (filled .last .1 .1 .1 .1 .0) (filled .last .1 .1 .1 .1 .1 .0) (filled .ensures) (pre .4) in
+    let roomy : Roomy (args .a) (filled .last .1 .1 .1 .1 .0) (filled .last .1 .1 .1 .1 .1 .0) = record {
+      keys = omega (arith, filled .kept .1 .1 .1 .1 .0, pre .3 .keys);
+      records = omega (arith, filled .kept .1 .1 .1 .1 .1 .0, pre .3 .records);
+    } in
+    let below = sweeps.deep-below (args .level) (args .above) (args .e) deep (pre .1) in
+    (omega (arith, c .before .before .before .before .before .before .before .before .before .before .before .before .before .before .before .before .before .before .before .before .before .before .before .before .before .before .pre .0, lies .left, lies .room), (omega (arith, c .before .before .before .before .before .before .before .before .before .before .before .before .before .before .before .before .before .before .enter .kept .0, pre .0), below, omega (arith, pre .1 .most), lies, roomy, known))
 
 walk-page-same-length-2 : (t : ℕ) → walk-page-lts.Need-same-length-2 (walk-page-in t) (walk-page-at t) walk-page.Post
 walk-page-same-length-2 t c = omega (arith, c .before .before .before .before .before .before .walk-entries .kept .0, c .before .before .before .before .before .before .before .before .before .before .before .before .before .before .before .before .before .before .before .before .before .before .before .before .before .enter .kept .0)
@@ -143,7 +242,20 @@ walk-page-same-length-4 : (t : ℕ) → walk-page-lts.Need-same-length-4 (walk-p
 walk-page-same-length-4 t c = omega (arith, c .before .before .before .before .before .before .walk-entries .kept .1 .1 .1 .1 .1 .1 .1 .1 .0, c .before .before .before .before .before .before .before .before .before .before .before .before .before .before .before .fill-page .kept .1 .1 .1 .1 .1 .0)
 
 walk-page-returns-4 : (t : ℕ) → walk-page-lts.Need-returns-4 (walk-page-in t) (walk-page-at t) walk-page.Post
-walk-page-returns-4 t c = let args = c .before .before .before .before .before .before .before .before .before .before .before .before .before .before .before .before .before .before .before .before .before .before .before .before .before .before .before .before .before .before .before .before .before .args in let pre = c .before .before .before .before .before .before .before .before .before .before .before .before .before .before .before .before .before .before .before .before .before .before .before .before .before .before .before .before .before .before .before .before .before .pre .1 in step-page (args .level) (args .n) (args .c) (args .a) (args .above) (args .e) (args .t .now) (args .s) (args .keys .now) (args .records .now) (omega (arith, c .before .before .before .before .before .before .before .before .before .before .before .before .before .before .before .before .before .before .before .before .before .before .before .before .before .before .before .before .before .if1 .left)) (sym (c .before .before .before .before .before .before .before .before .before .before .before .before .before .before .before .before .before .before .before .before .before .before .before .before .before .before .before .before .enters .ensures) ∙ not-false (c .before .before .before .before .before .before .before .before .before .before .before .before .before .before .before .before .before .before .before .before .before .before .before .before .before .before .before .before .enters .result) (c .before .before .before .before .before .before .before .before .before .before .before .before .before .before .before .before .before .before .before .before .before .before .before .before .before .before .before .if2 .left)) (pre .0) (c .before .before .before .before .before .before .before .before .before .before .before .before .before .before .before .before .before .before .before .before .before .before .before .before .before .before .before .before .before .before .before .before .slice-known .given) (pre .1) (pre .2) (c .before .before .before .before .before .before .before .before .before .before .before .before .before .before .before .before .before .before .before .before .before .before .before .before .before .enter .last .0) (c .before .before .before .before .before .before .before .before .before .before .before .before .before .before .before .before .before .before .before .before .before .head .given .0 .0) (ap (entering (c .before .before .before .before .before .before .before .before .before .before .before .before .before .before .before .before .before .before .before .before .before .before .before .before .before .enter .last .0)) (sym (c .before .before .before .before .before .before .before .before .before .before .before .before .before .before .before .before .before .before .before .before .before .head .given .1)) ∙ c .before .before .before .before .before .before .before .before .before .before .before .before .before .before .before .before .before .before .before .before .before .before .before .before .before .enter .ensures) (c .before .before .before .before .before .before .before .before .before .before .before .before .before .before .before .fill-page .result) (c .before .before .before .before .before .before .before .before .before .before .before .before .before .before .before .fill-page .last .1 .1 .1 .1 .0) (c .before .before .before .before .before .before .before .before .before .before .before .before .before .before .before .fill-page .last .1 .1 .1 .1 .1 .0) (c .before .before .before .before .before .before .before .before .before .before .before .before .before .before .before .fill-page .ensures) (c .before .before .before .before .before .before .before .before .before .before .run-of .result) (c .before .before .before .before .before .before .before .before .before .before .run-of .ensures) (c .before .before .before .before .before .before .walk-entries .last .0) (c .before .before .before .before .before .before .walk-entries .result) (c .before .before .before .before .before .before .walk-entries .last .1 .1 .1 .1 .1 .1 .1 .0) (c .before .before .before .before .before .before .walk-entries .last .1 .1 .1 .1 .1 .1 .1 .1 .0) (c .before .before .before .before .before .before .walk-entries .ensures)
+walk-page-returns-4 t c =
+    let args = c .before .before .before .before .before .before .before .before .before .before .before .before .before .before .before .before .before .before .before .before .before .before .before .before .before .before .before .before .before .before .before .before .before .args in
+    let pre = c .before .before .before .before .before .before .before .before .before .before .before .before .before .before .before .before .before .before .before .before .before .before .before .before .before .before .before .before .before .before .before .before .before .pre .1 in
+    let deep : 0 < args .level = omega (arith, c .before .before .before .before .before .before .before .before .before .before .before .before .before .before .before .before .before .before .before .before .before .before .before .before .before .before .before .before .before .if1 .left) in
+    let meets = sym (c .before .before .before .before .before .before .before .before .before .before .before .before .before .before .before .before .before .before .before .before .before .before .before .before .before .before .before .before .enters .ensures) ∙ not-false (c .before .before .before .before .before .before .before .before .before .before .before .before .before .before .before .before .before .before .before .before .before .before .before .before .before .before .before .before .enters .result) (c .before .before .before .before .before .before .before .before .before .before .before .before .before .before .before .before .before .before .before .before .before .before .before .before .before .before .before .if2 .left) in
+    let table = c .before .before .before .before .before .before .before .before .before .before .before .before .before .before .before .before .before .before .before .before .before .before .before .before .before .enter .last .0 in
+    let head = c .before .before .before .before .before .before .before .before .before .before .before .before .before .before .before .before .before .before .before .before .before .head .given .0 .0 in
+    let told = ap (entering table) (sym (c .before .before .before .before .before .before .before .before .before .before .before .before .before .before .before .before .before .before .before .before .before .head .given .1)) ∙ c .before .before .before .before .before .before .before .before .before .before .before .before .before .before .before .before .before .before .before .before .before .before .before .before .before .enter .ensures in
+    let filled = c .before .before .before .before .before .before .before .before .before .before .before .before .before .before .before .fill-page in
+    let rest = c .before .before .before .before .before .before .walk-entries in
+    step-page (args .level) (args .n) (args .c) (args .a) (args .above) (args .e) (args .t .now) (args .s) (args .keys .now) (args .records .now)
+    deep meets (pre .0) (c .before .before .before .before .before .before .before .before .before .before .before .before .before .before .before .before .before .before .before .before .before .before .before .before .before .before .before .before .before .before .before .before .slice-known .given) (pre .1) (pre .2) table head told
+    (filled .result) (filled .last .1 .1 .1 .1 .0) (filled .last .1 .1 .1 .1 .1 .0) (filled .ensures)
+    (c .before .before .before .before .before .before .before .before .before .before .run-of .result) (c .before .before .before .before .before .before .before .before .before .before .run-of .ensures) (rest .last .0) (rest .result) (rest .last .1 .1 .1 .1 .1 .1 .1 .0) (rest .last .1 .1 .1 .1 .1 .1 .1 .1 .0) (rest .ensures)
 
 pub +walk-entries+walk-page-spec : {M : Type 1} → statement M
 +walk-entries+walk-page-spec = close μ-walk-entries μ-walk-page (λ t. walk-entries-lts.spec (walk-entries-in t)

@@ -1,3 +1,5 @@
+-- `fill::copy`: so far each list is as it came, with the first j certificates pasted in behind those found.
+-- Assumes nothing.
 use Prim.Native.Nat.{_+_, _-_, _≤_}
 use mathlib.Core.Path.{_≡_, refl, _∙_}
 use lib.ListN.{length, length-set}
@@ -18,7 +20,10 @@ abbrev μ-loop : tie.MeasureT-loop
 μ-loop page first many keys₀ records₀ s at j₀ keys records j = many - j
 
 loop-holds : tie.Need-loop-holds Inv-loop μ-loop
-loop-holds c = (omega arith, refl, refl, paste-zero (c .before .before .before .args .keys .now) (c .before .before .before .args .s .count) (entry.keys (certsFrom (c .before .before .before .args .page .now) (c .before .before .before .args .first) (c .before .before .before .args .many))), paste-zero (c .before .before .before .args .records .now) (c .before .before .before .args .s .count) (recordsOf (certsFrom (c .before .before .before .args .page .now) (c .before .before .before .args .first) (c .before .before .before .args .many))))
+loop-holds c =
+    let args = c .before .before .before .args in
+    let certs = certsFrom (args .page .now) (args .first) (args .many) in
+    (omega arith, refl, refl, paste-zero (args .keys .now) (args .s .count) (entry.keys certs), paste-zero (args .records .now) (args .s .count) (recordsOf certs))
 
 add-cert-key : tie.Need-add-cert-key Inv-loop μ-loop
 add-cert-key c = search needs
@@ -57,7 +62,20 @@ loop-less : tie.Need-loop-less Inv-loop μ-loop
 loop-less c = search needs
 
 loop-again : tie.Need-loop-again Inv-loop μ-loop
-loop-again c = (omega arith, length-set (c .before .before .before .loop .keys) (c .before .before .before .before .before .before .before .args .s .count + c .before .before .before .loop .j) (c .before .cert-key .result) ∙ c .before .before .before .loop .inv .1, length-set (c .before .before .before .loop .records) (c .before .before .before .before .before .before .before .args .s .count + c .before .before .before .loop .j) (c .cert-record .result) ∙ c .before .before .before .loop .inv .2, key-turn (c .before .before .before .before .before .before .before .args .page .now) (c .before .before .before .before .before .before .before .args .first) (c .before .before .before .before .before .before .before .args .many) (c .before .before .before .before .before .before .before .args .keys .now) (c .before .before .before .loop .keys) (c .before .before .before .before .before .before .before .args .s .count) (c .before .before .before .loop .j) (c .before .cert-key .result) (c .before .before .loop-test .taken) (c .before .before .before .before .before .before .before .pre .2) (c .before .before .before .loop .inv .3) (c .before .cert-key .ensures), record-turn (c .before .before .before .before .before .before .before .args .page .now) (c .before .before .before .before .before .before .before .args .first) (c .before .before .before .before .before .before .before .args .many) (c .before .before .before .before .before .before .before .args .records .now) (c .before .before .before .loop .records) (c .before .before .before .before .before .before .before .args .s .count) (c .before .before .before .loop .j) (c .cert-record .result) (c .before .before .loop-test .taken) (c .before .before .before .before .before .before .before .pre .3) (c .before .before .before .loop .inv .4) (c .cert-record .ensures))
+loop-again c =
+    let args = c .before .before .before .before .before .before .before .args in
+    let pre = c .before .before .before .before .before .before .before .pre in
+    let loop = c .before .before .before .loop in
+    let at = args .s .count + loop .j in
+    let key = c .before .cert-key in
+    let value = c .cert-record in
+    let long = length-set (loop .keys) at (key .result) ∙ loop .inv .1 in
+    let wide = length-set (loop .records) at (value .result) ∙ loop .inv .2 in
+    let keys = key-turn (args .page .now) (args .first) (args .many) (args .keys .now) (loop .keys) (args .s .count) (loop .j) (key .result)
+    (c .before .before .loop-test .taken) (pre .2) (loop .inv .3) (key .ensures) in
+    let records = record-turn (args .page .now) (args .first) (args .many) (args .records .now) (loop .records) (args .s .count) (loop .j) (value .result)
+    (c .before .before .loop-test .taken) (pre .3) (loop .inv .4) (value .ensures) in
+    (omega (arith, c .before .before .loop-test .taken), long, wide, keys, records)
 
 add-t17 : tie.Need-add-t17 Inv-loop μ-loop
 add-t17 c = search needs
@@ -69,7 +87,11 @@ same-length-2 : tie.Need-same-length-2 Inv-loop μ-loop
 same-length-2 c = search needs
 
 returns : tie.Need-returns Inv-loop μ-loop
-returns c = copied (c .before .before .before .before .before .args .page .now) (c .before .before .before .before .before .args .first) (c .before .before .before .before .before .args .many) (c .before .before .before .before .before .args .s) (c .before .before .before .before .before .args .keys .now) (c .before .before .before .before .before .args .records .now) (c .before .loop .keys) (c .before .loop .records) (c .before .loop .j) (omega (arith, c .before .loop .inv .0, c .loop-test .left)) (c .before .loop .inv .3) (c .before .loop .inv .4)
+returns c =
+    let args = c .before .before .before .before .before .args in
+    let loop = c .before .loop in
+    copied (args .page .now) (args .first) (args .many) (args .s) (args .keys .now) (args .records .now) (loop .keys) (loop .records) (loop .j)
+    (omega (arith, loop .inv .0, c .loop-test .left)) (loop .inv .3) (loop .inv .4)
 
 pub copy-spec : {M : Type 1} → statement M
 copy-spec =

@@ -1,3 +1,5 @@
+-- `fill::fill`: nothing stands above the root, and nothing was found before it.
+-- Assumes nothing.
 use Rattle.sweep.proofs.Roots.{has-zero, no-above, ready-root}
 use Rattle.fill.proofs.Steps.{known-nothing, whole-walk}
 use native.Mathlib.Omega.{arith}
@@ -6,10 +8,18 @@ use Rattle.fill.proofs.fill.Statement.{statement}
 use Rattle.fill.proofs.fill.Tie as tie
 
 root-place-requires : tie.Need-root-place-requires
-root-place-requires c κs = let args = c .before .before .before .before .args in has-zero (args .n) (args .t .now) (c .before .before .before .before .pre .0) (c .before .before .before .before .pre .1)
+root-place-requires c κs =
+    let args = c .before .before .before .before .args in
+    let pre = c .before .before .before .before .pre in
+    has-zero (args .n) (args .t .now) (pre .0) (pre .1)
 
 walk-page-requires : tie.Need-walk-page-requires
-walk-page-requires c κs = let args = c .before .before .before .before .before .before .before .before .args in (c .before .before .before .before .before .before .before .before .pre .0, no-above, ready-root (args .n) (args .c) (args .t .now) (c .before .before .before .root-place .result) (c .before .before .before .before .before .before .before .before .pre .1) (c .before .before .before .before .before .before .before .slice-known .given) (omega (arith, c .before .before .before .before .before .before .before .before .fits .c)) (c .before .before .before .root-place .ensures), c .before .before .before .before .before .before .before .before .pre .2, known-nothing (args .t .now) (args .keys .now) (args .records .now))
+walk-page-requires c κs =
+    let args = c .before .before .before .before .before .before .before .before .args in
+    let pre = c .before .before .before .before .before .before .before .before .pre in
+    let root = c .before .before .before .root-place in
+    let ready = ready-root (args .n) (args .c) (args .t .now) (root .result) (pre .1) (c .before .before .before .before .before .before .before .slice-known .given) (omega (arith, c .before .before .before .before .before .before .before .before .fits .c)) (root .ensures) in
+    (pre .0, no-above, ready, pre .2, known-nothing (args .t .now) (args .keys .now) (args .records .now))
 
 same-length : tie.Need-same-length
 same-length c = search needs
@@ -21,7 +31,12 @@ same-length-3 : tie.Need-same-length-3
 same-length-3 c = search needs
 
 returns : tie.Need-returns
-returns c = let args = c .before .before .before .before .before .before .before .before .before .before .before .before .before .before .before .args in whole-walk (args .n) (args .c) (args .a) (args .t .now) (args .keys .now) (args .records .now) (c .before .before .before .before .before .before .before .before .before .before .root-place .result) (c .before .before .before .before .before .before .before .before .before .before .root-place .ensures) (c .before .before .before .before .before .before .walk-page .last .0) (c .before .before .before .before .before .before .walk-page .result) (c .before .before .before .before .before .before .walk-page .last .1 .1 .1 .1 .1 .1 .1 .0) (c .before .before .before .before .before .before .walk-page .last .1 .1 .1 .1 .1 .1 .1 .1 .0) (c .before .before .before .before .before .before .walk-page .ensures)
+returns c =
+    let args = c .before .before .before .before .before .before .before .before .before .before .before .before .before .before .before .args in
+    let root = c .before .before .before .before .before .before .before .before .before .before .root-place in
+    let walked = c .before .before .before .before .before .before .walk-page in
+    whole-walk (args .n) (args .c) (args .a) (args .t .now) (args .keys .now) (args .records .now) (root .result) (root .ensures)
+    (walked .last .0) (walked .result) (walked .last .1 .1 .1 .1 .1 .1 .1 .0) (walked .last .1 .1 .1 .1 .1 .1 .1 .1 .0) (walked .ensures)
 
 pub fill-spec : {M : Type 1} → statement M
 fill-spec =

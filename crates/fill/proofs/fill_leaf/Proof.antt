@@ -1,3 +1,5 @@
+-- `fill::fill_leaf`: where keys rise, the certificates asked for are a range by index.
+-- Assumes nothing.
 use mathlib.Core.Path.{ap, _∙_}
 use Rattle.rules.specs.Entry.{Cert}
 use Rattle.fill.specs.Fills.{listed}
@@ -21,7 +23,13 @@ span-requires : tie.Need-span-requires
 span-requires c κs = search needs
 
 copy-requires : tie.Need-copy-requires
-copy-requires c κs = let w = run-within (c .before .before .before .before .before .before .before .before .before .before .args .page .now) (c .before .before .before .before .before .before .before .before .before .before .args .count) (c .before .before .before .before .before .before .before .before .before .before .args .a) (c .before .before .before .before .before .before .before .before .before .before .args .s) (c .before .before .before .before .before .before .before .before .before .before .pre .2) (c .before .before .before .before .before .before .start .result) (c .before .before .before .before .before .spot .result) (c .before .before .span .result) (c .before .before .before .before .before .before .start .ensures) (c .before .before .before .before .before .spot .ensures) (c .before .before .span .ensures) in let r = run-room (c .before .before .before .before .before .before .before .before .before .before .args .a .room) (c .before .before .before .before .before .before .before .before .before .before .args .s .count) (c .before .before .before .before .before .spot .result) (c .before .before .before .before .before .before .start .result) (c .before .before .span .result) (c .before .before .before .before .before .before .before .before .before .before .pre .3) (c .before .before .span .ensures) in (omega (arith, c .before .before .before .before .before .before .before .before .before .before .pre .0), c .before .before .before .before .before .before .before .before .before .before .pre .1, omega (arith, c .before .before .before .before .before .before .before .before .before .before .pre .4 .keys), omega (arith, c .before .before .before .before .before .before .before .before .before .before .pre .4 .records))
+copy-requires c κs =
+    let args = c .before .before .before .before .before .before .before .before .before .before .args in
+    let pre = c .before .before .before .before .before .before .before .before .before .before .pre in
+    let within = run-within (args .page .now) (args .count) (args .a) (args .s) (pre .2) (c .before .before .before .before .before .before .start .result) (c .before .before .before .before .before .spot .result) (c .before .before .span .result)
+    (c .before .before .before .before .before .before .start .ensures) (c .before .before .before .before .before .spot .ensures) (c .before .before .span .ensures) in
+    let room = run-room (args .a .room) (args .s .count) (c .before .before .before .before .before .spot .result) (c .before .before .before .before .before .before .start .result) (c .before .before .span .result) (pre .3) (c .before .before .span .ensures) in
+    (omega (arith, pre .0), pre .1, omega (arith, pre .4 .keys), omega (arith, pre .4 .records))
 
 same-length : tie.Need-same-length
 same-length c = search needs
@@ -30,7 +38,13 @@ same-length-2 : tie.Need-same-length-2
 same-length-2 c = search needs
 
 returns : tie.Need-returns
-returns c = c .before .before .before .before .copy .ensures ∙ ap (λ (xs : List Cert). listed xs (c .before .before .before .before .before .before .before .before .before .before .before .before .before .before .before .args .s) (c .before .before .before .before .before .before .before .before .before .before .before .before .before .before .before .args .keys .now) (c .before .before .before .before .before .before .before .before .before .before .before .before .before .before .before .args .records .now)) (asked-run (c .before .before .before .before .before .before .before .before .before .before .before .before .before .before .before .args .page .now) (c .before .before .before .before .before .before .before .before .before .before .before .before .before .before .before .args .count) (c .before .before .before .before .before .before .before .before .before .before .before .before .before .before .before .args .a) (c .before .before .before .before .before .before .before .before .before .before .before .before .before .before .before .args .s) (c .before .before .before .before .before .before .before .before .before .before .before .before .before .before .before .pre .2) (c .before .before .before .before .before .before .before .before .before .before .before .start .result) (c .before .before .before .before .before .before .before .before .before .before .spot .result) (c .before .before .before .before .before .before .before .span .result) (c .before .before .before .before .before .before .before .before .before .before .before .start .ensures) (c .before .before .before .before .before .before .before .before .before .before .spot .ensures) (c .before .before .before .before .before .before .before .span .ensures))
+returns c =
+    let args = c .before .before .before .before .before .before .before .before .before .before .before .before .before .before .before .args in
+    let pre = c .before .before .before .before .before .before .before .before .before .before .before .before .before .before .before .pre in
+    c .before .before .before .before .copy .ensures
+    ∙ ap (λ (xs : List Cert). listed xs (args .s) (args .keys .now) (args .records .now))
+    (asked-run (args .page .now) (args .count) (args .a) (args .s) (pre .2) (c .before .before .before .before .before .before .before .before .before .before .before .start .result) (c .before .before .before .before .before .before .before .before .before .before .spot .result) (c .before .before .before .before .before .before .before .span .result)
+    (c .before .before .before .before .before .before .before .before .before .before .before .start .ensures) (c .before .before .before .before .before .before .before .before .before .before .spot .ensures) (c .before .before .before .before .before .before .before .span .ensures))
 
 pub fill-leaf-spec : {M : Type 1} → statement M
 fill-leaf-spec =

@@ -1,3 +1,5 @@
+-- `fill::fill_page`: the same on a page of the table.
+-- Assumes nothing.
 use mathlib.Core.Path.{sym, ap, _∙_}
 use mathlib.Core.List.{List}
 use Rattle.rules.specs.Entry.{Cert}
@@ -14,7 +16,11 @@ use Rattle.fill.proofs.fill_page.Statement.{statement}
 use Rattle.fill.proofs.fill_page.Tie as tie
 
 returns : tie.Need-returns
-returns c = listed-none (c .before .before .before .before .before .args .a) (c .before .before .before .before .before .args .s) (c .before .before .before .before .before .args .keys .now) (c .before .before .before .before .before .args .records .now) (read (c .before .before .before .before .before .args .t .now) (c .before .before .before .before .before .args .page) .view .certs) (certs-inner (c .before .before .before .before .before .args .t .now) (c .before .before .before .before .before .args .page) (c .before .before .before .before .before .args .head) (c .before .before .before .before .before .pre .1) (c .if1 .taken))
+returns c =
+    let args = c .before .before .before .before .before .args in
+    let pre = c .before .before .before .before .before .pre in
+    listed-none (args .a) (args .s) (args .keys .now) (args .records .now) (read (args .t .now) (args .page) .view .certs)
+    (certs-inner (args .t .now) (args .page) (args .head) (pre .1) (c .if1 .taken))
 
 mul-from : tie.Need-mul-from
 mul-from c = search needs
@@ -35,7 +41,13 @@ cast-fill-leaf : tie.Need-cast-fill-leaf
 cast-fill-leaf c = search needs
 
 fill-leaf-requires : tie.Need-fill-leaf-requires
-fill-leaf-requires c κs = let l = length-pageAt (c .before .before .before .before .before .before .before .before .before .args .t .now) (c .before .before .before .before .before .before .before .before .before .args .page) (omega arith) in let m = leaf-room (c .before .before .before .before .before .before .before .before .before .args .t .now) (c .before .before .before .before .before .before .before .before .before .args .page) (c .before .before .before .before .before .before .before .before .before .args .head) (c .before .before .before .before .before .before .before .before .before .pre .1) (c .before .before .before .before .if1 .left) (c .before .before .before .before .before .before .before .before .before .pre .2) in rw (page-part (c .before .before .before .before .before .before .before .before .before .args .t .now) (c .before .before .before .before .before .before .before .before .before .args .page)) (omega (arith, l, m), omega (arith, l), leaf-rise (c .before .before .before .before .before .before .before .before .before .args .t .now) (c .before .before .before .before .before .before .before .before .before .args .page) (c .before .before .before .before .before .before .before .before .before .args .head) (c .before .before .before .before .before .before .before .before .before .pre .1) (c .before .before .before .before .if1 .left) (c .before .before .before .before .before .before .before .before .before .pre .2), c .before .before .before .before .before .before .before .before .before .pre .3, c .before .before .before .before .before .before .before .before .before .pre .4)
+fill-leaf-requires c κs =
+    let args = c .before .before .before .before .before .before .before .before .before .args in
+    let pre = c .before .before .before .before .before .before .before .before .before .pre in
+    let long = length-pageAt (args .t .now) (args .page) (omega arith) in
+    let room = leaf-room (args .t .now) (args .page) (args .head) (pre .1) (c .before .before .before .before .if1 .left) (pre .2) in
+    let rise = leaf-rise (args .t .now) (args .page) (args .head) (pre .1) (c .before .before .before .before .if1 .left) (pre .2) in
+    rw (page-part (args .t .now) (args .page)) (omega (arith, long, room), omega (arith, long), rise, pre .3, pre .4)
 
 same-length : tie.Need-same-length
 same-length c = search needs
@@ -44,7 +56,12 @@ same-length-2 : tie.Need-same-length-2
 same-length-2 c = search needs
 
 returns-2 : tie.Need-returns-2
-returns-2 c = rw (page-part (c .before .before .before .before .before .before .before .before .before .before .before .before .before .before .args .t .now) (c .before .before .before .before .before .before .before .before .before .before .before .before .before .before .args .page)) at (c .before .before .before .before .fill-leaf .ensures) ∙ ap (λ (xs : List Cert). listed (asked (c .before .before .before .before .before .before .before .before .before .before .before .before .before .before .args .a) (c .before .before .before .before .before .before .before .before .before .before .before .before .before .before .args .s) xs) (c .before .before .before .before .before .before .before .before .before .before .before .before .before .before .args .s) (c .before .before .before .before .before .before .before .before .before .before .before .before .before .before .args .keys .now) (c .before .before .before .before .before .before .before .before .before .before .before .before .before .before .args .records .now)) (sym (leaf-certs (c .before .before .before .before .before .before .before .before .before .before .before .before .before .before .args .t .now) (c .before .before .before .before .before .before .before .before .before .before .before .before .before .before .args .page) (c .before .before .before .before .before .before .before .before .before .before .before .before .before .before .args .head) (c .before .before .before .before .before .before .before .before .before .before .before .before .before .before .pre .1) (c .before .before .before .before .before .before .before .before .before .if1 .left)))
+returns-2 c =
+    let args = c .before .before .before .before .before .before .before .before .before .before .before .before .before .before .args in
+    let pre = c .before .before .before .before .before .before .before .before .before .before .before .before .before .before .pre in
+    rw (page-part (args .t .now) (args .page)) at (c .before .before .before .before .fill-leaf .ensures)
+    ∙ ap (λ (xs : List Cert). listed (asked (args .a) (args .s) xs) (args .s) (args .keys .now) (args .records .now))
+    (sym (leaf-certs (args .t .now) (args .page) (args .head) (pre .1) (c .before .before .before .before .before .before .before .before .before .if1 .left)))
 
 pub fill-page-spec : {M : Type 1} → statement M
 fill-page-spec =

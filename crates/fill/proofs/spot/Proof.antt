@@ -1,3 +1,5 @@
+-- `fill::spot`: a key at either end tells the spot without halving.
+-- Assumes nothing.
 use Rattle.fill.proofs.Spots.{spot-none, spot-start, spot-end}
 use native.Mathlib.Omega.{arith}
 use borrow.Author.Needs.{needs}

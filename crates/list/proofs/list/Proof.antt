@@ -1,3 +1,5 @@
+-- `list::list`: the rules' tests, one after the other, and then the walks.
+-- Assumes nothing.
 use mathlib.Core.Path.{refl, sym, ap, _∙_}
 use borrow.Author.Tests.{not-true, not-false}
 use Rattle.rules.specs.declared.Asked.{Asked}

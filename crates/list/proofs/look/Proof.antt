@@ -1,3 +1,5 @@
+-- `list::look`: the dry walk tells which of the two other walks is right.
+-- Assumes nothing.
 use mathlib.Core.Path.{_∙_}
 use borrow.Author.Tests.{not-true, not-false}
 use Rattle.rules.specs.Walk.{walkOf}
