@@ -17,25 +17,42 @@ same-length : tie.Need-same-length
 same-length c = search needs
 
 returns : tie.Need-returns
-returns c = let args = c .before .before .before .before .before .before .before .args in bad-length (args .working .now) (args .stable .now) (args .session) (args .start) (args .keys .now) (args .records .now) (sym (c .before .lengths-for .ensures (args .session) refl) ∙ not-true (c .before .lengths-for .result) (c .if1 .taken))
+returns c =
+    let args = c .before .before .before .before .before .before .before .args in
+    bad-length (args .working .now) (args .stable .now) (args .session) (args .start) (args .keys .now) (args .records .now)
+    (sym (c .before .lengths-for .ensures (args .session) refl) ∙ not-true (c .before .lengths-for .result) (c .if1 .taken))
 
 cast-n : tie.Need-cast-n
 cast-n c = search needs
 
 fit0-requires : tie.Need-fit0-requires
-fit0-requires c κs = let args = c .before .before .before .before .before .before .before .before .before .args in let l = lengthsFor-true (args .session) (args .working .now) (args .stable .now) (sym (c .before .before .before .lengths-for .ensures (args .session) refl) ∙ not-false (c .before .before .before .lengths-for .result) (c .before .before .if1 .left)) in omega (arith, l .working, l .least)
+fit0-requires c κs =
+    let args = c .before .before .before .before .before .before .before .before .before .args in
+    let lengths = sym (c .before .before .before .lengths-for .ensures (args .session) refl) ∙ not-false (c .before .before .before .lengths-for .result) (c .before .before .if1 .left) in
+    let sizes = lengthsFor-true (args .session) (args .working .now) (args .stable .now) lengths in
+    omega (arith, sizes .working, sizes .least)
 
 same-length-2 : tie.Need-same-length-2
 same-length-2 c = search needs
 
 returns-2 : tie.Need-returns-2
-returns-2 c = let args = c .before .before .before .before .before .before .before .before .before .before .before .args in bad-zero (args .working .now) (args .stable .now) (args .session) (args .start) (args .keys .now) (args .records .now) (sym (c .before .before .before .before .before .lengths-for .ensures (args .session) refl) ∙ not-false (c .before .before .before .before .before .lengths-for .result) (c .before .before .before .before .if1 .left)) (sym (c .before .fit0 .ensures) ∙ not-true (c .before .fit0 .result) (c .if2 .taken))
+returns-2 c =
+    let args = c .before .before .before .before .before .before .before .before .before .before .before .args in
+    let lengths = sym (c .before .before .before .before .before .lengths-for .ensures (args .session) refl) ∙ not-false (c .before .before .before .before .before .lengths-for .result) (c .before .before .before .before .if1 .left) in
+    bad-zero (args .working .now) (args .stable .now) (args .session) (args .start) (args .keys .now) (args .records .now)
+    lengths (sym (c .before .fit0 .ensures) ∙ not-true (c .before .fit0 .result) (c .if2 .taken))
 
 up-from-requires : tie.Need-up-from-requires
 up-from-requires c κs = search needs
 
 look-requires : tie.Need-look-requires
-look-requires c κs = let args = c .before .before .before .before .before .before .before .before .before .before .before .before .before .before .before .args in let l = lengthsFor-true (args .session) (args .working .now) (args .stable .now) (sym (c .before .before .before .before .before .before .before .before .before .lengths-for .ensures (args .session) refl) ∙ not-false (c .before .before .before .before .before .before .before .before .before .lengths-for .result) (c .before .before .before .before .before .before .before .before .if1 .left)) in (l .working, l .most, sym (c .before .before .before .before .before .fit0 .ensures) ∙ not-false (c .before .before .before .before .before .fit0 .result) (c .before .before .before .before .if2 .left), roomy (c .before .before .before .up-from .result) (args .keys .now) (args .records .now) (ap (λ (a : Asked). a .room) (c .before .before .before .up-from .ensures)))
+look-requires c κs =
+    let args = c .before .before .before .before .before .before .before .before .before .before .before .before .before .before .before .args in
+    let lengths = sym (c .before .before .before .before .before .before .before .before .before .lengths-for .ensures (args .session) refl) ∙ not-false (c .before .before .before .before .before .before .before .before .before .lengths-for .result) (c .before .before .before .before .before .before .before .before .if1 .left) in
+    let zero = sym (c .before .before .before .before .before .fit0 .ensures) ∙ not-false (c .before .before .before .before .before .fit0 .result) (c .before .before .before .before .if2 .left) in
+    let sizes = lengthsFor-true (args .session) (args .working .now) (args .stable .now) lengths in
+    let room = ap (λ (a : Asked). a .room) (c .before .before .before .up-from .ensures) in
+    (sizes .working, sizes .most, zero, roomy (c .before .before .before .up-from .result) (args .keys .now) (args .records .now) room)
 
 same-length-3 : tie.Need-same-length-3
 same-length-3 c = search needs
@@ -47,7 +64,14 @@ same-length-5 : tie.Need-same-length-5
 same-length-5 c = search needs
 
 returns-3 : tie.Need-returns-3
-returns-3 c = let args = c .before .before .before .before .before .before .before .before .before .before .before .before .before .before .before .before .before .before .before .before .before .before .args in answers (args .working .now) (args .stable .now) (args .session) (args .start) (args .keys .now) (args .records .now) (sym (c .before .before .before .before .before .before .before .before .before .before .before .before .before .before .before .before .lengths-for .ensures (args .session) refl) ∙ not-false (c .before .before .before .before .before .before .before .before .before .before .before .before .before .before .before .before .lengths-for .result) (c .before .before .before .before .before .before .before .before .before .before .before .before .before .before .before .if1 .left)) (sym (c .before .before .before .before .before .before .before .before .before .before .before .before .fit0 .ensures) ∙ not-false (c .before .before .before .before .before .before .before .before .before .before .before .before .fit0 .result) (c .before .before .before .before .before .before .before .before .before .before .before .if2 .left)) (c .before .before .before .before .before .before .before .before .before .before .up-from .result) (c .before .before .before .before .before .before .before .before .before .before .up-from .ensures) (c .before .before .before .before .before .before .look .last .0) (c .before .before .before .before .before .before .look .result) (c .before .before .before .before .before .before .look .last .1 .1 .1 .1 .0) (c .before .before .before .before .before .before .look .last .1 .1 .1 .1 .1 .0) (c .before .before .before .before .before .before .look .ensures)
+returns-3 c =
+    let args = c .before .before .before .before .before .before .before .before .before .before .before .before .before .before .before .before .before .before .before .before .before .before .args in
+    let lengths = sym (c .before .before .before .before .before .before .before .before .before .before .before .before .before .before .before .before .lengths-for .ensures (args .session) refl) ∙ not-false (c .before .before .before .before .before .before .before .before .before .before .before .before .before .before .before .before .lengths-for .result) (c .before .before .before .before .before .before .before .before .before .before .before .before .before .before .before .if1 .left) in
+    let zero = sym (c .before .before .before .before .before .before .before .before .before .before .before .before .fit0 .ensures) ∙ not-false (c .before .before .before .before .before .before .before .before .before .before .before .before .fit0 .result) (c .before .before .before .before .before .before .before .before .before .before .before .if2 .left) in
+    let told = c .before .before .before .before .before .before .look in
+    answers (args .working .now) (args .stable .now) (args .session) (args .start) (args .keys .now) (args .records .now)
+    lengths zero (c .before .before .before .before .before .before .before .before .before .before .up-from .result) (c .before .before .before .before .before .before .before .before .before .before .up-from .ensures)
+    (told .last .0) (told .result) (told .last .1 .1 .1 .1 .0) (told .last .1 .1 .1 .1 .1 .0) (told .ensures)
 
 pub list-spec : {M : Type 1} → statement M
 list-spec =

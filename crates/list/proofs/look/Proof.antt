@@ -19,7 +19,13 @@ same-length : tie.Need-same-length
 same-length c = search needs
 
 returns : tie.Need-returns
-returns c = let args = c .before .before .before .before .before .before .before .before .before .before .before .args in tell-damaged (args .keys .now) (args .records .now) (walkOf (args .n) (args .c) (args .a) (args .t .now)) (known-ahead (args .n) (args .c) (args .a) (args .t .now) (c .before .before .before .before .before .before .before .before .before .before .before .pre .2) (c .before .before .before .before .before .before .before .before .before .before .before .pre .0) (c .before .before .before .before .before .before .before .before .before .before .before .pre .1) (c .before .before .before .before .before .before .before .before .before .before .slice-known .given) (omega (arith, c .before .before .before .before .before .before .before .before .before .before .before .fits .c)) (c .before .before .before .before .before .before .dry-of .result) (c .before .before .before .before .before .before .dry-of .ensures) ∙ not-true (c .before .before .before .before .before .before .dry-of .result .whole) (c .before .before .before .before .if1 .taken)) (c .before .before .sweep .last .0) (c .before .before .sweep .result) (c .before .before .sweep .ensures)
+returns c =
+    let args = c .before .before .before .before .before .before .before .before .before .before .before .args in
+    let pre = c .before .before .before .before .before .before .before .before .before .before .before .pre in
+    let ahead = c .before .before .before .before .before .before .dry-of in
+    let same = known-ahead (args .n) (args .c) (args .a) (args .t .now) (pre .2) (pre .0) (pre .1) (c .before .before .before .before .before .before .before .before .before .before .slice-known .given) (omega (arith, c .before .before .before .before .before .before .before .before .before .before .before .fits .c)) (ahead .result) (ahead .ensures) in
+    tell-damaged (args .keys .now) (args .records .now) (walkOf (args .n) (args .c) (args .a) (args .t .now)) (same ∙ not-true (ahead .result .whole) (c .before .before .before .before .if1 .taken))
+    (c .before .before .sweep .last .0) (c .before .before .sweep .result) (c .before .before .sweep .ensures)
 
 fill-requires : tie.Need-fill-requires
 fill-requires c κs = search needs
@@ -34,7 +40,14 @@ same-length-4 : tie.Need-same-length-4
 same-length-4 c = search needs
 
 returns-2 : tie.Need-returns-2
-returns-2 c = let args = c .before .before .before .before .before .before .before .before .before .before .before .before .before .before .before .before .before .args in tell-filled (args .keys .now) (args .records .now) (walkOf (args .n) (args .c) (args .a) (args .t .now)) (known-ahead (args .n) (args .c) (args .a) (args .t .now) (c .before .before .before .before .before .before .before .before .before .before .before .before .before .before .before .before .before .pre .2) (c .before .before .before .before .before .before .before .before .before .before .before .before .before .before .before .before .before .pre .0) (c .before .before .before .before .before .before .before .before .before .before .before .before .before .before .before .before .before .pre .1) (c .before .before .before .before .before .before .before .before .before .before .before .before .before .before .before .before .slice-known .given) (omega (arith, c .before .before .before .before .before .before .before .before .before .before .before .before .before .before .before .before .before .fits .c)) (c .before .before .before .before .before .before .before .before .before .before .before .before .dry-of .result) (c .before .before .before .before .before .before .before .before .before .before .before .before .dry-of .ensures) ∙ not-false (c .before .before .before .before .before .before .before .before .before .before .before .before .dry-of .result .whole) (c .before .before .before .before .before .before .before .before .before .before .if1 .left)) (c .before .before .before .before .before .before .fill .last .0) (c .before .before .before .before .before .before .fill .result) (c .before .before .before .before .before .before .fill .last .1 .1 .1 .1 .0) (c .before .before .before .before .before .before .fill .last .1 .1 .1 .1 .1 .0) (c .before .before .before .before .before .before .fill .ensures)
+returns-2 c =
+    let args = c .before .before .before .before .before .before .before .before .before .before .before .before .before .before .before .before .before .args in
+    let pre = c .before .before .before .before .before .before .before .before .before .before .before .before .before .before .before .before .before .pre in
+    let ahead = c .before .before .before .before .before .before .before .before .before .before .before .before .dry-of in
+    let same = known-ahead (args .n) (args .c) (args .a) (args .t .now) (pre .2) (pre .0) (pre .1) (c .before .before .before .before .before .before .before .before .before .before .before .before .before .before .before .before .slice-known .given) (omega (arith, c .before .before .before .before .before .before .before .before .before .before .before .before .before .before .before .before .before .fits .c)) (ahead .result) (ahead .ensures) in
+    let filled = c .before .before .before .before .before .before .fill in
+    tell-filled (args .keys .now) (args .records .now) (walkOf (args .n) (args .c) (args .a) (args .t .now)) (same ∙ not-false (ahead .result .whole) (c .before .before .before .before .before .before .before .before .before .before .if1 .left))
+    (filled .last .0) (filled .result) (filled .last .1 .1 .1 .1 .0) (filled .last .1 .1 .1 .1 .1 .0) (filled .ensures)
 
 pub look-spec : {M : Type 1} → statement M
 look-spec =
