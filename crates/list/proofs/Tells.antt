@@ -37,9 +37,9 @@ module _ (start keys records : ℕ) where
 
 -- the dry walk is whole exactly where the walk is
 pub known-ahead : (n c : ℕ) (a : Asked) (t : List ℕ) → fit0 n t ≡ true → length t ≡ n * pageSize → n ≤ mostPages → Bytes t → c < 256 ^ 4
-    → (d : Dry) → d ≡ dryOf n a t → walkOf n c a t .whole ≡ d .whole
+    → (d : Dry) → d ≡ dryOf n a t → d .whole ≡ walkOf n c a t .whole
 known-ahead n c a t fit long most bytes narrow d e =
-    sym (dry-whole n t fit long c a most bytes narrow) ∙ sym (ap (λ (x : Dry). x .whole) e)
+    ap (λ (x : Dry). x .whole) e ∙ dry-whole n t fit long c a most bytes narrow
 
 module _ (ks xs : List ℕ) (w : Walked) where
   -- where damage lies ahead, the walk that only mends leaves the lists alone

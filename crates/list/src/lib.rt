@@ -14,11 +14,11 @@ use rules::Listing;
 use rules::Session;
 ghost use mathlib.Core.Path.{_≡_};
 ghost use mathlib.Core.Bool.{true};
-ghost use Prim.Native.Nat.{min, _*_, _≤_};
+ghost use Prim.Native.Nat.{ℕ, min, _*_, _^_, _≤_, _<_};
 ghost use lib.ListN.{length};
 ghost use Rattle.rules.specs.Layout.{pageSize, mostPages, lastKey};
 ghost use Rattle.rules.specs.Table.{fit0};
-ghost use Rattle.rules.specs.Walk.{walkOf};
+ghost use Rattle.rules.specs.Walk.{Walked, walkOf};
 ghost use Rattle.rules.specs.List as rules;
 ghost use Rattle.fill.specs.Fills.{Roomy};
 ghost use Rattle.list.specs.Lists.{leaving, telling, told};
@@ -41,14 +41,22 @@ fn up_from(start: u64, keys: usize, records: usize) -> Asked
     }
 }
 
+// Whether the walk will meet no damaged place, known before a byte is written.
+fn whole_ahead(t: &[u8], n: usize, a: Asked) -> bool
+    requires { ⌜ (length (now t) ≡ n * pageSize) × (n ≤ mostPages) × (fit0 n (now t) ≡ true) ⌝ }
+    ensures { λ r. ⌜ ((c : ℕ) → c < 256 ^ 4 → r ≡ walkOf n c a (now (t .entry)) .whole) ⌝ }
+{
+    let ahead = dry::dry_of(t, n, a);
+    ahead.whole
+}
+
 // The certificates of a range.
 fn look(t: &mut [u8], n: usize, c: u32, a: Asked, keys: &mut [u64], records: &mut [u32]) -> Listed
     requires { ⌜ (length (now t) ≡ n * pageSize) × (n ≤ mostPages) × (fit0 n (now t) ≡ true) × Roomy a (now keys) (now records) ⌝ }
     ensures { λ r. ⌜ telling (now (t .exit)) r (now (keys .exit)) (now (records .exit))
         ≡ told (now (keys .entry)) (now (records .entry)) (walkOf n c a (now (t .entry))) ⌝ }
 {
-    let ahead = dry::dry_of(t, n, a);
-    if !ahead.whole {
+    if !whole_ahead(t, n, a) {
         sweep::sweep(t, n, c, a);
         return Listed::Damaged;
     }

@@ -1,16 +1,16 @@
--- `list::look`: the dry walk tells which of the two other walks is right.
+-- `list::look`: what lies ahead tells which of the two walks is right.
 -- Assumes nothing.
-use mathlib.Core.Path.{_∙_}
+use mathlib.Core.Path.{sym, _∙_}
 use borrow.Author.Tests.{not-true, not-false}
 use Rattle.rules.specs.Walk.{walkOf}
-use Rattle.list.proofs.Tells.{known-ahead, tell-damaged, tell-filled}
+use Rattle.list.proofs.Tells.{tell-damaged, tell-filled}
 use native.Mathlib.Omega.{arith}
 use borrow.Author.Needs.{needs}
 use Rattle.list.proofs.look.Statement.{statement}
 use Rattle.list.proofs.look.Tie as tie
 
-dry-of-requires : tie.Need-dry-of-requires
-dry-of-requires c κs = search needs
+whole-ahead-requires : tie.Need-whole-ahead-requires
+whole-ahead-requires c κs = search needs
 
 sweep-requires : tie.Need-sweep-requires
 sweep-requires c κs = search needs
@@ -20,11 +20,10 @@ same-length c = search needs
 
 returns : tie.Need-returns
 returns c =
-    let args = c .before .before .before .before .before .before .before .before .before .before .before .args in
-    let pre = c .before .before .before .before .before .before .before .before .before .before .before .pre in
-    let ahead = c .before .before .before .before .before .before .dry-of in
-    let same = known-ahead (args .n) (args .c) (args .a) (args .t .now) (pre .2) (pre .0) (pre .1) (c .before .before .before .before .before .before .before .before .before .before .slice-known .given) (omega (arith, c .before .before .before .before .before .before .before .before .before .before .before .fits .c)) (ahead .result) (ahead .ensures) in
-    tell-damaged (args .keys .now) (args .records .now) (walkOf (args .n) (args .c) (args .a) (args .t .now)) (same ∙ not-true (ahead .result .whole) (c .before .before .before .before .if1 .taken))
+    let args = c .before .before .before .before .before .before .before .before .before .before .args in
+    let ahead = c .before .before .before .before .before .whole-ahead in
+    let damaged = sym (ahead .ensures (args .c) (omega (arith, c .before .before .before .before .before .before .before .before .before .before .fits .c))) ∙ not-true (ahead .result) (c .before .before .before .before .if1 .taken) in
+    tell-damaged (args .keys .now) (args .records .now) (walkOf (args .n) (args .c) (args .a) (args .t .now)) damaged
     (c .before .before .sweep .last .0) (c .before .before .sweep .result) (c .before .before .sweep .ensures)
 
 fill-requires : tie.Need-fill-requires
@@ -41,19 +40,18 @@ same-length-4 c = search needs
 
 returns-2 : tie.Need-returns-2
 returns-2 c =
-    let args = c .before .before .before .before .before .before .before .before .before .before .before .before .before .before .before .before .before .args in
-    let pre = c .before .before .before .before .before .before .before .before .before .before .before .before .before .before .before .before .before .pre in
-    let ahead = c .before .before .before .before .before .before .before .before .before .before .before .before .dry-of in
-    let same = known-ahead (args .n) (args .c) (args .a) (args .t .now) (pre .2) (pre .0) (pre .1) (c .before .before .before .before .before .before .before .before .before .before .before .before .before .before .before .before .slice-known .given) (omega (arith, c .before .before .before .before .before .before .before .before .before .before .before .before .before .before .before .before .before .fits .c)) (ahead .result) (ahead .ensures) in
+    let args = c .before .before .before .before .before .before .before .before .before .before .before .before .before .before .before .before .args in
+    let ahead = c .before .before .before .before .before .before .before .before .before .before .before .whole-ahead in
+    let whole = sym (ahead .ensures (args .c) (omega (arith, c .before .before .before .before .before .before .before .before .before .before .before .before .before .before .before .before .fits .c))) ∙ not-false (ahead .result) (c .before .before .before .before .before .before .before .before .before .before .if1 .left) in
     let filled = c .before .before .before .before .before .before .fill in
-    tell-filled (args .keys .now) (args .records .now) (walkOf (args .n) (args .c) (args .a) (args .t .now)) (same ∙ not-false (ahead .result .whole) (c .before .before .before .before .before .before .before .before .before .before .if1 .left))
+    tell-filled (args .keys .now) (args .records .now) (walkOf (args .n) (args .c) (args .a) (args .t .now)) whole
     (filled .last .0) (filled .result) (filled .last .1 .1 .1 .1 .0) (filled .last .1 .1 .1 .1 .1 .0) (filled .ensures)
 
 pub look-spec : {M : Type 1} → statement M
 look-spec =
     tie.close
     (tie.spec
-    dry-of-requires
+    whole-ahead-requires
     sweep-requires
     same-length
     returns
