@@ -16,6 +16,7 @@ use Rattle.rules.specs.declared.Session.{Session}
 use Rattle.rules.proofs.Tests.{not-both}
 use Rattle.answers.specs.Given.{Cause, Given, _when_}
 use Rattle.answers.specs.Causes.{insertCauses, entered, Present, SyncFirst, Full}
+use Rattle.answers.proofs.Meets.{none-damage}
 use Rattle.answers.proofs.Tells.{
   bad-lengths,
   good-lengths,
@@ -83,7 +84,7 @@ module _ (w t : List ℕ) (s : Session) (model serial issue x : ℕ) where
       go true p true q false o steps h =
           inr (good-lengths w t s p, inr (good-key model serial issue q, inl (rw (p, insert, q, o), inl o)))
       go true p true q true o none h =
-          inr (good-lengths w t s p, inr (good-key model serial issue q, inl (rw (p, insert, q, o, insertKey, h), inr h)))
+          inr (good-lengths w t s p, inr (good-key model serial issue q, inl (rw (p, insert, q, o, insertKey, h), inr (none-damage (s .n) (s .c) k w h))))
       go true p true q true o (some steps) h =
           inr (
             good-lengths w t s p,

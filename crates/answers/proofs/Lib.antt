@@ -1,5 +1,6 @@
 -- Each file uses only those above it.
 pub mod Exactly
+pub mod Meets
 pub mod Tells
 pub mod Ends
 pub mod Looks

@@ -16,6 +16,7 @@ use Rattle.rules.specs.declared.Session.{Session}
 use Rattle.rules.specs.declared.Looked.{Looked}
 use Rattle.answers.specs.Given.{Given}
 use Rattle.answers.specs.Causes.{lookupCauses, under}
+use Rattle.answers.proofs.Meets.{none-damage}
 use Rattle.answers.proofs.Tells.{bad-lengths, good-lengths, bad-key, good-key, whole-way, under-steps}
 
 module _ (w t : List ℕ) (s : Session) (model serial issue : ℕ) where
@@ -66,7 +67,7 @@ module _ (w t : List ℕ) (s : Session) (model serial issue : ℕ) where
       go true p true q false o steps h =
           inr (good-lengths w t s p, inr (good-key model serial issue q, inl (rw (p, lookup, q, o), inl o)))
       go true p true q true o none h =
-          inr (good-lengths w t s p, inr (good-key model serial issue q, inl (rw (p, lookup, q, o, lookupKey, h), inr h)))
+          inr (good-lengths w t s p, inr (good-key model serial issue q, inl (rw (p, lookup, q, o, lookupKey, h), inr (none-damage (s .n) (s .c) k w h))))
       go true p true q true o (some steps) h = found p q o steps h (find k (certsAt steps)) refl
 
   -- done: the answer is the record that stands under the key

@@ -14,7 +14,7 @@ use Rattle.rules.specs.Insert.{insert, insertKey, insertAlong, insertDone, inse
 use Rattle.rules.specs.declared.Session.{Session}
 use Rattle.rules.specs.declared.Inserted.{Inserted}
 use Rattle.rules.proofs.Refusals as rules
-use Rattle.answers.specs.Mends.{MendedBy, nothing}
+use Rattle.answers.specs.OneKey.{MendedBy, nothing}
 use Rattle.answers.specs.Demand1.{Refused, WalkMended}
 use Rattle.answers.proofs.Walks.{way-mended}
 

@@ -25,6 +25,7 @@ use Rattle.rules.specs.declared.Asked.{Asked}
 use Rattle.rules.proofs.Tests.{and-left, and-right, or-cases, or-left, or-right, and-of, not-both}
 use Rattle.rules.proofs.Keys.{Good, goodParts-true}
 use Rattle.rules.proofs.Lengths.{Tables, goodLengths-true, tables-good, lengthsFor-true, tables-lengthsFor}
+use Rattle.answers.proofs.Meets.{damage-none}
 use Rattle.answers.specs.Causes.{
   BadTables,
   BadLengths,
@@ -133,7 +134,7 @@ module _ (s : Session) (k : ℕ) (w : List ℕ) where
   pub whole-way : fit0 (s .n) w ≡ true → (steps : List Step) → wayOf (s .n) (s .c) k w .steps ≡ some steps
       → DamagedWay s k w → ⊥
   whole-way o steps h (inl e) = not-both o e
-  whole-way o steps h (inr e) = Option·none-ne-some steps (sym e ∙ h)
+  whole-way o steps h (inr e) = Option·none-ne-some steps (sym (damage-none (s .n) (s .c) k w e) ∙ h)
 
   pub entered-steps : (steps : List Step) → wayOf (s .n) (s .c) k w .steps ≡ some steps → entered s k w ≡ steps
   unfolding stepsIn

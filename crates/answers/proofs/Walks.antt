@@ -11,10 +11,10 @@ use Rattle.rules.specs.Place.{rootPlace, kids, pick, fits, mendable}
 use Rattle.rules.specs.Enter.{Entered, mend, enter}
 use Rattle.rules.specs.Walk.{Step, Way, numbers, descend, wayOf}
 use Rattle.rules.specs.declared.Place.{Place}
-use Rattle.answers.specs.Mends.{Comes, root, below, MendedBy, nothing, also}
+use Rattle.answers.specs.OneKey.{Reaches, MendedBy, nothing, also}
 
 module _ (n c k : ℕ) (t : List ℕ) where
-  enter-mended : (above : List Step) (u : List ℕ) (e : Place) → Comes n c k t above u e
+  enter-mended : (above : List Step) (u : List ℕ) (e : Place) → Reaches n c k t above u e
       → MendedBy n c k t u → MendedBy n c k t (enter n c (numbers above) u e .table)
   unfolding enter mend
   enter-mended above u e at m =
@@ -25,11 +25,11 @@ module _ (n c k : ℕ) (t : List ℕ) where
           → MendedBy n c k t (enter n c (numbers above) u e .table)
       go true p b q d o = rw (p, enter) m
       go false p true q d o = rw (p, enter, q) m
-      go false p false q true o = rw (p, enter, q, mend, o) (also m at p q o)
+      go false p false q true o = rw (p, enter, q, mend, o) (also m above e at p q o)
       go false p false q false o = rw (p, enter, q, mend, o) m
 
   -- one step down, given what the rest of the walk does
-  descend-step : (level : ℕ) (above : List Step) (u : List ℕ) (e : Place) → Comes n c k t above u e → MendedBy n c k t u
+  descend-step : (level : ℕ) (above : List Step) (u : List ℕ) (e : Place) → Reaches n c k t above u e → MendedBy n c k t u
       → ((p : Page) → enter n c (numbers above) u e .page ≡ some p → (e′ : Place) → pick k (kids e (p .view)) ≡ some e′
       → MendedBy n c k t
       (descend level n c k (record { place = e; page = p } ∷ above) (enter n c (numbers above) u e .table) e′ .table))
@@ -48,7 +48,7 @@ module _ (n c k : ℕ) (t : List ℕ) where
       found none h = rw (descend, h) (enter-mended above u e at m)
       found (some p) h = picked p h (pick k (kids e (p .view))) refl
 
-  descend-mended : (level : ℕ) (above : List Step) (u : List ℕ) (e : Place) → Comes n c k t above u e
+  descend-mended : (level : ℕ) (above : List Step) (u : List ℕ) (e : Place) → Reaches n c k t above u e
       → MendedBy n c k t u → MendedBy n c k t (descend level n c k above u e .table)
   unfolding descend
   descend-mended zero above u e at m = m
@@ -56,8 +56,8 @@ module _ (n c k : ℕ) (t : List ℕ) where
       descend-step level above u e at m
       (λ p h e′ q.
       descend-mended level (record { place = e; page = p } ∷ above) (enter n c (numbers above) u e .table) e′
-      (below at p h e′ q) (enter-mended above u e at m))
+      (u, at, (λ i. record { table = enter n c (numbers above) u e .table; page = h i }), q) (enter-mended above u e at m))
 
   pub way-mended : MendedBy n c k t (wayOf n c k t .table)
   unfolding wayOf
-  way-mended = descend-mended 3 [] t (rootPlace t) root nothing
+  way-mended = descend-mended 3 [] t (rootPlace t) (refl, refl) nothing

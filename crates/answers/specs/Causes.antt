@@ -20,6 +20,7 @@ use Rattle.rules.specs.declared.Session.{Session}
 use Rattle.rules.specs.declared.Asked.{Asked}
 use Rattle.rules.proofs.Lengths.{Tables}
 use Rattle.answers.specs.Given.{Cause, _when_}
+use Rattle.answers.specs.OneKey.{MeetsDamage}
 
 -- ── 1 length ────────────────────────────────────────────────────────────────────────────────────────────────────
 
@@ -43,9 +44,9 @@ BadMeter model serial = (model ≡ 0) ⊎ (serial ≡ 0)
 
 -- ── 3 damaged ───────────────────────────────────────────────────────────────────────────────────────────────────
 
--- page 0 is unfit, or a place entered on the way of a key is damaged
+-- page 0 is unfit, or a place that the walk of a key enters is damaged
 abbrev pub DamagedWay : Session → ℕ → List ℕ → Type 0
-DamagedWay s k w = (fit0 (s .n) w ≡ false) ⊎ (wayOf (s .n) (s .c) k w .steps ≡ none)
+DamagedWay s k w = (fit0 (s .n) w ≡ false) ⊎ MeetsDamage (s .n) (s .c) k w
 
 -- page 0 is unfit, or a place entered in a range is damaged
 abbrev pub DamagedRange : Session → Asked → List ℕ → Type 0

@@ -33,7 +33,7 @@ use Rattle.rules.specs.declared.Looked.{Looked}
 use Rattle.rules.specs.declared.Newest.{Newest}
 use Rattle.rules.specs.declared.Listed.{Listed}
 use Rattle.rules.proofs.Refusals.{Unchanged}
-use Rattle.answers.specs.Mends.{MendedBy}
+use Rattle.answers.specs.OneKey.{MendedBy}
 
 -- ── Words ───────────────────────────────────────────────────────────────────────────────────────────────────────
 

@@ -1,0 +1,164 @@
+-- The walk of a key has no pages to show exactly when it meets a damaged place: its level never runs out.
+-- Assumes nothing.
+use Prim.Native.Nat.{ℕ, zero, suc, _≤_}
+use native.Mathlib.Omega.{arith}
+use mathlib.Core.Path.{_≡_, refl, sym, ap, _∙_}
+use mathlib.Core.Logic.{_⊎_, inl, inr}
+use mathlib.Core.Bool.{Bool, true, false}
+use mathlib.Core.List.{List, [], _∷_}
+use mathlib.Core.Option.{Option, some, none, Option·none-ne-some, Option·some-injective}
+use Rattle.rules.specs.Layout.{topKind}
+use Rattle.rules.specs.Test.{mem}
+use Rattle.rules.specs.Page.{View, Page, fresh}
+use Rattle.rules.specs.Table.{read}
+use Rattle.rules.specs.Place.{rootPlace, kids, pick, fits, mendable, mended, show}
+use Rattle.rules.specs.Enter.{Entered, mend, enter}
+use Rattle.rules.specs.Walk.{Step, Way, numbers, descend, wayOf}
+use Rattle.rules.specs.declared.Place.{Place}
+use Rattle.rules.proofs.Kids.{shown-kind, shown-want, kid-want}
+use Rattle.answers.specs.OneKey.{Reaches, MeetsDamage}
+
+-- ── A page entered is what its place shows ──────────────────────────────────────────────────────────────────────
+
+module _ (n c : ℕ) (above : List ℕ) (t : List ℕ) (e : Place) where
+  pub enter-shows : (p : Page) → enter n c above t e .page ≡ some p → show n t e ≡ some (p .view)
+  unfolding enter mend show mended fresh
+  enter-shows p h =
+      go (mem (e .child) above) refl (fits n e (read t (e .child))) refl (mendable n e (read t (e .previous))) refl
+    where
+      go : (a : Bool) → mem (e .child) above ≡ a → (b : Bool) → fits n e (read t (e .child)) ≡ b
+          → (d : Bool) → mendable n e (read t (e .previous)) ≡ d → show n t e ≡ some (p .view)
+      go true m b f d g = absurd (Option·none-ne-some p (rw (m, enter) at h))
+      go false m true f d g =
+          rw (f, show) (ap (λ (x : Page). some (x .view)) (Option·some-injective (read t (e .child)) p (rw (m, enter, f) at h)))
+      go false m false f true g =
+          rw (f, show, g)
+          (ap (λ (x : Page). some (x .view))
+          (Option·some-injective (mended c e (read t (e .previous))) p (rw (m, enter, f, mend, g) at h)))
+      go false m false f false g = absurd (Option·none-ne-some p (rw (m, enter, f, mend, g) at h))
+
+-- ── The level never runs out ────────────────────────────────────────────────────────────────────────────────────
+
+-- any kind is asked for at the top, and a kind of a page, at most the level, below it
+abbrev pub Deep : ℕ → Place → Type 0
+Deep level e = ((e .want ≡ 0) × (level ≡ topKind)) ⊎ ((1 ≤ e .want) × (e .want ≤ level))
+
+pub not-out : (e : Place) → Deep 0 e → ⊥
+not-out e (inl d) = omega arith
+not-out e (inr d) = omega arith
+
+module _ (n c k : ℕ) (above : List ℕ) (t : List ℕ) (level : ℕ) (e : Place) (d : Deep (suc level) e) where
+  pub deep-below : (p : Page) → enter n c above t e .page ≡ some p → (e′ : Place) → pick k (kids e (p .view)) ≡ some e′
+      → Deep level e′
+  deep-below p h e′ q = go d (shown-want n t e (p .view) s)
+    where
+      s : show n t e ≡ some (p .view)
+      s = enter-shows n c above t e p h
+
+      go : Deep (suc level) e → (e .want ≡ 0) ⊎ (e .want ≡ p .view .kind) → Deep level e′
+      go (inl d) w =
+          let r = kid-want n t e (p .view) s k e′ q in
+          let m = shown-kind n t e (p .view) s in
+          inr (r .0, omega (arith, r .1, m .1, d .1))
+      go (inr d) (inl w) = absurd (omega (arith, d .0))
+      go (inr d) (inr w) =
+          let r = kid-want n t e (p .view) s k e′ q in
+          inr (r .0, omega (arith, r .1, d .1))
+
+-- ── One step of the walk ────────────────────────────────────────────────────────────────────────────────────────
+
+module _ (level n c k : ℕ) (above : List Step) (t : List ℕ) (e : Place) where
+  descend-damaged : enter n c (numbers above) t e .page ≡ none → descend (suc level) n c k above t e .steps ≡ none
+  unfolding descend
+  descend-damaged h = rw (descend, h)
+
+  module _ (p : Page) (h : enter n c (numbers above) t e .page ≡ some p) where
+    abbrev here : Step
+    here = record { place = e; page = p }
+
+    descend-ends : pick k (kids e (p .view)) ≡ none → descend (suc level) n c k above t e .steps ≡ some (here ∷ above)
+    unfolding descend
+    descend-ends q = rw (descend, h, q)
+
+    descend-below : (e′ : Place) → pick k (kids e (p .view)) ≡ some e′
+        → descend (suc level) n c k above t e ≡ descend level n c k (here ∷ above) (enter n c (numbers above) t e .table) e′
+    unfolding descend
+    descend-below e′ q = rw (descend, h, q)
+
+-- ── Where the walk stands when it reaches a place ───────────────────────────────────────────────────────────────
+
+module _ (n c k : ℕ) (t : List ℕ) where
+  record Standing (above : List Step) (u : List ℕ) (e : Place) : Type 0 where
+    level : ℕ
+    rest : wayOf n c k t ≡ descend level n c k above u e
+    deep : Deep level e
+
+  standing-below : (s : Step) (above : List Step) (v u : List ℕ) (e : Place)
+      → enter n c (numbers above) v (s .place) ≡ record { table = u; page = some (s .page) }
+      → pick k (kids (s .place) (s .page .view)) ≡ some e
+      → (level : ℕ) → wayOf n c k t ≡ descend level n c k above v (s .place) → Deep level (s .place)
+      → Standing (s ∷ above) u e
+  standing-below s above v u e h q zero rest deep = absurd (not-out (s .place) deep)
+  standing-below s above v u e h q (suc level) rest deep =
+      let p : enter n c (numbers above) v (s .place) .page ≡ some (s .page) = ap (λ (x : Entered). x .page) h in
+      record {
+        level = level;
+        rest = rest ∙ (descend-below level n c k above v (s .place) (s .page) p e q
+            ∙ ap (λ (x : Entered). descend level n c k (s ∷ above) (x .table) e) h);
+        deep = deep-below n c k (numbers above) v level (s .place) deep (s .page) p e q;
+      }
+
+  standing : (above : List Step) (u : List ℕ) (e : Place) → Reaches n c k t above u e → Standing above u e
+  unfolding wayOf rootPlace
+  standing [] u e r = record {
+    level = topKind;
+    rest = rw (r .0, r .1);
+    deep = inl (ap (λ (x : Place). x .want) (r .1), refl);
+  }
+  standing (s ∷ above) u e r =
+      let x = standing above (r .0) (s .place) (r .1) in
+      standing-below s above (r .0) u e (r .2) (r .3) (x .level) (x .rest) (x .deep)
+
+-- ── No pages to show: a damaged place was met ───────────────────────────────────────────────────────────────────
+
+  pub damage-none : MeetsDamage n c k t → wayOf n c k t .steps ≡ none
+  damage-none m = go (standing (m .above) (m .table) (m .place) (m .reached))
+    where
+      at : (level : ℕ) → wayOf n c k t ≡ descend level n c k (m .above) (m .table) (m .place) → Deep level (m .place)
+          → wayOf n c k t .steps ≡ none
+      at zero rest deep = absurd (not-out (m .place) deep)
+      at (suc level) rest deep =
+          ap (λ (x : Way). x .steps) rest ∙ descend-damaged level n c k (m .above) (m .table) (m .place) (m .damaged)
+
+      go : Standing (m .above) (m .table) (m .place) → wayOf n c k t .steps ≡ none
+      go x = at (x .level) (x .rest) (x .deep)
+
+  none-step : (level : ℕ) (above : List Step) (u : List ℕ) (e : Place) → Reaches n c k t above u e → Deep (suc level) e
+      → descend (suc level) n c k above u e .steps ≡ none
+      → ((above′ : List Step) (u′ : List ℕ) (e′ : Place) → Reaches n c k t above′ u′ e′ → Deep level e′
+      → descend level n c k above′ u′ e′ .steps ≡ none → MeetsDamage n c k t)
+      → MeetsDamage n c k t
+  none-step level above u e at deep z rest = found (enter n c (numbers above) u e .page) refl
+    where
+      picked : (p : Page) → enter n c (numbers above) u e .page ≡ some p
+          → (o : Option Place) → pick k (kids e (p .view)) ≡ o → MeetsDamage n c k t
+      picked p h none q =
+          absurd (Option·none-ne-some (record { place = e; page = p } ∷ above) (sym z ∙ descend-ends level n c k above u e p h q))
+      picked p h (some e′) q =
+          rest (record { place = e; page = p } ∷ above) (enter n c (numbers above) u e .table) e′
+          (u, at, (λ i. record { table = enter n c (numbers above) u e .table; page = h i }), q)
+          (deep-below n c k (numbers above) u level e deep p h e′ q)
+          (ap (λ (x : Way). x .steps) (sym (descend-below level n c k above u e p h e′ q)) ∙ z)
+
+      found : (o : Option Page) → enter n c (numbers above) u e .page ≡ o → MeetsDamage n c k t
+      found none h = record { above = above; table = u; place = e; reached = at; damaged = h }
+      found (some p) h = picked p h (pick k (kids e (p .view))) refl
+
+  descend-none : (level : ℕ) (above : List Step) (u : List ℕ) (e : Place) → Reaches n c k t above u e → Deep level e
+      → descend level n c k above u e .steps ≡ none → MeetsDamage n c k t
+  descend-none zero above u e at deep z = absurd (not-out e deep)
+  descend-none (suc level) above u e at deep z = none-step level above u e at deep z (descend-none level)
+
+  pub none-damage : wayOf n c k t .steps ≡ none → MeetsDamage n c k t
+  unfolding wayOf rootPlace
+  none-damage z = descend-none topKind [] t (rootPlace t) (refl, refl) (inl (refl, refl)) z
