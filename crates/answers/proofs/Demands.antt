@@ -1,27 +1,13 @@
 -- Demand 1. Assumes nothing.
-use Prim.Native.Nat.{ℕ}
 use mathlib.Core.Path.{_≡_, refl, ap}
 use mathlib.Core.Bool.{false}
-use mathlib.Core.List.{List}
-use Rattle.rules.specs.Call.{
-  formattedNo,
-  openedNo,
-  insertedNo,
-  lookedNo,
-  lookedRecord,
-  newestNo,
-  newestIssue,
-  newestRecord,
-  listedNo,
-  listedCount,
-  syncedNo,
-}
-use Rattle.rules.specs.Format.{Formatting, format}
+use Rattle.rules.specs.Call.{formattedNo, openedNo, insertedNo, lookedNo, lookedRecord, newestNo, newestIssue, newestRecord, listedNo, listedCount, syncedNo}
+use Rattle.rules.specs.Format.{format}
 use Rattle.rules.specs.Open.{opening}
 use Rattle.rules.specs.Insert.{insert}
 use Rattle.rules.specs.Lookup.{lookup}
 use Rattle.rules.specs.Newest.{newest}
-use Rattle.rules.specs.List.{ListLeft, list}
+use Rattle.rules.specs.List.{list}
 use Rattle.rules.specs.Sync.{sync}
 use Rattle.rules.specs.declared.Formatted.{Formatted}
 use Rattle.rules.specs.declared.Opened.{Opened}
@@ -30,22 +16,14 @@ use Rattle.rules.specs.declared.Newest.{Newest}
 use Rattle.rules.specs.declared.Listed.{Listed}
 use Rattle.rules.specs.declared.Synced.{Synced}
 use Rattle.rules.proofs.Refusals as rules
-use Rattle.answers.specs.Causes.{
-  formatCauses,
-  openCauses,
-  insertCauses,
-  lookupCauses,
-  newestCauses,
-  listCauses,
-  syncCauses,
-}
+use Rattle.answers.specs.Causes.{formatCauses, openCauses, insertCauses, lookupCauses, newestCauses, listCauses, syncCauses}
 use Rattle.answers.specs.Demand1.{Refused, Demand1}
 use Rattle.answers.proofs.Exactly.{given-number}
 use Rattle.answers.proofs.Ends.{format-given, open-given, sync-given}
 use Rattle.answers.proofs.Looks.{lookup-given}
 use Rattle.answers.proofs.Inserts.{insert-given}
 use Rattle.answers.proofs.Ranges.{newest-given, list-given}
-use Rattle.answers.proofs.Refused.{insert-mended}
+use Rattle.answers.proofs.Refused.{insert-mended, lookup-mended}
 
 -- ── The numbers beside a refusal ────────────────────────────────────────────────────────────────────────────────
 
@@ -120,6 +98,7 @@ demand1 = record {
       (list-given w t s start ks xs);
   sync-answers = λ w t s. given-number (syncCauses w t s) (syncedNo (sync w t s .answer)) (sync-given w t s);
   insert-refused = insert-mended;
+  lookup-mends = lookup-mended;
   open-refused = λ w s h. rules.opening-refused w s (not-opened (opening w s .answer) h);
   sync-refused = λ w t s h. rules.sync-refused w t s (not-synced (sync w t s .answer) h);
   list-refused-keys = λ w t s start ks xs h.
@@ -130,12 +109,10 @@ demand1 = record {
   newest-issue-zero = issue-zero;
   newest-record-zero = record-of-newest-zero;
   count-zero = listed-zero;
-  lookup-session = λ w t s model serial issue. rules.lookup-mends w t s model serial issue .session;
   newest-session = λ w t s model serial. rules.newest-mends w t s model serial .session;
   list-session = λ w t s start ks xs. rules.list-mends s w t start ks xs .session;
   format-stable = λ w s h. rules.format-refused w s (not-formatted (format w s .answer) h);
   insert-stable = rules.insert-stable;
-  lookup-stable = λ w t s model serial issue. rules.lookup-mends w t s model serial issue .stable;
   newest-stable = λ w t s model serial. rules.newest-mends w t s model serial .stable;
   list-stable = λ w t s start ks xs. rules.list-mends s w t start ks xs .stable;
 }

@@ -1,7 +1,7 @@
 -- Format, open, sync: each number exactly when document 01's table says. Assumes nothing.
 use Prim.Native.Nat.{ℕ}
 use mathlib.Core.Path.{_≡_, refl}
-use mathlib.Core.Logic.{_⊎_, inl, inr}
+use mathlib.Core.Logic.{inl, inr}
 use mathlib.Core.Bool.{Bool, true, false, _&&_}
 use mathlib.Core.List.{List}
 use lib.Dec.{leb}
@@ -9,22 +9,13 @@ use Rattle.rules.specs.Layout.{lastNumber}
 use Rattle.rules.specs.Table.{pages, goodLengths, fit0, number0}
 use Rattle.rules.specs.Tree.{treeOf, goodTree}
 use Rattle.rules.specs.Call.{formattedNo, openedNo, syncedNo, lengthsFor}
-use Rattle.rules.specs.Format.{Formatting, format}
+use Rattle.rules.specs.Format.{format}
 use Rattle.rules.specs.Open.{opening, openRefused, openDone}
 use Rattle.rules.specs.Sync.{sync, syncRefused, syncDone}
 use Rattle.rules.specs.declared.Session.{Session}
 use Rattle.answers.specs.Given.{Given}
 use Rattle.answers.specs.Causes.{formatCauses, openCauses, syncCauses}
-use Rattle.answers.proofs.Tells.{
-  bad-tables,
-  good-tables,
-  bad-lengths,
-  good-lengths,
-  bad-tree,
-  good-tree,
-  spent,
-  not-spent,
-}
+use Rattle.answers.proofs.Tells.{bad-tables, good-tables, bad-lengths, good-lengths, bad-tree, good-tree, spent, not-spent}
 
 pub format-given : (w s : List ℕ) → Given (formatCauses w s) (formattedNo (format w s .answer))
 unfolding format formattedNo

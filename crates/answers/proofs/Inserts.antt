@@ -1,33 +1,23 @@
 -- Insert: each number exactly when document 01's table says. Assumes nothing.
 use Prim.Native.Nat.{ℕ}
 use mathlib.Core.Path.{_≡_, refl, sym, _∙_}
-use mathlib.Core.Logic.{_⊎_, inl, inr}
+use mathlib.Core.Logic.{inl, inr}
 use mathlib.Core.Bool.{Bool, true, false}
 use mathlib.Core.List.{List, [], _∷_}
 use mathlib.Core.Option.{Option, some, none, Option·none-ne-some}
 use Rattle.rules.specs.Key.{keyOf, goodParts}
 use Rattle.rules.specs.Entry.{find}
 use Rattle.rules.specs.Table.{fit0}
-use Rattle.rules.specs.Walk.{Step, Way, numbers, certsAt, wayOf}
+use Rattle.rules.specs.Walk.{Step, numbers, certsAt, wayOf}
 use Rattle.rules.specs.Marks.{freePages}
-use Rattle.rules.specs.Call.{Left, insertedNo, lengthsFor}
+use Rattle.rules.specs.Call.{insertedNo, lengthsFor}
 use Rattle.rules.specs.Insert.{insert, insertKey, insertAlong, insertDone, insertRefused, splitting, tooSoon, noRoom}
 use Rattle.rules.specs.declared.Session.{Session}
 use Rattle.rules.proofs.Tests.{not-both}
 use Rattle.answers.specs.Given.{Cause, Given, _when_}
 use Rattle.answers.specs.Causes.{insertCauses, entered, Present, SyncFirst, Full}
 use Rattle.answers.proofs.Meets.{none-damage}
-use Rattle.answers.proofs.Tells.{
-  bad-lengths,
-  good-lengths,
-  bad-key,
-  good-key,
-  whole-way,
-  entered-steps,
-  under-steps,
-  is-full,
-  not-full,
-}
+use Rattle.answers.proofs.Tells.{bad-lengths, good-lengths, bad-key, good-key, whole-way, entered-steps, under-steps, is-full, not-full}
 
 -- ── Along a whole way: 5, 6, 7 ──────────────────────────────────────────────────────────────────────────────────
 

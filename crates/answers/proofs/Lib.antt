@@ -1,5 +1,7 @@
 -- Each file uses only those above it.
 pub mod Exactly
+pub mod Deep
+pub mod Levels
 pub mod Meets
 pub mod Tells
 pub mod Ends

@@ -2,14 +2,14 @@
 use Prim.Native.Nat.{ℕ}
 use native.Mathlib.Omega.{arith}
 use mathlib.Core.Path.{_≡_, refl, sym, _∙_}
-use mathlib.Core.Logic.{_⊎_, inl, inr}
+use mathlib.Core.Logic.{inl, inr}
 use mathlib.Core.Bool.{Bool, true, false}
 use mathlib.Core.List.{List}
 use mathlib.Core.Option.{Option, some, none, Option·none-ne-some}
 use Rattle.rules.specs.Key.{keyOf, goodParts}
 use Rattle.rules.specs.Entry.{find}
 use Rattle.rules.specs.Table.{fit0}
-use Rattle.rules.specs.Walk.{Step, Way, certsAt, wayOf}
+use Rattle.rules.specs.Walk.{Step, certsAt, wayOf}
 use Rattle.rules.specs.Call.{lookedNo, lengthsFor}
 use Rattle.rules.specs.Lookup.{lookup, lookupKey, lookupLeft, foundIn}
 use Rattle.rules.specs.declared.Session.{Session}

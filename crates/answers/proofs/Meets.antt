@@ -1,69 +1,20 @@
 -- The walk of a key has no pages to show exactly when it meets a damaged place: its level never runs out.
 -- Assumes nothing.
-use Prim.Native.Nat.{ℕ, zero, suc, _≤_}
+use Prim.Native.Nat.{ℕ, zero, suc}
 use native.Mathlib.Omega.{arith}
 use mathlib.Core.Path.{_≡_, refl, sym, ap, _∙_}
-use mathlib.Core.Logic.{_⊎_, inl, inr}
-use mathlib.Core.Bool.{Bool, true, false}
+use mathlib.Core.Logic.{inl}
 use mathlib.Core.List.{List, [], _∷_}
-use mathlib.Core.Option.{Option, some, none, Option·none-ne-some, Option·some-injective}
+use mathlib.Core.Option.{Option, some, none, Option·none-ne-some}
 use Rattle.rules.specs.Layout.{topKind}
-use Rattle.rules.specs.Test.{mem}
-use Rattle.rules.specs.Page.{View, Page, fresh}
-use Rattle.rules.specs.Table.{read}
-use Rattle.rules.specs.Place.{rootPlace, kids, pick, fits, mendable, mended, show}
-use Rattle.rules.specs.Enter.{Entered, mend, enter}
+use Rattle.rules.specs.Page.{Page}
+use Rattle.rules.specs.Place.{rootPlace, kids, pick}
+use Rattle.rules.specs.Enter.{Entered, enter}
 use Rattle.rules.specs.Walk.{Step, Way, numbers, descend, wayOf}
 use Rattle.rules.specs.declared.Place.{Place}
-use Rattle.rules.proofs.Kids.{shown-kind, shown-want, kid-want}
+use Rattle.rules.proofs.Picks.{pick-mem}
 use Rattle.answers.specs.OneKey.{Reaches, MeetsDamage}
-
--- ── A page entered is what its place shows ──────────────────────────────────────────────────────────────────────
-
-module _ (n c : ℕ) (above : List ℕ) (t : List ℕ) (e : Place) where
-  pub enter-shows : (p : Page) → enter n c above t e .page ≡ some p → show n t e ≡ some (p .view)
-  unfolding enter mend show mended fresh
-  enter-shows p h =
-      go (mem (e .child) above) refl (fits n e (read t (e .child))) refl (mendable n e (read t (e .previous))) refl
-    where
-      go : (a : Bool) → mem (e .child) above ≡ a → (b : Bool) → fits n e (read t (e .child)) ≡ b
-          → (d : Bool) → mendable n e (read t (e .previous)) ≡ d → show n t e ≡ some (p .view)
-      go true m b f d g = absurd (Option·none-ne-some p (rw (m, enter) at h))
-      go false m true f d g =
-          rw (f, show) (ap (λ (x : Page). some (x .view)) (Option·some-injective (read t (e .child)) p (rw (m, enter, f) at h)))
-      go false m false f true g =
-          rw (f, show, g)
-          (ap (λ (x : Page). some (x .view))
-          (Option·some-injective (mended c e (read t (e .previous))) p (rw (m, enter, f, mend, g) at h)))
-      go false m false f false g = absurd (Option·none-ne-some p (rw (m, enter, f, mend, g) at h))
-
--- ── The level never runs out ────────────────────────────────────────────────────────────────────────────────────
-
--- any kind is asked for at the top, and a kind of a page, at most the level, below it
-abbrev pub Deep : ℕ → Place → Type 0
-Deep level e = ((e .want ≡ 0) × (level ≡ topKind)) ⊎ ((1 ≤ e .want) × (e .want ≤ level))
-
-pub not-out : (e : Place) → Deep 0 e → ⊥
-not-out e (inl d) = omega arith
-not-out e (inr d) = omega arith
-
-module _ (n c k : ℕ) (above : List ℕ) (t : List ℕ) (level : ℕ) (e : Place) (d : Deep (suc level) e) where
-  pub deep-below : (p : Page) → enter n c above t e .page ≡ some p → (e′ : Place) → pick k (kids e (p .view)) ≡ some e′
-      → Deep level e′
-  deep-below p h e′ q = go d (shown-want n t e (p .view) s)
-    where
-      s : show n t e ≡ some (p .view)
-      s = enter-shows n c above t e p h
-
-      go : Deep (suc level) e → (e .want ≡ 0) ⊎ (e .want ≡ p .view .kind) → Deep level e′
-      go (inl d) w =
-          let r = kid-want n t e (p .view) s k e′ q in
-          let m = shown-kind n t e (p .view) s in
-          inr (r .0, omega (arith, r .1, m .1, d .1))
-      go (inr d) (inl w) = absurd (omega (arith, d .0))
-      go (inr d) (inr w) =
-          let r = kid-want n t e (p .view) s k e′ q in
-          inr (r .0, omega (arith, r .1, d .1))
+use Rattle.answers.proofs.Deep.{Deep, not-out, enter-shows, kid-deep}
 
 -- ── One step of the walk ────────────────────────────────────────────────────────────────────────────────────────
 
@@ -85,6 +36,10 @@ module _ (level n c k : ℕ) (above : List Step) (t : List ℕ) (e : Place) wher
     unfolding descend
     descend-below e′ q = rw (descend, h, q)
 
+    deep-below : Deep (suc level) e → (e′ : Place) → pick k (kids e (p .view)) ≡ some e′ → Deep level e′
+    deep-below deep e′ q =
+        kid-deep n t level e (p .view) deep (enter-shows n c (numbers above) t e p h) e′ (pick-mem k (kids e (p .view)) e′ q)
+
 -- ── Where the walk stands when it reaches a place ───────────────────────────────────────────────────────────────
 
 module _ (n c k : ℕ) (t : List ℕ) where
@@ -105,7 +60,7 @@ module _ (n c k : ℕ) (t : List ℕ) where
         level = level;
         rest = rest ∙ (descend-below level n c k above v (s .place) (s .page) p e q
             ∙ ap (λ (x : Entered). descend level n c k (s ∷ above) (x .table) e) h);
-        deep = deep-below n c k (numbers above) v level (s .place) deep (s .page) p e q;
+        deep = deep-below level n c k above v (s .place) (s .page) p deep e q;
       }
 
   standing : (above : List Step) (u : List ℕ) (e : Place) → Reaches n c k t above u e → Standing above u e
@@ -113,13 +68,13 @@ module _ (n c k : ℕ) (t : List ℕ) where
   standing [] u e r = record {
     level = topKind;
     rest = rw (r .0, r .1);
-    deep = inl (ap (λ (x : Place). x .want) (r .1), refl);
+    deep = inl (ap (λ (x : Place). x .want) (r .1), omega arith);
   }
   standing (s ∷ above) u e r =
       let x = standing above (r .0) (s .place) (r .1) in
       standing-below s above (r .0) u e (r .2) (r .3) (x .level) (x .rest) (x .deep)
 
--- ── No pages to show: a damaged place was met ───────────────────────────────────────────────────────────────────
+  -- ── No pages to show: a damaged place was met ───────────────────────────────────────────────────────────────────
 
   pub damage-none : MeetsDamage n c k t → wayOf n c k t .steps ≡ none
   damage-none m = go (standing (m .above) (m .table) (m .place) (m .reached))
@@ -147,7 +102,7 @@ module _ (n c k : ℕ) (t : List ℕ) where
       picked p h (some e′) q =
           rest (record { place = e; page = p } ∷ above) (enter n c (numbers above) u e .table) e′
           (u, at, (λ i. record { table = enter n c (numbers above) u e .table; page = h i }), q)
-          (deep-below n c k (numbers above) u level e deep p h e′ q)
+          (deep-below level n c k above u e p h deep e′ q)
           (ap (λ (x : Way). x .steps) (sym (descend-below level n c k above u e p h e′ q)) ∙ z)
 
       found : (o : Option Page) → enter n c (numbers above) u e .page ≡ o → MeetsDamage n c k t
@@ -161,4 +116,4 @@ module _ (n c k : ℕ) (t : List ℕ) where
 
   pub none-damage : wayOf n c k t .steps ≡ none → MeetsDamage n c k t
   unfolding wayOf rootPlace
-  none-damage z = descend-none topKind [] t (rootPlace t) (refl, refl) (inl (refl, refl)) z
+  none-damage z = descend-none topKind [] t (rootPlace t) (refl, refl) (inl (refl, omega arith)) z

@@ -2,7 +2,7 @@
 use Prim.Native.Nat.{ℕ}
 use native.Mathlib.Omega.{arith}
 use mathlib.Core.Path.{_≡_, refl, sym, _∙_}
-use mathlib.Core.Logic.{_⊎_, inl, inr}
+use mathlib.Core.Logic.{inl, inr}
 use mathlib.Core.Bool.{Bool, true, false, _&&_}
 use mathlib.Core.List.{List, [], _∷_}
 use lib.Dec.{ltb}
@@ -12,7 +12,7 @@ use Rattle.rules.specs.Table.{fit0}
 use Rattle.rules.specs.Walk.{Walked, walkOf}
 use Rattle.rules.specs.Call.{newestNo, listedNo, lengthsFor}
 use Rattle.rules.specs.Newest.{newest, newestMeter, newestLeft, newestIn, meter}
-use Rattle.rules.specs.List.{ListLeft, list, listFrom, listDone, listRefused, upFrom}
+use Rattle.rules.specs.List.{list, listFrom, listDone, listRefused, upFrom}
 use Rattle.rules.specs.declared.Session.{Session}
 use Rattle.rules.specs.declared.Listed.{Listed}
 use Rattle.answers.specs.Given.{Given}

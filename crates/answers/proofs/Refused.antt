@@ -1,4 +1,4 @@
--- A refused insert leaves what the walk of its key has mended, and nothing else. Assumes nothing.
+-- A refused insert leaves what the walk of its key has mended, and nothing else; a lookup too. Assumes nothing.
 use Prim.Native.Nat.{ℕ}
 use mathlib.Core.Path.{_≡_, refl, ap}
 use mathlib.Core.Bool.{Bool, true, false}
@@ -7,16 +7,18 @@ use mathlib.Core.Option.{Option, some, none}
 use Rattle.rules.specs.Key.{keyOf, goodParts}
 use Rattle.rules.specs.Entry.{find}
 use Rattle.rules.specs.Table.{fit0}
-use Rattle.rules.specs.Walk.{Step, Way, numbers, certsAt, wayOf}
+use Rattle.rules.specs.Walk.{Step, numbers, certsAt, wayOf}
 use Rattle.rules.specs.Marks.{freePages}
-use Rattle.rules.specs.Call.{Left, insertedNo, lengthsFor}
+use Rattle.rules.specs.Call.{insertedNo, lengthsFor}
 use Rattle.rules.specs.Insert.{insert, insertKey, insertAlong, insertDone, insertRefused, splitting, tooSoon, noRoom}
+use Rattle.rules.specs.Lookup.{lookup, lookupKey, lookupLeft}
 use Rattle.rules.specs.declared.Session.{Session}
-use Rattle.rules.specs.declared.Inserted.{Inserted}
 use Rattle.rules.proofs.Refusals as rules
 use Rattle.answers.specs.OneKey.{MendedBy, nothing}
 use Rattle.answers.specs.Demand1.{Refused, WalkMended}
 use Rattle.answers.proofs.Walks.{way-mended}
+
+-- ── Insert ──────────────────────────────────────────────────────────────────────────────────────────────────────
 
 -- past the walk nothing more is written
 along-left : (k x : ℕ) (s : Session) (way : List Step) (w t : List ℕ)
@@ -67,3 +69,32 @@ module _ (w t : List ℕ) (s : Session) (model serial issue x : ℕ) where
   insert-mended h =
       let r = rules.insert-refused w t s model serial issue x (λ e. h (ap insertedNo e)) in
       record { working = insert-left h; stable = r .stable; session = r .session }
+
+-- ── Lookup ──────────────────────────────────────────────────────────────────────────────────────────────────────
+
+key-looked : (k : ℕ) (s : Session) (w t : List ℕ) → MendedBy (s .n) (s .c) k w (lookupKey k s w t .working)
+unfolding lookupKey lookupLeft
+key-looked k s w t = go (wayOf (s .n) (s .c) k w .steps) refl
+  where
+    go : (o : Option (List Step)) → wayOf (s .n) (s .c) k w .steps ≡ o
+        → MendedBy (s .n) (s .c) k w (lookupKey k s w t .working)
+    go none o = rw (lookupKey, o) (way-mended (s .n) (s .c) k w)
+    go (some steps) o = rw (lookupKey, o) (way-mended (s .n) (s .c) k w)
+
+module _ (w t : List ℕ) (s : Session) (model serial issue : ℕ) where
+  lookup-left : MendedBy (s .n) (s .c) (keyOf model serial issue) w (lookup w t s model serial issue .working)
+  unfolding lookup lookupLeft
+  lookup-left = go (lengthsFor s w t) refl (goodParts model serial issue) refl (fit0 (s .n) w) refl
+    where
+      go : (a : Bool) → lengthsFor s w t ≡ a → (b : Bool) → goodParts model serial issue ≡ b
+          → (c : Bool) → fit0 (s .n) w ≡ c
+          → MendedBy (s .n) (s .c) (keyOf model serial issue) w (lookup w t s model serial issue .working)
+      go false p b q c o = rw (lookup, p) nothing
+      go true p false q c o = rw (lookup, p, q) nothing
+      go true p true q false o = rw (lookup, p, q, o) nothing
+      go true p true q true o = rw (lookup, p, q, o) (key-looked (keyOf model serial issue) s w t)
+
+  pub lookup-mended : WalkMended (keyOf model serial issue) w t s (lookup w t s model serial issue)
+  lookup-mended =
+      let r = rules.lookup-mends w t s model serial issue in
+      record { working = lookup-left; stable = r .stable; session = r .session }

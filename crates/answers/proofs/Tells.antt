@@ -1,12 +1,12 @@
 -- What the rules' tests tell of the causes: each fails where its cause holds, and passes where it does not.
 -- Assumes nothing.
-use Prim.Native.Nat.{ℕ, _≤_, _<_}
+use Prim.Native.Nat.{ℕ, _<_}
 use native.Mathlib.Omega.{arith}
 use mathlib.Core.Path.{_≡_, refl, sym, ap, _∙_}
 use mathlib.Core.Logic.{_⊎_, inl, inr}
-use mathlib.Core.Bool.{Bool, true, false, _&&_, _||_, true≢false}
+use mathlib.Core.Bool.{Bool, true, false, _&&_, true≢false}
 use mathlib.Core.List.{List, [], _∷_}
-use mathlib.Core.Option.{some, none, Option·none-ne-some}
+use mathlib.Core.Option.{some, Option·none-ne-some}
 use lib.Dec.{leb, ltb}
 use lib.ListN.{length}
 use borrow.Author.Tests.{ltb-true, ltb-false, lt-ltb, leb-true, leb-false}
@@ -16,7 +16,7 @@ use Rattle.rules.specs.Key.{goodParts}
 use Rattle.rules.specs.Table.{pages, goodLengths, fit0}
 use Rattle.rules.specs.Tree.{treeOf, goodTree}
 use Rattle.rules.specs.Entry.{find}
-use Rattle.rules.specs.Walk.{Step, Way, numbers, certsAt, wayOf, Walked, walkOf}
+use Rattle.rules.specs.Walk.{Step, numbers, certsAt, wayOf, walkOf}
 use Rattle.rules.specs.Marks.{freePages}
 use Rattle.rules.specs.Call.{lengthsFor}
 use Rattle.rules.specs.Insert.{rootSplits, newPages, tooHigh, noRoom}
@@ -24,21 +24,9 @@ use Rattle.rules.specs.declared.Session.{Session}
 use Rattle.rules.specs.declared.Asked.{Asked}
 use Rattle.rules.proofs.Tests.{and-left, and-right, or-cases, or-left, or-right, and-of, not-both}
 use Rattle.rules.proofs.Keys.{Good, goodParts-true}
-use Rattle.rules.proofs.Lengths.{Tables, goodLengths-true, tables-good, lengthsFor-true, tables-lengthsFor}
+use Rattle.rules.proofs.Lengths.{goodLengths-true, tables-good, lengthsFor-true, tables-lengthsFor}
 use Rattle.answers.proofs.Meets.{damage-none}
-use Rattle.answers.specs.Causes.{
-  BadTables,
-  BadLengths,
-  BadKey,
-  BadMeter,
-  DamagedWay,
-  DamagedRange,
-  DamagedTree,
-  stepsIn,
-  entered,
-  under,
-  Full,
-}
+use Rattle.answers.specs.Causes.{BadTables, BadLengths, BadKey, BadMeter, DamagedWay, DamagedRange, DamagedTree, stepsIn, entered, under, Full}
 
 -- ── Lengths ─────────────────────────────────────────────────────────────────────────────────────────────────────
 

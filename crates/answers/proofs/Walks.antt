@@ -5,11 +5,11 @@ use mathlib.Core.Bool.{Bool, true, false}
 use mathlib.Core.List.{List, [], _∷_}
 use mathlib.Core.Option.{Option, some, none}
 use Rattle.rules.specs.Test.{mem}
-use Rattle.rules.specs.Page.{View, Page}
+use Rattle.rules.specs.Page.{Page}
 use Rattle.rules.specs.Table.{read}
 use Rattle.rules.specs.Place.{rootPlace, kids, pick, fits, mendable}
-use Rattle.rules.specs.Enter.{Entered, mend, enter}
-use Rattle.rules.specs.Walk.{Step, Way, numbers, descend, wayOf}
+use Rattle.rules.specs.Enter.{mend, enter}
+use Rattle.rules.specs.Walk.{Step, numbers, descend, wayOf}
 use Rattle.rules.specs.declared.Place.{Place}
 use Rattle.answers.specs.OneKey.{Reaches, MendedBy, nothing, also}
 

@@ -8,9 +8,9 @@ use mathlib.Core.Option.{Option, some, none}
 use lib.ListN.{length}
 use Rattle.rules.specs.Layout.{lastNumber}
 use Rattle.rules.specs.Key.{keyOf}
-use Rattle.rules.specs.Entry.{Entry, Cert, find}
+use Rattle.rules.specs.Entry.{find}
 use Rattle.rules.specs.Table.{pages, number0, fit0}
-use Rattle.rules.specs.Walk.{Step, Way, numbers, certsAt, wayOf, Walked, walkOf}
+use Rattle.rules.specs.Walk.{Step, numbers, certsAt, wayOf, walkOf}
 use Rattle.rules.specs.Tree.{treeOf, goodTree}
 use Rattle.rules.specs.Marks.{freePages}
 use Rattle.rules.specs.Insert.{splitting, tooSoon, rootSplits, newPages, tooHigh}

@@ -2,31 +2,18 @@
 -- and key: nothing is asked of them.
 use Prim.Native.Nat.{ℕ}
 use mathlib.Core.Path.{_≡_}
-use mathlib.Core.Bool.{Bool, true}
+use mathlib.Core.Bool.{true}
 use mathlib.Core.List.{List, [], _∷_}
 use Rattle.rules.specs.Test.{mem}
 use Rattle.rules.specs.Key.{keyOf}
 use Rattle.rules.specs.Marks.{nobody}
-use Rattle.rules.specs.Call.{
-  Left,
-  formattedNo,
-  openedNo,
-  insertedNo,
-  lookedNo,
-  lookedRecord,
-  newestNo,
-  newestIssue,
-  newestRecord,
-  listedNo,
-  listedCount,
-  syncedNo,
-}
-use Rattle.rules.specs.Format.{Formatting, format}
+use Rattle.rules.specs.Call.{Left, formattedNo, openedNo, insertedNo, lookedNo, lookedRecord, newestNo, newestIssue, newestRecord, listedNo, listedCount, syncedNo}
+use Rattle.rules.specs.Format.{format}
 use Rattle.rules.specs.Open.{opening}
 use Rattle.rules.specs.Insert.{insert}
 use Rattle.rules.specs.Lookup.{lookup}
 use Rattle.rules.specs.Newest.{newest}
-use Rattle.rules.specs.List.{ListLeft, list}
+use Rattle.rules.specs.List.{list}
 use Rattle.rules.specs.Sync.{sync}
 use Rattle.rules.specs.declared.Session.{Session}
 use Rattle.rules.specs.declared.Looked.{Looked}
@@ -70,6 +57,9 @@ pub record Demand1 : Type 0 where
   pub insert-refused : (w t : List ℕ) (s : Session) (model serial issue x : ℕ)
       → Refused (insertedNo (insert w t s model serial issue x .answer))
       → WalkMended (keyOf model serial issue) w t s (insert w t s model serial issue x)
+  -- a lookup changes no more, whatever it answers
+  pub lookup-mends : (w t : List ℕ) (s : Session) (model serial issue : ℕ)
+      → WalkMended (keyOf model serial issue) w t s (lookup w t s model serial issue)
   -- a refused opening or sync changes no byte; the one hands out nobody's session, the other the one that it got
   pub open-refused : (w s : List ℕ) → Refused (openedNo (opening w s .answer)) → Unchanged w s nobody (opening w s)
   pub sync-refused : (w t : List ℕ) (s : Session) → Refused (syncedNo (sync w t s .answer)) → Unchanged w t s (sync w t s)
@@ -83,16 +73,12 @@ pub record Demand1 : Type 0 where
   pub newest-issue-zero : (a : Newest) → Refused (newestNo a) → newestIssue a ≡ 0
   pub newest-record-zero : (a : Newest) → Refused (newestNo a) → newestRecord a ≡ 0
   pub count-zero : (a : Listed) → Refused (listedNo a) → listedCount a ≡ 0
-  -- the session of a call that reads is returned as it came
-  pub lookup-session : (w t : List ℕ) (s : Session) (model serial issue : ℕ)
-      → lookup w t s model serial issue .session ≡ s
+  -- newest and list return the session as it came; insert, sync and lookup, see above
   pub newest-session : (w t : List ℕ) (s : Session) (model serial : ℕ) → newest w t s model serial .session ≡ s
   pub list-session : (w t : List ℕ) (s : Session) (start : ℕ) (ks xs : List ℕ) → list w t s start ks xs .session ≡ s
-  -- stable bytes change only in format, open and sync that answer 0
+  -- stable bytes change only in format, open and sync that answer 0; open, sync and lookup, see above
   pub format-stable : (w s : List ℕ) → Refused (formattedNo (format w s .answer)) → format w s .stable ≡ s
   pub insert-stable : (w t : List ℕ) (s : Session) (model serial issue x : ℕ)
       → insert w t s model serial issue x .stable ≡ t
-  pub lookup-stable : (w t : List ℕ) (s : Session) (model serial issue : ℕ)
-      → lookup w t s model serial issue .stable ≡ t
   pub newest-stable : (w t : List ℕ) (s : Session) (model serial : ℕ) → newest w t s model serial .stable ≡ t
   pub list-stable : (w t : List ℕ) (s : Session) (start : ℕ) (ks xs : List ℕ) → list w t s start ks xs .stable ≡ t

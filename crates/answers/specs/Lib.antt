@@ -4,3 +4,4 @@ pub mod OneKey
 pub mod Causes
 pub mod When
 pub mod Demand1
+pub mod Levels

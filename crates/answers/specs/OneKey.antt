@@ -5,10 +5,9 @@ use mathlib.Core.Bool.{true, false}
 use mathlib.Core.List.{List, [], _∷_}
 use mathlib.Core.Option.{some, none}
 use Rattle.rules.specs.Test.{mem}
-use Rattle.rules.specs.Page.{View, Page}
 use Rattle.rules.specs.Table.{read, build}
 use Rattle.rules.specs.Place.{rootPlace, kids, pick, fits, mendable, mended}
-use Rattle.rules.specs.Enter.{Entered, enter}
+use Rattle.rules.specs.Enter.{enter}
 use Rattle.rules.specs.Walk.{Step, numbers}
 use Rattle.rules.specs.declared.Place.{Place}
 
