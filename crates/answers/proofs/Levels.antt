@@ -51,7 +51,7 @@ way-more (suc level) n c k above t e deep =
 
 -- ── The pages that meet a range ─────────────────────────────────────────────────────────────────────────────────
 
-each-same : (f g : Place → Walked → Walked) (es : List Place)
+pub each-same : (f g : Place → Walked → Walked) (es : List Place)
     → ((e : Place) → List·Memᴰ e es → (w : Walked) → f e w ≡ g e w) → (w : Walked) → walkEach f es w ≡ walkEach g es w
 unfolding walkEach
 each-same f g [] h w = refl
@@ -77,7 +77,7 @@ range-step level n c a above e w deep rest = go (enters a e w) refl (enter n c a
         (kid-deep n (w .table) level e (x .view) deep (enter-shows n c above (w .table) e x q) d m))
         (finds a (x .view) w (enter n c above (w .table) e .table)))
 
-range-more : (level n c : ℕ) (a : Asked) (above : List ℕ) (e : Place) (w : Walked) → Deep level e
+pub range-more : (level n c : ℕ) (a : Asked) (above : List ℕ) (e : Place) (w : Walked) → Deep level e
     → walk (suc level) n c a above e w ≡ walk level n c a above e w
 range-more zero n c a above e w deep = absurd (not-out e deep)
 range-more (suc level) n c a above e w deep = range-step level n c a above e w deep (range-more level n c a)

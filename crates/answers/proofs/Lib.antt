@@ -3,6 +3,7 @@ pub mod Exactly
 pub mod Deep
 pub mod Levels
 pub mod Meets
+pub mod RangeMeets
 pub mod Tells
 pub mod Ends
 pub mod Looks

@@ -17,6 +17,7 @@ use Rattle.rules.specs.declared.Session.{Session}
 use Rattle.rules.specs.declared.Listed.{Listed}
 use Rattle.answers.specs.Given.{Given}
 use Rattle.answers.specs.Causes.{newestCauses, listCauses}
+use Rattle.answers.proofs.RangeMeets.{cut-damage}
 use Rattle.answers.proofs.Tells.{bad-lengths, good-lengths, bad-meter, good-meter, whole-range, nil-cons}
 
 -- ── Newest ──────────────────────────────────────────────────────────────────────────────────────────────────────
@@ -48,7 +49,7 @@ module _ (w t : List ℕ) (s : Session) (model serial : ℕ) where
       go true p true q false o d h f e =
           inr (good-lengths w t s p, inr (good-meter model serial q, inl (rw (p, newest, q, o), inl o)))
       go true p true q true o false h f e =
-          inr (good-lengths w t s p, inr (good-meter model serial q, inl (rw (p, newest, q, o, newestMeter, h), inr h)))
+          inr (good-lengths w t s p, inr (good-meter model serial q, inl (rw (p, newest, q, o, newestMeter, h), inr (cut-damage (s .n) (s .c) (meter model serial) w h))))
       go true p true q true o true h [] e =
           inr (
             good-lengths w t s p,
@@ -104,7 +105,7 @@ module _ (w t : List ℕ) (s : Session) (start : ℕ) (ks xs : List ℕ) where
       go : (a : Bool) → lengthsFor s w t ≡ a → (b : Bool) → fit0 (s .n) w ≡ b → (c : Bool) → listing .whole ≡ c → GivenList
       go false p b q c h = inl (rw (p, list), bad-lengths w t s p)
       go true p false q c h = inr (good-lengths w t s p, inl (rw (p, list, q), inl q))
-      go true p true q false h = inr (good-lengths w t s p, inl (rw (p, list, q, listFrom, h), inr h))
+      go true p true q false h = inr (good-lengths w t s p, inl (rw (p, list, q, listFrom, h), inr (cut-damage (s .n) (s .c) (upFrom start ks xs) w h)))
       go true p true q true h =
           inr (good-lengths w t s p, inr (whole-range s (upFrom start ks xs) w q h, rw (p, list, q, listFrom, h)))
 

@@ -26,6 +26,7 @@ use Rattle.rules.proofs.Tests.{and-left, and-right, or-cases, or-left, or-right
 use Rattle.rules.proofs.Keys.{Good, goodParts-true}
 use Rattle.rules.proofs.Lengths.{goodLengths-true, tables-good, lengthsFor-true, tables-lengthsFor}
 use Rattle.answers.proofs.Meets.{damage-none}
+use Rattle.answers.proofs.RangeMeets.{damage-cuts}
 use Rattle.answers.specs.Causes.{BadTables, BadLengths, BadKey, BadMeter, DamagedWay, DamagedRange, DamagedTree, stepsIn, entered, under, Full}
 
 -- ── Lengths ─────────────────────────────────────────────────────────────────────────────────────────────────────
@@ -139,4 +140,4 @@ nil-cons x xs e = let z : _≡_ {A = ℕ} 0 1 = cc in omega arith
 pub whole-range : (s : Session) (a : Asked) (w : List ℕ) → fit0 (s .n) w ≡ true
     → walkOf (s .n) (s .c) a w .whole ≡ true → DamagedRange s a w → ⊥
 whole-range s a w o h (inl e) = not-both o e
-whole-range s a w o h (inr e) = not-both h e
+whole-range s a w o h (inr e) = not-both h (damage-cuts (s .n) (s .c) a w e)

@@ -21,6 +21,7 @@ use Rattle.rules.specs.declared.Asked.{Asked}
 use Rattle.rules.proofs.Lengths.{Tables}
 use Rattle.answers.specs.Given.{Cause, _when_}
 use Rattle.answers.specs.OneKey.{MeetsDamage}
+use Rattle.answers.specs.Range.{MeetsDamageIn}
 
 -- ── 1 length ────────────────────────────────────────────────────────────────────────────────────────────────────
 
@@ -48,9 +49,9 @@ BadMeter model serial = (model ≡ 0) ⊎ (serial ≡ 0)
 abbrev pub DamagedWay : Session → ℕ → List ℕ → Type 0
 DamagedWay s k w = (fit0 (s .n) w ≡ false) ⊎ MeetsDamage (s .n) (s .c) k w
 
--- page 0 is unfit, or a place entered in a range is damaged
+-- page 0 is unfit, or a place that the walk over a range enters is damaged
 abbrev pub DamagedRange : Session → Asked → List ℕ → Type 0
-DamagedRange s a w = (fit0 (s .n) w ≡ false) ⊎ (walkOf (s .n) (s .c) a w .whole ≡ false)
+DamagedRange s a w = (fit0 (s .n) w ≡ false) ⊎ MeetsDamageIn (s .n) (s .c) a w
 
 -- page 0 is unfit, or an opening test fails: the tree as it stands
 abbrev pub DamagedTree : List ℕ → Type 0

@@ -1,6 +1,7 @@
 -- Each file uses only those above it.
 pub mod Given
 pub mod OneKey
+pub mod Range
 pub mod Causes
 pub mod When
 pub mod Demand1

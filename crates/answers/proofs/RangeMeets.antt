@@ -1,0 +1,277 @@
+-- The walk over a range is not whole exactly when it meets a damaged place. Assumes nothing.
+use Prim.Native.Nat.{ℕ, zero, suc, _+_}
+use native.Mathlib.Nat.{zero-add, suc-add, add-suc}
+use native.Mathlib.Omega.{arith}
+use mathlib.Core.Path.{_≡_, refl, sym, ap, subst, _∙_}
+use mathlib.Core.Logic.{_⊎_, inl, inr}
+use mathlib.Core.Bool.{Bool, true, false}
+use mathlib.Core.List.{List, [], _∷_, _++_, append-assoc, List·Memᴰ, List·Memᴰ·head, List·Memᴰ·tail, List·Memᴰ·cases-cons, List·Memᴰ·not-nil}
+use mathlib.Core.Option.{Option, some, none}
+use Rattle.rules.specs.Layout.{topKind}
+use Rattle.rules.specs.Test.{every}
+use Rattle.rules.specs.Page.{Page}
+use Rattle.rules.specs.Place.{rootPlace, kids}
+use Rattle.rules.specs.Enter.{Entered, enter}
+use Rattle.rules.specs.Walk.{Walked, enters, finds, stops, walkEach, walk, walkOf}
+use Rattle.rules.specs.declared.Place.{Place}
+use Rattle.rules.specs.declared.Asked.{Asked}
+use Rattle.rules.proofs.Tests.{not-both}
+use Rattle.answers.specs.Range.{Turn, numbersOf, Comes, MeetsDamageIn}
+use Rattle.answers.proofs.Deep.{Deep, not-out, enter-shows, kid-deep}
+use Rattle.answers.proofs.Levels.{each-same, range-more}
+
+-- ── Places of a list ────────────────────────────────────────────────────────────────────────────────────────────
+
+mem-here : (xs ys : List Place) (e : Place) → List·Memᴰ e (xs ++ (e ∷ ys))
+mem-here [] ys e = List·Memᴰ·head refl
+mem-here (x ∷ xs) ys e = List·Memᴰ·tail (mem-here xs ys e)
+
+mem-before : (xs ys : List Place) (d : Place) → List·Memᴰ d xs → List·Memᴰ d (xs ++ ys)
+mem-before [] ys d m = absurd (List·Memᴰ·not-nil m)
+mem-before (x ∷ xs) ys d m = go (List·Memᴰ·cases-cons m) (mem-before xs ys d)
+  where
+    go : (d ≡ x) ⊎ List·Memᴰ d xs → (List·Memᴰ d xs → List·Memᴰ d (xs ++ ys)) → List·Memᴰ d (x ∷ (xs ++ ys))
+    go (inl q) ih = List·Memᴰ·head q
+    go (inr m) ih = List·Memᴰ·tail (ih m)
+
+each-append : (f : Place → Walked → Walked) (xs ys : List Place) (w : Walked)
+    → walkEach f (xs ++ ys) w ≡ walkEach f ys (walkEach f xs w)
+unfolding walkEach
+each-append f [] ys w = refl
+each-append f (x ∷ xs) ys w = each-append f xs ys (f x w)
+
+none-walked : (f : Place → Walked → Walked) (w : Walked) → w ≡ walkEach f [] w
+unfolding walkEach
+none-walked f w = refl
+
+finds-whole : (a : Asked) (x : Page) (w : Walked) (t : List ℕ) → finds a (x .view) w t .whole ≡ true
+unfolding finds
+finds-whole a x w t = refl
+
+-- ── What is not whole stays so ──────────────────────────────────────────────────────────────────────────────────
+
+not-entered : (a : Asked) (e : Place) (w : Walked) → w .whole ≡ false → enters a e w ≡ false
+unfolding enters every
+not-entered a e w h = rw h
+
+still-false : (level n c : ℕ) (a : Asked) (above : List ℕ) (e : Place) (w : Walked) → w .whole ≡ false
+    → walk level n c a above e w .whole ≡ false
+unfolding walk stops
+still-false zero n c a above e w h = refl
+still-false (suc level) n c a above e w h = rw (walk, not-entered a e w h) h
+
+each-false : (level n c : ℕ) (a : Asked) (above : List ℕ) (es : List Place) (w : Walked) → w .whole ≡ false
+    → walkEach (walk level n c a above) es w .whole ≡ false
+unfolding walkEach
+each-false level n c a above [] w h = h
+each-false level n c a above (e ∷ es) w h =
+    each-false level n c a above es (walk level n c a above e w) (still-false level n c a above e w h)
+
+-- ── Any level that reaches is as good as the top one ────────────────────────────────────────────────────────────
+
+deep-more : (j level : ℕ) (e : Place) → Deep level e → Deep (j + level) e
+deep-more j level e (inl d) = inl (d .0, omega (arith, d .1))
+deep-more j level e (inr d) = inr (d .0, omega (arith, d .1))
+
+walk-up : (j level n c : ℕ) (a : Asked) (above : List ℕ) (e : Place) (w : Walked) → Deep level e
+    → walk (j + level) n c a above e w ≡ walk level n c a above e w
+walk-up zero level n c a above e w deep = rw zero-add
+walk-up (suc j) level n c a above e w deep =
+    rw suc-add (range-more (j + level) n c a above e w (deep-more j level e deep) ∙ walk-up j level n c a above e w deep)
+
+walk-top : (j level n c : ℕ) (a : Asked) (above : List ℕ) (e : Place) (w : Walked) → j + level ≡ topKind → Deep level e
+    → walk topKind n c a above e w ≡ walk level n c a above e w
+walk-top j level n c a above e w q deep =
+    subst (λ (m : ℕ). walk m n c a above e w ≡ walk level n c a above e w) q (walk-up j level n c a above e w deep)
+
+-- ── One page entered ────────────────────────────────────────────────────────────────────────────────────────────
+
+module _ (level n c : ℕ) (a : Asked) (above : List ℕ) (e : Place) (w : Walked) where
+  walk-passed : enters a e w ≡ false → walk (suc level) n c a above e w ≡ w
+  unfolding walk
+  walk-passed p = rw (walk, p)
+
+  walk-damaged : enters a e w ≡ true → enter n c above (w .table) e .page ≡ none
+      → walk (suc level) n c a above e w .whole ≡ false
+  unfolding walk stops
+  walk-damaged p h = rw (walk, p, h)
+
+  walk-below : enters a e w ≡ true → (x : Page) → enter n c above (w .table) e .page ≡ some x
+      → walk (suc level) n c a above e w
+      ≡ walkEach (walk level n c a (e .child ∷ above)) (kids e (x .view))
+      (finds a (x .view) w (enter n c above (w .table) e .table))
+  unfolding walk
+  walk-below p x h = rw (walk, p, h)
+
+-- the places of a page, walked at the level below the page or at the top one
+passed-same : (j level n c : ℕ) (a : Asked) (above : List ℕ) (es : List Place) (w : Walked) → j + level ≡ topKind
+    → ((d : Place) → List·Memᴰ d es → Deep level d)
+    → walkEach (walk topKind n c a above) es w ≡ walkEach (walk level n c a above) es w
+passed-same j level n c a above es w q deep =
+    each-same (walk topKind n c a above) (walk level n c a above) es
+    (λ d m x. walk-top j level n c a above d x q (deep d m)) w
+
+-- ── Damage met: not whole ───────────────────────────────────────────────────────────────────────────────────────
+
+module _ (n c : ℕ) (a : Asked) (t : List ℕ) where
+  -- where the walk stands when it comes to a place
+  record Standing (above : List Turn) (w : Walked) (e : Place) : Type 0 where
+    level : ℕ
+    over : ℕ
+    sum : over + level ≡ topKind
+    deep : Deep level e
+    leads : walk level n c a (numbersOf above) e w .whole ≡ false → walkOf n c a t .whole ≡ false
+
+  standing-below : (s : Turn) (above : List Turn) (v w : Walked) (e : Place) → enters a (s .place) v ≡ true
+      → enter n c (numbersOf above) (v .table) (s .place) ≡ record { table = s .table; page = some (s .page) }
+      → kids (s .place) (s .page .view) ≡ s .passed ++ (e ∷ s .later)
+      → w ≡ walkEach (walk topKind n c a (numbersOf (s ∷ above))) (s .passed) (finds a (s .page .view) v (s .table))
+      → (level over : ℕ) → over + level ≡ topKind → Deep level (s .place)
+      → (walk level n c a (numbersOf above) (s .place) v .whole ≡ false → walkOf n c a t .whole ≡ false)
+      → Standing (s ∷ above) w e
+  unfolding walkEach
+  standing-below s above v w e p h q x zero over sum deep leads = absurd (not-out (s .place) deep)
+  standing-below s above v w e p h q x (suc level) over sum deep leads = record {
+    level = level;
+    over = suc over;
+    sum = omega arith;
+    deep = below e (mem-here (s .passed) (s .later) e);
+    leads = λ f. leads (ap (λ (r : Walked). r .whole) walked ∙ each-false level n c a (numbersOf (s ∷ above)) (s .later)
+        (walk level n c a (numbersOf (s ∷ above)) e w) f);
+  }
+    where
+      page : enter n c (numbersOf above) (v .table) (s .place) .page ≡ some (s .page)
+      page = ap (λ (r : Entered). r .page) h
+
+      below : (d : Place) → List·Memᴰ d (s .passed ++ (e ∷ s .later)) → Deep level d
+      below d m =
+          kid-deep n (v .table) level (s .place) (s .page .view) deep
+          (enter-shows n c (numbersOf above) (v .table) (s .place) (s .page) page) d (rw q m)
+
+      start : Walked
+      start = finds a (s .page .view) v (s .table)
+
+      same : walkEach (walk level n c a (numbersOf (s ∷ above))) (s .passed) start ≡ w
+      same =
+          sym (passed-same (suc over) level n c a (numbersOf (s ∷ above)) (s .passed) start (omega arith)
+          (λ d m. below d (mem-before (s .passed) (e ∷ s .later) d m))) ∙ sym x
+
+      walked : walk (suc level) n c a (numbersOf above) (s .place) v
+          ≡ walkEach (walk level n c a (numbersOf (s ∷ above))) (s .later) (walk level n c a (numbersOf (s ∷ above)) e w)
+      walked =
+          walk-below level n c a (numbersOf above) (s .place) v p (s .page) page
+          ∙ (ap (λ (r : Entered). walkEach (walk level n c a (numbersOf (s ∷ above))) (kids (s .place) (s .page .view))
+          (finds a (s .page .view) v (r .table))) h
+          ∙ (ap (λ (es : List Place). walkEach (walk level n c a (numbersOf (s ∷ above))) es start) q
+          ∙ (each-append (walk level n c a (numbersOf (s ∷ above))) (s .passed) (e ∷ s .later) start
+          ∙ ap (λ (r : Walked). walkEach (walk level n c a (numbersOf (s ∷ above))) (e ∷ s .later) r) same)))
+
+  standing : (above : List Turn) (w : Walked) (e : Place) → Comes n c a t above w e → Standing above w e
+  unfolding walkOf rootPlace
+  standing [] w e r = record {
+    level = topKind;
+    over = 0;
+    sum = refl;
+    deep = inl (ap (λ (x : Place). x .want) (r .1), omega arith);
+    leads = λ f. rw (r .0, r .1) at f;
+  }
+  standing (s ∷ above) w e r =
+      let x = standing above (r .0) (s .place) (r .1) in
+      standing-below s above (r .0) w e (r .2) (r .3) (r .4) (r .5) (x .level) (x .over) (x .sum) (x .deep) (x .leads)
+
+  pub damage-cuts : MeetsDamageIn n c a t → walkOf n c a t .whole ≡ false
+  damage-cuts m = go (standing (m .above) (m .found) (m .place) (m .comes))
+    where
+      at : (level : ℕ) → Deep level (m .place)
+          → (walk level n c a (numbersOf (m .above)) (m .place) (m .found) .whole ≡ false → walkOf n c a t .whole ≡ false)
+          → walkOf n c a t .whole ≡ false
+      at zero deep leads = absurd (not-out (m .place) deep)
+      at (suc level) deep leads =
+          leads (walk-damaged level n c a (numbersOf (m .above)) (m .place) (m .found) (m .entered) (m .damaged))
+
+      go : Standing (m .above) (m .found) (m .place) → walkOf n c a t .whole ≡ false
+      go x = at (x .level) (x .deep) (x .leads)
+
+  -- ── Not whole: damage met ───────────────────────────────────────────────────────────────────────────────────────
+
+  -- what walking one place at a level tells
+  abbrev Tells : ℕ → Type 0
+  Tells level =
+      (above : List Turn) (w : Walked) (e : Place) → Comes n c a t above w e → Deep level e → w .whole ≡ true
+      → walk level n c a (numbersOf above) e w .whole ≡ false → MeetsDamageIn n c a t
+
+  module _ (level over : ℕ) (sum : over + level ≡ topKind) (rest : Tells level) (above : List Turn) (w : Walked) (e : Place)
+      (comes : Comes n c a t above w e) (deep : Deep (suc level) e) (p : enters a e w ≡ true)
+      (x : Page) (h : enter n c (numbersOf above) (w .table) e .page ≡ some x) where
+    abbrev numbers : List ℕ
+    numbers = e .child ∷ numbersOf above
+
+    abbrev start : Walked
+    start = finds a (x .view) w (enter n c (numbersOf above) (w .table) e .table)
+
+    each-tells : (later passed : List Place) → kids e (x .view) ≡ passed ++ later
+        → (y : Walked) → y ≡ walkEach (walk topKind n c a numbers) passed start → y .whole ≡ true
+        → walkEach (walk level n c a numbers) later y .whole ≡ false → MeetsDamageIn n c a t
+    unfolding walkEach
+    each-tells [] passed q y k g f = absurd (not-both g f)
+    each-tells (d ∷ later) passed q y k g f =
+        go (walk level n c a numbers d y .whole) refl
+        (each-tells later (passed ++ (d ∷ [])) (q ∙ sym (append-assoc passed (d ∷ []) later)) (walk level n c a numbers d y) next)
+      where
+        low : Deep level d
+        low =
+            kid-deep n (w .table) level e (x .view) deep (enter-shows n c (numbersOf above) (w .table) e x h) d
+            (rw q (mem-here passed later d))
+
+        next : walk level n c a numbers d y ≡ walkEach (walk topKind n c a numbers) (passed ++ (d ∷ [])) start
+        next =
+            sym (walk-top over level n c a numbers d y sum low)
+            ∙ (ap (walk topKind n c a numbers d) k
+            ∙ sym (each-append (walk topKind n c a numbers) passed (d ∷ []) start))
+
+        go : (b : Bool) → walk level n c a numbers d y .whole ≡ b
+            → (walk level n c a numbers d y .whole ≡ true
+            → walkEach (walk level n c a numbers) later (walk level n c a numbers d y) .whole ≡ false → MeetsDamageIn n c a t)
+            → MeetsDamageIn n c a t
+        go true b ih = ih b f
+        go false b ih =
+            rest
+            (record {
+              place = e;
+              page = x;
+              table = enter n c (numbersOf above) (w .table) e .table;
+              passed = passed;
+              later = later;
+            } ∷ above)
+            y d
+            (w, comes, p, (λ i. record { table = enter n c (numbersOf above) (w .table) e .table; page = h i }), q, k)
+            low g b
+
+  tells-more : (level over : ℕ) → over + level ≡ topKind → Tells level → Tells (suc level)
+  tells-more level over sum rest above w e comes deep g f =
+      go (enters a e w) refl (enter n c (numbersOf above) (w .table) e .page) refl
+    where
+      go : (b : Bool) → enters a e w ≡ b → (o : Option Page) → enter n c (numbersOf above) (w .table) e .page ≡ o
+          → MeetsDamageIn n c a t
+      go false p o h =
+          absurd (not-both g (ap (λ (r : Walked). r .whole) (sym (walk-passed level n c a (numbersOf above) e w p)) ∙ f))
+      go true p none h =
+          record { above = above; found = w; place = e; comes = comes; entered = p; damaged = h }
+      go true p (some x) h =
+          let start = finds a (x .view) w (enter n c (numbersOf above) (w .table) e .table) in
+          each-tells level over sum rest above w e comes deep p x h (kids e (x .view)) [] refl start
+          (none-walked (walk topKind n c a (e .child ∷ numbersOf above)) start)
+          (finds-whole a x w (enter n c (numbersOf above) (w .table) e .table))
+          (ap (λ (r : Walked). r .whole) (sym (walk-below level n c a (numbersOf above) e w p x h)) ∙ f)
+
+  tells : (level over : ℕ) → over + level ≡ topKind → Tells level
+  tells zero over sum = λ above w e comes deep g f. absurd (not-out e deep)
+  tells (suc level) over sum =
+      tells-more level (suc over) (suc-add over level ∙ (sym (add-suc over level) ∙ sum))
+      (tells level (suc over) (suc-add over level ∙ (sym (add-suc over level) ∙ sum)))
+
+  pub cut-damage : walkOf n c a t .whole ≡ false → MeetsDamageIn n c a t
+  unfolding walkOf rootPlace
+  cut-damage f =
+      tells topKind 0 refl [] (record { table = t; whole = true; found = [] }) (rootPlace t) (refl, refl)
+      (inl (refl, omega arith)) refl f

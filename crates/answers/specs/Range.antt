@@ -1,0 +1,45 @@
+-- The walk over a range, place by place: where it comes, and whether it meets damage.
+use Prim.Native.Nat.{ℕ}
+use mathlib.Core.Path.{_≡_}
+use mathlib.Core.Bool.{true}
+use mathlib.Core.List.{List, [], _∷_, _++_}
+use mathlib.Core.Option.{some, none}
+use Rattle.rules.specs.Layout.{topKind}
+use Rattle.rules.specs.Page.{Page}
+use Rattle.rules.specs.Place.{rootPlace, kids}
+use Rattle.rules.specs.Enter.{enter}
+use Rattle.rules.specs.Walk.{Walked, enters, finds, walkEach, walk}
+use Rattle.rules.specs.declared.Place.{Place}
+use Rattle.rules.specs.declared.Asked.{Asked}
+
+-- a page that the walk is below: the table once it was entered, its places passed and those to come after this one
+pub record Turn : Type 0 where
+  pub place : Place
+  pub page : Page
+  pub table : List ℕ
+  pub passed : List Place
+  pub later : List Place
+
+abbrev pub numbersOf : List Turn → List ℕ
+numbersOf [] = []
+numbersOf (s ∷ above) = s .place .child ∷ numbersOf above
+
+-- the walk of a range in table t comes to a place, with w found by now: first to the root's, then to each place of a
+-- page entered, once those before it are walked
+abbrev pub Comes : ℕ → ℕ → Asked → List ℕ → List Turn → Walked → Place → Type 0
+Comes n c a t [] w e = (w ≡ record { table = t; whole = true; found = [] }) × (e ≡ rootPlace t)
+Comes n c a t (s ∷ above) w e =
+    (v : Walked) × Comes n c a t above v (s .place)
+    × (enters a (s .place) v ≡ true)
+    × (enter n c (numbersOf above) (v .table) (s .place) ≡ record { table = s .table; page = some (s .page) })
+    × (kids (s .place) (s .page .view) ≡ s .passed ++ (e ∷ s .later))
+    × (w ≡ walkEach (walk topKind n c a (numbersOf (s ∷ above))) (s .passed) (finds a (s .page .view) v (s .table)))
+
+-- a place that the walk comes to and enters is damaged
+pub record MeetsDamageIn (n c : ℕ) (a : Asked) (t : List ℕ) : Type 0 where
+  pub above : List Turn
+  pub found : Walked
+  pub place : Place
+  pub comes : Comes n c a t above found place
+  pub entered : enters a place found ≡ true
+  pub damaged : enter n c (numbersOf above) (found .table) place .page ≡ none
