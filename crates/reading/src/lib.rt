@@ -1,0 +1,1 @@
+// What the rules promise those who read and insert.
