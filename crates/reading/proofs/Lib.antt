@@ -1,1 +1,4 @@
 pub mod Exact
+pub mod Turns
+pub mod WayLeft
+pub mod Refused

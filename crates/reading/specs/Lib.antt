@@ -1,1 +1,3 @@
+-- What a user may rely on, one promise after the other.
 pub mod Reading
+pub mod Leaving
