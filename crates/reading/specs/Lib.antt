@@ -1,3 +1,4 @@
 -- What a user may rely on, one promise after the other.
 pub mod Reading
 pub mod Leaving
+pub mod Inserting

@@ -1,0 +1,50 @@
+-- What an insert that is done changes: which pages, which marks, and what is found afterwards.
+use Prim.Native.Nat.{ℕ, _≤_}
+use mathlib.Core.Path.{_≡_}
+use mathlib.Core.Bool.{Bool, true, false}
+use mathlib.Core.List.{List, [], _∷_}
+use mathlib.Core.Option.{some}
+use lib.ListN.{length, take, getD}
+use Rattle.rules.specs.Key.{keyOf}
+use Rattle.rules.specs.Test.{mem}
+use Rattle.rules.specs.Table.{pageAt}
+use Rattle.rules.specs.Walk.{Step, Way, numbers, wayOf}
+use Rattle.rules.specs.Marks.{freePages}
+use Rattle.rules.specs.Call.{Left}
+use Rattle.rules.specs.Insert.{rootSplits, newPages, insert}
+use Rattle.rules.specs.declared.Session.{Session}
+use Rattle.rules.specs.declared.Inserted.{Inserted}
+use Rattle.reading.specs.Leaving.{Typed}
+
+-- ── Pages and marks ─────────────────────────────────────────────────────────────────────────────────────────────
+
+-- the numbers that an insert along a way takes: the lowest free ones, as many as it needs
+unfoldable pub takenFor : Session → List Step → List ℕ
+takenFor s steps = take (newPages steps) (freePages s (numbers steps))
+
+pub record SameMarks (s r : Session) (i : ℕ) : Type 0 where
+  pub free : getD (r .free) i false ≡ getD (s .free) i false
+  pub waiting : getD (r .waiting) i false ≡ getD (s .waiting) i false
+
+pub record FewChange (w : List ℕ) (s : Session) (k : ℕ) (r : Left Inserted) : Type 0 where
+  pub steps : List Step
+  pub way : wayOf (s .n) (s .c) k w .steps ≡ some steps
+  -- two new pages for each split, one for a new root; a root over three levels never splits
+  pub count : mem (newPages steps) (0 ∷ 2 ∷ 3 ∷ 4 ∷ 5 ∷ []) ≡ true
+  pub as-many : length (takenFor s steps) ≡ newPages steps
+  pub length-stays : length (r .working) ≡ length w
+  -- every page but page 0, those entered and those taken is as it was, byte for byte
+  pub page : (i : ℕ) → 1 ≤ i → mem i (numbers steps) ≡ false → mem i (takenFor s steps) ≡ false
+      → pageAt (r .working) i ≡ pageAt w i
+  pub page0 : rootSplits steps ≡ false → pageAt (r .working) 0 ≡ pageAt w 0
+  -- those taken were free and no longer are; no other mark moves but those of pages entered
+  pub taken : (i : ℕ) → mem i (takenFor s steps) ≡ true
+      → (getD (s .free) i false ≡ true) × (getD (r .session .free) i false ≡ false)
+  pub marks : (i : ℕ) → mem i (numbers steps) ≡ false → mem i (takenFor s steps) ≡ false → SameMarks s (r .session) i
+
+-- in tables of any bytes, with any session
+unfoldable pub InsertChanges : Type 0
+InsertChanges =
+    (w t : List ℕ) (s : Session) (model serial issue x : ℕ) → Typed w s model serial issue
+    → insert w t s model serial issue x .answer ≡ Inserted.Done
+    → FewChange w s (keyOf model serial issue) (insert w t s model serial issue x)
