@@ -6,3 +6,5 @@ pub mod Leading
 pub mod Writing
 pub mod Splitting
 pub mod Marking
+pub mod Counts
+pub mod Changes
