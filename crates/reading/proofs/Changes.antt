@@ -46,20 +46,13 @@ use Rattle.reading.proofs.Counts.{counts}
 
 -- ── What an insert that is done has passed ──────────────────────────────────────────────────────────────────────
 
-record Along (k x : ℕ) (s : Session) (w t : List ℕ) (r : Left Inserted) : Type 0 where
-  lengths : lengthsFor s w t ≡ true
-  fit : fit0 (s .n) w ≡ true
-  steps : List Step
-  way : wayOf (s .n) (s .c) k w .steps ≡ some steps
-  roomy : noRoom steps (freePages s (numbers steps)) ≡ false
-  is : r ≡ insertDone k x s steps (wayOf (s .n) (s .c) k w .table) t
-
-abbrev NotDone : Inserted → Type 0
-NotDone a = a ≡ Inserted.Done → ⊥
-
-refused-not : (a : Inserted) → (insertedNo a ≡ 0 → ⊥) → NotDone a
-unfolding insertedNo
-refused-not a f h = f (ap insertedNo h)
+pub record Along (k x : ℕ) (s : Session) (w t : List ℕ) (r : Left Inserted) : Type 0 where
+  pub lengths : lengthsFor s w t ≡ true
+  pub fit : fit0 (s .n) w ≡ true
+  pub steps : List Step
+  pub way : wayOf (s .n) (s .c) k w .steps ≡ some steps
+  pub roomy : noRoom steps (freePages s (numbers steps)) ≡ false
+  pub is : r ≡ insertDone k x s steps (wayOf (s .n) (s .c) k w .table) t
 
 along-done : (k x : ℕ) (s : Session) (way : List Step) (u t : List ℕ) → insertAlong k x s way u t .answer ≡ Inserted.Done
     → (noRoom way (freePages s (numbers way)) ≡ false) × (insertAlong k x s way u t ≡ insertDone k x s way u t)
@@ -85,7 +78,7 @@ key-done k x s w t l f h = go (wayOf (s .n) (s .c) k w .steps) refl
         let d = along-done k x s steps (wayOf (s .n) (s .c) k w .table) t (rw (insertKey, o) at h) in
         rw (insertKey, o) (record { lengths = l; fit = f; steps = steps; way = o; roomy = d .0; is = d .1 })
 
-insert-done : (w t : List ℕ) (s : Session) (model serial issue x : ℕ) → insert w t s model serial issue x .answer ≡ Inserted.Done
+pub insert-done : (w t : List ℕ) (s : Session) (model serial issue x : ℕ) → insert w t s model serial issue x .answer ≡ Inserted.Done
     → Along (keyOf model serial issue) x s w t (insert w t s model serial issue x)
 unfolding insert insertRefused insertedNo
 insert-done w t s model serial issue x h = go (lengthsFor s w t) refl (goodParts model serial issue) refl (fit0 (s .n) w) refl
@@ -266,9 +259,6 @@ pub insert-changes : InsertChanges
 unfolding InsertChanges
 insert-changes w t s model serial issue x y h = go (WL .are)
   where
-    k : ℕ
-    k = keyOf model serial issue
-
     D : Along (keyOf model serial issue) x s w t (insert w t s model serial issue x)
     D = insert-done w t s model serial issue x h
 

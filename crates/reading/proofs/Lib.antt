@@ -8,3 +8,4 @@ pub mod Splitting
 pub mod Marking
 pub mod Counts
 pub mod Changes
+pub mod Adds

@@ -1,5 +1,5 @@
 -- What an insert that is done changes: which pages, which marks, and what is found afterwards.
-use Prim.Native.Nat.{ℕ, _≤_}
+use Prim.Native.Nat.{ℕ, _≤_, _<_}
 use mathlib.Core.Path.{_≡_}
 use mathlib.Core.Bool.{Bool, true, false}
 use mathlib.Core.List.{List, [], _∷_}
@@ -12,8 +12,12 @@ use Rattle.rules.specs.Walk.{Step, Way, numbers, wayOf}
 use Rattle.rules.specs.Marks.{freePages}
 use Rattle.rules.specs.Call.{Left}
 use Rattle.rules.specs.Insert.{rootSplits, newPages, insert}
+use Rattle.rules.specs.Lookup.{lookup}
+use Rattle.rules.specs.History.{Event, State, run, start, AllTyped}
+use Rattle.rules.specs.Demand.{Lent}
 use Rattle.rules.specs.declared.Session.{Session}
 use Rattle.rules.specs.declared.Inserted.{Inserted}
+use Rattle.rules.specs.declared.Looked.{Looked}
 use Rattle.reading.specs.Leaving.{Typed}
 
 -- ── Pages and marks ─────────────────────────────────────────────────────────────────────────────────────────────
@@ -48,3 +52,25 @@ InsertChanges =
     (w t : List ℕ) (s : Session) (model serial issue x : ℕ) → Typed w s model serial issue
     → insert w t s model serial issue x .answer ≡ Inserted.Done
     → FewChange w s (keyOf model serial issue) (insert w t s model serial issue x)
+
+-- ── What is found afterwards ────────────────────────────────────────────────────────────────────────────────────
+
+-- an insert into a store of a history
+abbrev pub inserted : State → ℕ → ℕ → ℕ → ℕ → Left Inserted
+inserted m model serial issue x = insert (m .working) (m .stable) (m .session) model serial issue x
+
+-- a lookup of the key answers 0 with the record, one of any other key as before
+pub record Adds (m : State) (model serial issue x : ℕ) (r : Left Inserted) : Type 0 where
+  pub own : lookup (r .working) (r .stable) (r .session) model serial issue .answer ≡ Looked.Found x
+  pub others : (model′ serial′ issue′ : ℕ) → model′ < 65536 → serial′ < 4294967296 → issue′ < 65536
+      → (keyOf model′ serial′ issue′ ≡ keyOf model serial issue → ⊥)
+      → lookup (r .working) (r .stable) (r .session) model′ serial′ issue′ .answer
+      ≡ lookup (m .working) (m .stable) (m .session) model′ serial′ issue′ .answer
+
+-- at every point of every history while the last opening was done
+unfoldable pub InsertAdds : Type 0
+InsertAdds =
+    (n : ℕ) (w s : List ℕ) → Lent n w s → (h : List Event) → AllTyped h → run h (start w s) .session .n ≡ n
+    → (model serial issue x : ℕ) → model < 65536 → serial < 4294967296 → issue < 65536 → x < 4294967296
+    → inserted (run h (start w s)) model serial issue x .answer ≡ Inserted.Done
+    → Adds (run h (start w s)) model serial issue x (inserted (run h (start w s)) model serial issue x)

@@ -1,0 +1,229 @@
+-- After an insert that is done a lookup of its key finds the record, and of every other key what it found before: demand 3, said of
+-- the call.
+use Prim.Native.Nat.{ℕ, _^_, _≤_, _<_}
+use native.Mathlib.Omega.{arith}
+use mathlib.Core.Path.{_≡_, refl, sym, ap, _∙_, subst}
+use mathlib.Core.Logic.{_≢_}
+use mathlib.Core.Bool.{Bool, true, false}
+use mathlib.Core.List.{List, [], _∷_, _++_}
+use mathlib.Core.Option.{Option, some, none, Option·none-ne-some}
+use lib.Dec.{eqb}
+use lib.ListN.{length, drop, getD}
+use borrow.Author.Tests.{eq-eqb, ne-eqb}
+use Rattle.rules.specs.Layout.{lastKey}
+use Rattle.rules.specs.Key.{keyOf, modelOf, serialOf, issueOf, goodParts}
+use Rattle.rules.specs.Entry.{find}
+use Rattle.rules.specs.Page.{View, Page}
+use Rattle.rules.specs.Table.{fit0}
+use Rattle.rules.specs.Walk.{Step, Way, certsAt, numbers, wayOf}
+use Rattle.rules.specs.Marks.{freePages}
+use Rattle.rules.specs.Call.{Left, lengthsFor, lookedNo}
+use Rattle.rules.specs.Insert.{full, Making, making, grow, halve, split, insertDone, insert}
+use Rattle.rules.specs.Lookup.{foundIn, lookupLeft, lookupKey, lookup}
+use Rattle.rules.specs.History.{Event, inserts, State, latest, recordIn, content, gains, afterInsert, step, run, start, Typed, AllTyped}
+use Rattle.rules.specs.Demand.{Lent, Serves, Demand3}
+use Rattle.rules.specs.declared.Session.{Session}
+use Rattle.rules.specs.declared.Inserted.{Inserted}
+use Rattle.rules.specs.declared.Looked.{Looked}
+use Rattle.rules.proofs.Keys.{modelOf-keyOf, serialOf-keyOf, issueOf-keyOf, keyOf-bound}
+use Rattle.rules.proofs.Retire.{retire-n}
+use Rattle.rules.proofs.Histories.{demand3}
+use Rattle.reading.specs.Inserting.{inserted, Adds, InsertAdds}
+use Rattle.reading.proofs.Changes.{Along, insert-done}
+
+-- ── What a lookup answers, by what it found ─────────────────────────────────────────────────────────────────────
+
+pub answerFor : Option ℕ → Looked
+answerFor none = Looked.Missing
+answerFor (some x) = Looked.Found x
+
+found-for : (k : ℕ) (steps : List Step) → foundIn k steps ≡ answerFor (recordIn (foundIn k steps))
+unfolding foundIn recordIn answerFor
+found-for k steps = go (find k (certsAt steps)) refl
+  where
+    go : (o : Option ℕ) → find k (certsAt steps) ≡ o → foundIn k steps ≡ answerFor (recordIn (foundIn k steps))
+    go none o = rw (foundIn, o)
+    go (some y) o = rw (foundIn, o)
+
+key-for : (k : ℕ) (s : Session) (w t : List ℕ) → (lookupKey k s w t .answer ≡ Looked.Damaged → ⊥)
+    → lookupKey k s w t .answer ≡ answerFor (recordIn (lookupKey k s w t .answer))
+unfolding lookupKey lookupLeft
+key-for k s w t h = go (wayOf (s .n) (s .c) k w .steps) refl
+  where
+    go : (o : Option (List Step)) → wayOf (s .n) (s .c) k w .steps ≡ o
+        → lookupKey k s w t .answer ≡ answerFor (recordIn (lookupKey k s w t .answer))
+    go none o = absurd (h (rw (lookupKey, o)))
+    go (some steps) o = rw (lookupKey, o) (found-for k steps)
+
+module _ (w t : List ℕ) (s : Session) (model serial issue : ℕ) (l : lengthsFor s w t ≡ true) where
+  lookup-for : goodParts model serial issue ≡ true → (lookup w t s model serial issue .answer ≡ Looked.Damaged → ⊥)
+      → lookup w t s model serial issue .answer ≡ answerFor (recordIn (lookup w t s model serial issue .answer))
+  unfolding lookup lookupLeft
+  lookup-for g h = go (fit0 (s .n) w) refl
+    where
+      go : (b : Bool) → fit0 (s .n) w ≡ b
+          → lookup w t s model serial issue .answer ≡ answerFor (recordIn (lookup w t s model serial issue .answer))
+      go false o = absurd (h (rw (lookup, l, g, o)))
+      go true o = rw (lookup, l, g, o) (key-for (keyOf model serial issue) s w t (λ e. h (rw (lookup, l, g, o) e)))
+
+  lookup-bad : goodParts model serial issue ≡ false → lookup w t s model serial issue .answer ≡ Looked.BadKey
+  unfolding lookup lookupLeft
+  lookup-bad g = rw (lookup, l, g)
+
+-- a lookup that finds something had tables of the right length
+found-lengths : (w t : List ℕ) (s : Session) (model serial issue x : ℕ) → lookup w t s model serial issue .answer ≡ Looked.Found x
+    → lengthsFor s w t ≡ true
+unfolding lookup lookupLeft lookedNo
+found-lengths w t s model serial issue x h = go (lengthsFor s w t) refl
+  where
+    go : (b : Bool) → lengthsFor s w t ≡ b → lengthsFor s w t ≡ true
+    go true l = l
+    go false l = absurd (omega (arith, ap lookedNo (rw (lookup, l) at h)))
+
+some-found : (a : Looked) (x : ℕ) → recordIn a ≡ some x → a ≡ Looked.Found x
+unfolding recordIn
+some-found (Looked.Found y) x h = cc
+some-found Looked.Length x h = absurd (Option·none-ne-some x h)
+some-found Looked.BadKey x h = absurd (Option·none-ne-some x h)
+some-found Looked.Damaged x h = absurd (Option·none-ne-some x h)
+some-found Looked.Missing x h = absurd (Option·none-ne-some x h)
+
+-- what a lookup of a key finds, by its parts
+content-of : (s : Session) (w t : List ℕ) (model serial issue : ℕ) → serial < 2 ^ 32 → issue < 2 ^ 16
+    → content s w t (keyOf model serial issue) ≡ recordIn (lookup w t s model serial issue .answer)
+unfolding content
+content-of s w t model serial issue a b = rw (modelOf-keyOf model serial issue a b, serialOf-keyOf model serial issue a b, issueOf-keyOf model serial issue a b)
+
+-- ── The session keeps its number of pages ───────────────────────────────────────────────────────────────────────
+
+halve-n : (c k : ℕ) (s : Step) (a b : ℕ) (M : Making) → halve c k s a b M .session .n ≡ M .session .n
+unfolding halve
+halve-n c k s a b M = retire-n c s _
+
+split-n : (c k : ℕ) (way : List Step) (new : List ℕ) (M : Making) → split c k way new M .session .n ≡ M .session .n
+unfolding split grow
+split-n c k [] new M = refl
+split-n c k (s ∷ []) new M = go (full (s .page .view)) refl
+  where
+    go : (b : Bool) → full (s .page .view) ≡ b → split c k (s ∷ []) new M .session .n ≡ M .session .n
+    go true f = rw (f, split) (halve-n c k s (getD new 0 0) (getD new 1 0) (grow c s (getD new 2 0) M))
+    go false f = rw (f, split)
+split-n c k (s ∷ (u ∷ above)) new M = go (full (s .page .view)) refl (split-n c k (u ∷ above) (drop 2 new) M)
+  where
+    go : (b : Bool) → full (s .page .view) ≡ b → split c k (u ∷ above) (drop 2 new) M .session .n ≡ M .session .n
+        → split c k (s ∷ (u ∷ above)) new M .session .n ≡ M .session .n
+    go true f ih = rw (f, split) (halve-n c k s (getD new 0 0) (getD new 1 0) (split c k (u ∷ above) (drop 2 new) M) ∙ ih)
+    go false f ih = rw (f, split)
+
+done-n : (k x : ℕ) (s : Session) (way : List Step) (w t : List ℕ) → insertDone k x s way w t .session .n ≡ s .n
+unfolding insertDone
+done-n k x s way w t = split-n (s .c) k way (freePages s (numbers way)) (making w s 0)
+
+-- ── One event more ──────────────────────────────────────────────────────────────────────────────────────────────
+
+run-then : (h : List Event) (e : Event) (m : State) → run (h ++ (e ∷ [])) m ≡ step e (run h m)
+unfolding run
+run-then [] e m = refl
+run-then (x ∷ h) e m = run-then h e (step x m)
+
+typed-then : (h : List Event) (e : Event) → AllTyped h → Typed e → AllTyped (h ++ (e ∷ []))
+unfolding AllTyped
+typed-then [] e t y = (y, tt)
+typed-then (x ∷ h) e t y = (t .0, typed-then h e (t .1) y)
+
+past-done : (k x : ℕ) (m : State) (r : Left Inserted) → r .answer ≡ Inserted.Done → afterInsert k x m r .past ≡ gains k x (m .past)
+unfolding afterInsert
+past-done k x m r h = rw (h, afterInsert)
+
+gains-own : (k x : ℕ) (past : ℕ → List (Option ℕ)) → latest (gains k x past k) ≡ some x
+unfolding gains latest
+gains-own k x past = rw (eq-eqb k k refl, gains)
+
+gains-other : (k x j : ℕ) (past : ℕ → List (Option ℕ)) → j ≢ k → latest (gains k x past j) ≡ latest (past j)
+unfolding gains latest
+gains-other k x j past d = rw (ne-eqb j k d, gains)
+
+-- ── The theorem ─────────────────────────────────────────────────────────────────────────────────────────────────
+
+module _ (m : State) (model serial issue x : ℕ) (wide-model : model < 65536) (wide-serial : serial < 4294967296) (wide-issue : issue < 65536)
+    (before : Serves m) (after : Serves (step (inserts model serial issue x) m)) (done : inserted m model serial issue x .answer ≡ Inserted.Done) where
+  abbrev k : ℕ
+  k = keyOf model serial issue
+
+  abbrev r : Left Inserted
+  r = inserted m model serial issue x
+
+  -- what is found of a key afterwards
+  now : (j : ℕ) → j ≤ lastKey → content (r .session) (r .working) (r .stable) j ≡ latest (gains k x (m .past) j)
+  unfolding step afterInsert
+  now j h =
+      after .looks-up j h
+      ∙ ap (λ (p : ℕ → List (Option ℕ)). latest (p j)) (past-done k x m r done)
+
+  own : lookup (r .working) (r .stable) (r .session) model serial issue .answer ≡ Looked.Found x
+  own =
+      some-found (lookup (r .working) (r .stable) (r .session) model serial issue .answer) x
+      (sym (content-of (r .session) (r .working) (r .stable) model serial issue (omega arith) (omega arith))
+      ∙ (now k (omega (arith, keyOf-bound model serial issue (omega arith) (omega arith) (omega arith))) ∙ gains-own k x (m .past)))
+
+  others : (model′ serial′ issue′ : ℕ) → model′ < 65536 → serial′ < 4294967296 → issue′ < 65536 → keyOf model′ serial′ issue′ ≢ k
+      → lookup (r .working) (r .stable) (r .session) model′ serial′ issue′ .answer
+      ≡ lookup (m .working) (m .stable) (m .session) model′ serial′ issue′ .answer
+  unfolding step afterInsert
+  others model′ serial′ issue′ a b c d = go (goodParts model′ serial′ issue′) refl
+    where
+      j : ℕ
+      j = keyOf model′ serial′ issue′
+
+      j-bound : keyOf model′ serial′ issue′ ≤ lastKey
+      j-bound = omega (arith, keyOf-bound model′ serial′ issue′ (omega arith) (omega arith) (omega arith))
+
+      lengths-after : lengthsFor (r .session) (r .working) (r .stable) ≡ true
+      lengths-after = found-lengths (r .working) (r .stable) (r .session) model serial issue x own
+
+      lengths-before : lengthsFor (m .session) (m .working) (m .stable) ≡ true
+      lengths-before = insert-done (m .working) (m .stable) (m .session) model serial issue x done .lengths
+
+      same : recordIn (lookup (r .working) (r .stable) (r .session) model′ serial′ issue′ .answer)
+          ≡ recordIn (lookup (m .working) (m .stable) (m .session) model′ serial′ issue′ .answer)
+      same =
+          sym (content-of (r .session) (r .working) (r .stable) model′ serial′ issue′ (omega arith) (omega arith))
+          ∙ (now (keyOf model′ serial′ issue′) j-bound
+          ∙ (gains-other k x (keyOf model′ serial′ issue′) (m .past) d
+          ∙ (sym (before .looks-up (keyOf model′ serial′ issue′) j-bound)
+          ∙ content-of (m .session) (m .working) (m .stable) model′ serial′ issue′ (omega arith) (omega arith))))
+
+      go : (g : Bool) → goodParts model′ serial′ issue′ ≡ g
+          → lookup (r .working) (r .stable) (r .session) model′ serial′ issue′ .answer
+          ≡ lookup (m .working) (m .stable) (m .session) model′ serial′ issue′ .answer
+      go true g =
+          lookup-for (r .working) (r .stable) (r .session) model′ serial′ issue′ lengths-after g (after .lookup-whole model′ serial′ issue′)
+          ∙ (ap answerFor same
+          ∙ sym (lookup-for (m .working) (m .stable) (m .session) model′ serial′ issue′ lengths-before g (before .lookup-whole model′ serial′ issue′)))
+      go false g =
+          lookup-bad (r .working) (r .stable) (r .session) model′ serial′ issue′ lengths-after g
+          ∙ sym (lookup-bad (m .working) (m .stable) (m .session) model′ serial′ issue′ lengths-before g)
+
+  adds : Adds m model serial issue x r
+  adds = record { own = own; others = others }
+
+pub insert-adds : InsertAdds
+unfolding InsertAdds Demand3 step afterInsert Typed
+insert-adds n w s l h t z model serial issue x a b c d done =
+    adds m model serial issue x a b c (demand3 n w s l h t .1 z)
+    (subst Serves (run-then h e (start w s)) (demand3 n w s l (h ++ (e ∷ [])) (typed-then h e t (a, b, c, d)) .1 pages)) done
+  where
+    e : Event
+    e = inserts model serial issue x
+
+    m : State
+    m = run h (start w s)
+
+    pages : run (h ++ (inserts model serial issue x ∷ [])) (start w s) .session .n ≡ n
+    pages =
+        let y = insert-done (run h (start w s) .working) (run h (start w s) .stable) (run h (start w s) .session) model serial issue x done in
+        ap (λ (q : State). q .session .n) (run-then h (inserts model serial issue x) (start w s))
+        ∙ (ap (λ (q : Left Inserted). q .session .n) (y .is)
+        ∙ (done-n (keyOf model serial issue) x (run h (start w s) .session) (y .steps)
+        (wayOf (run h (start w s) .session .n) (run h (start w s) .session .c) (keyOf model serial issue) (run h (start w s) .working) .table)
+        (run h (start w s) .stable) ∙ z))
