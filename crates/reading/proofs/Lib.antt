@@ -9,3 +9,4 @@ pub mod Marking
 pub mod Counts
 pub mod Changes
 pub mod Adds
+pub mod Soundly
