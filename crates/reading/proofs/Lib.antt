@@ -10,3 +10,5 @@ pub mod Counts
 pub mod Changes
 pub mod Adds
 pub mod Soundly
+pub mod TreeCerts
+pub mod Gathers

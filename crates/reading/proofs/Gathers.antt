@@ -1,0 +1,213 @@
+-- A walk over a range, in any table whose tree passes opening's tests: it meets no damage, and finds the certificates of the tree
+-- in that range, in order, until there is no room.
+use Prim.Native.Nat.{ℕ, zero, suc, _-_, _≤_, _<_}
+use native.Mathlib.Omega.{arith}
+use mathlib.Core.Path.{_≡_, refl, sym, ap, _∙_, subst}
+use mathlib.Core.Logic.{_⊎_, inl, inr}
+use mathlib.Core.Bool.{Bool, true, false}
+use mathlib.Core.List.{List, [], _∷_, _++_, append-nil, append-assoc, List·Memᴰ, List·Memᴰ·head, List·Memᴰ·tail}
+use mathlib.Core.Option.{Option, some, none, Option·some-injective}
+use lib.Dec.{leb, ltb}
+use lib.ListN.{length, take, length-append, length-take}
+use lib.Seq.{take-nil}
+use borrow.Author.Tests.{ltb-false, leb-false}
+use Rattle.rules.specs.Layout.{topKind, lastKey}
+use Rattle.rules.specs.Test.{between, every, all, mem}
+use Rattle.rules.specs.Entry.{Entry, Cert, keys, cut}
+use Rattle.rules.specs.Page.{View, Page}
+use Rattle.rules.specs.Place.{rootPlace, kids, show}
+use Rattle.rules.specs.Enter.{Entered, enter}
+use Rattle.rules.specs.Walk.{Walked, enters, finds, walkEach, walk, walkOf}
+use Rattle.rules.specs.Tree.{Tree, empty, join, here, treeEach, tree, treeOf}
+use Rattle.rules.specs.declared.Asked.{Asked}
+use Rattle.rules.specs.declared.Place.{Place}
+use Rattle.rules.proofs.Tests.{not-both, fails, all-mem, between-low, between-high, between-below, between-above}
+use Rattle.rules.proofs.Entries.{cut-nil, cut-none, cut-append}
+use Rattle.rules.proofs.Ways.{Node}
+use Rattle.rules.proofs.Invariant.{Good}
+use Rattle.rules.proofs.Kids.{shown-kind}
+use Rattle.rules.proofs.Nodes.{node-root, kid-kind}
+use Rattle.rules.proofs.Opens.{tree-shown, kid-node}
+use Rattle.rules.proofs.Enters.{Higher, AllHigher, none-higher, more-higher}
+use Rattle.reading.proofs.Soundly.{Passing, Shows, shows-itself, Seen, enter-seen}
+use Rattle.reading.proofs.TreeCerts.{Ordered, orders}
+
+-- ── Lists filled until there is no room ─────────────────────────────────────────────────────────────────────────
+
+take-append : (m : ℕ) (xs ys : List Cert) → take m (xs ++ ys) ≡ take m xs ++ take (m - length xs) ys
+take-append m [] ys = let q : m - 0 ≡ m = omega arith in rw (take-nil {A = Cert} m, q)
+take-append zero (x ∷ xs) ys = let q : 0 - length (x ∷ xs) ≡ 0 = omega arith in rw q
+take-append (suc m) (x ∷ xs) ys =
+    let q : suc m - length (x ∷ xs) ≡ m - length xs = omega arith in
+    rw q (ap (λ (zs : List Cert). x ∷ zs) (take-append m xs ys))
+
+-- what is found after some certificates, of some others in the range, while there is room
+abbrev pub gather : Asked → List Cert → List Cert → List Cert
+gather a xs ys = xs ++ take (a .room - length xs) (cut (a .low) (a .high) ys)
+
+module _ (a : Asked) (xs : List Cert) where
+  gather-nil : gather a xs [] ≡ xs
+  gather-nil = rw (cut-nil {B = ℕ} (a .low) (a .high), take-nil {A = Cert} (a .room - length xs)) (append-nil xs)
+
+  gather-append : (ys zs : List Cert) → gather a (gather a xs ys) zs ≡ gather a xs (ys ++ zs)
+  gather-append ys zs =
+      let A = cut (a .low) (a .high) ys in
+      let B = cut (a .low) (a .high) zs in
+      let m = a .room - length xs in
+      let q : a .room - length (xs ++ take m A) ≡ m - length A = simp (length-append, length-take) (omega arith) in
+      rw (cut-append (a .low) (a .high) ys zs, take-append m A B, q) (append-assoc xs (take m A) (take (m - length A) B))
+
+  -- nothing is found where there is no room, or beside the range
+  gather-full : (ys : List Cert) → a .room ≤ length xs → gather a xs ys ≡ xs
+  gather-full ys h = let q : a .room - length xs ≡ 0 = omega arith in rw q (append-nil xs)
+
+  gather-beside : (low high : ℕ) (ys : List Cert) → all (between low high) (keys ys) ≡ true → (a .high < low) ⊎ (high < a .low) → gather a xs ys ≡ xs
+  gather-beside low high ys w o =
+      rw (cut-none (a .low) (a .high) ys (λ k m. out k (all-mem (between low high) k (keys ys) w m) o), take-nil {A = Cert} (a .room - length xs)) (append-nil xs)
+    where
+      out : (k : ℕ) → between low high k ≡ true → (a .high < low) ⊎ (high < a .low) → between (a .low) (a .high) k ≡ false
+      out k b (inl h) = between-above (a .low) (a .high) k (omega (arith, between-low low high k b))
+      out k b (inr h) = between-below (a .low) (a .high) k (omega (arith, between-high low high k b))
+
+-- ── One step of the rules' walk ─────────────────────────────────────────────────────────────────────────────────
+
+walk-past : (level n c : ℕ) (a : Asked) (above : List ℕ) (e : Place) (w : Walked) → enters a e w ≡ false
+    → walk (suc level) n c a above e w ≡ w
+unfolding walk
+walk-past level n c a above e w h = rw (h, walk)
+
+walk-here : (level n c : ℕ) (a : Asked) (above : List ℕ) (e : Place) (w : Walked) (p : Page) → enters a e w ≡ true
+    → enter n c above (w .table) e .page ≡ some p
+    → walk (suc level) n c a above e w
+    ≡ walkEach (walk level n c a (e .child ∷ above)) (kids e (p .view)) (finds a (p .view) w (enter n c above (w .table) e .table))
+unfolding walk
+walk-here level n c a above e w p h q = rw (h, walk) (rw q)
+
+-- a place that is not entered, though no damage was met
+data Past (a : Asked) (e : Place) (xs : List Cert) : Type 0 where
+  no-room : a .room ≤ length xs → Past a e xs
+  beside : (a .high < e .low) ⊎ (e .high < a .low) → Past a e xs
+
+past : (a : Asked) (e : Place) (w : Walked) → w .whole ≡ true → enters a e w ≡ false → Past a e (w .found)
+unfolding enters every
+past a e w h f =
+    go (ltb (length (w .found)) (a .room)) refl (leb (e .low) (a .high)) refl (leb (a .low) (e .high)) refl
+  where
+    go : (x : Bool) → ltb (length (w .found)) (a .room) ≡ x → (y : Bool) → leb (e .low) (a .high) ≡ y → (z : Bool) → leb (a .low) (e .high) ≡ z
+        → Past a e (w .found)
+    go false p y q z r = no-room (ltb-false (length (w .found)) (a .room) p)
+    go true p false q z r = beside (inl (leb-false (e .low) (a .high) q))
+    go true p true q false r = beside (inr (leb-false (a .low) (e .high) r))
+    go true p true q true r = absurd (not-both (rw (h, p, q, r)) f)
+
+-- ── The walk ────────────────────────────────────────────────────────────────────────────────────────────────────
+
+module _ {n c : ℕ} {t : List ℕ} (p : Passing n c t) (a : Asked) where
+  -- nothing damaged was met so far, and xs was found
+  pub record Walking (xs : List Cert) (w : Walked) : Type 0 where
+    pub whole : w .whole ≡ true
+    pub found : w .found ≡ xs
+    pub left : Shows n c t (w .table)
+
+  abbrev Gathers : ℕ → List ℕ → Place → Type 0
+  Gathers level above e =
+      (xs : List Cert) (w : Walked) → Walking xs w
+      → Walking (gather a xs (tree level n t e .certs)) (walk level n c a above e w)
+
+  each : (level : ℕ) (above : List ℕ) (es : List Place) → ((d : Place) → List·Memᴰ d es → Gathers level above d)
+      → (xs : List Cert) (w : Walked) → Walking xs w
+      → Walking (gather a xs (treeEach (tree level n t) es .certs)) (walkEach (walk level n c a above) es w)
+  unfolding walkEach treeEach empty join
+  each level above [] f xs w h = subst (λ (ys : List Cert). Walking ys w) (sym (gather-nil a xs)) h
+  each level above (e ∷ es) f xs w h =
+      subst (λ (ys : List Cert). Walking ys (walkEach (walk level n c a above) es (walk level n c a above e w)))
+      (gather-append a xs (tree level n t e .certs) (treeEach (tree level n t) es .certs))
+      (each level above es (λ d m. f d (List·Memᴰ·tail m)) (gather a xs (tree level n t e .certs)) (walk level n c a above e w)
+      (f e (List·Memᴰ·head refl) xs w h))
+
+  -- no page above is entered again
+  apart : {k : ℕ} {e : Place} {v : View} → Node n t k e → show n t e ≡ some v → (above : List ℕ) → AllHigher n t (v .kind) above
+      → mem (e .child) above ≡ false
+  apart {k} {e} {v} node shows above higher = fails (mem (e .child) above) (λ m. clash (higher (e .child) m))
+    where
+      clash : Higher n t (v .kind) (e .child) → ⊥
+      clash y =
+          let q : y .place ≡ e = p .good .once (y .node) node (y .names) in
+          let w : y .view ≡ v = Option·some-injective (y .view) v (sym (y .shows) ∙ (ap (show n t) q ∙ shows)) in
+          omega (arith, y .above, ap (λ (z : View). z .kind) w)
+
+  module _ {k : ℕ} {e : Place} (v : View) (node : Node n t k e) (shows : show n t e ≡ some v) (above : List ℕ)
+      (higher : AllHigher n t (v .kind) above) (xs : List Cert) (w : Walked) (h : Walking xs w) where
+    seen : Seen n c t v (enter n c above (w .table) e)
+    seen = enter-seen v above (h .left) node shows (apart node shows above higher)
+
+    -- on entering
+    begun : Walking (gather a xs (v .certs)) (finds a v w (enter n c above (w .table) e .table))
+    unfolding finds
+    begun =
+        record {
+          whole = refl;
+          found = ap (λ (ys : List Cert). ys ++ take (a .room - length ys) (cut (a .low) (a .high) (v .certs))) (h .found);
+          left = seen .left;
+        }
+
+  -- the kids of a node are nodes of one kind lower
+  below : {k : ℕ} {e : Place} (v : View) (level : ℕ) (above : List ℕ) → Node n t k e → show n t e ≡ some v
+      → v .kind ≤ suc level → AllHigher n t (v .kind) above
+      → ((j : ℕ) (d : Place) (u : View) (above : List ℕ) → Node n t j d → show n t d ≡ some u → u .kind ≤ level
+      → AllHigher n t (u .kind) above → Gathers level above d)
+      → (d : Place) → List·Memᴰ d (kids e v) → Gathers level (e .child ∷ above) d
+  below {k} {e} v level above node shows low higher ih d m =
+      let y = kid-node v d node shows m in
+      let z = p .good .whole (y .1) in
+      let l = kid-kind n t e v shows (d .low) d (y .0) (z .view) (z .shows) in
+      ih (d .low) d (z .view) (e .child ∷ above) (y .1) (z .shows) (omega (arith, l))
+      (more-higher above v (z .view .kind) node shows (omega (arith, l)) higher)
+
+  certs-here : (level : ℕ) (e : Place) (v : View) → show n t e ≡ some v
+      → tree (suc level) n t e .certs ≡ v .certs ++ treeEach (tree level n t) (kids e v) .certs
+  unfolding join here
+  certs-here level e v s = ap (λ (y : Tree). y .certs) (tree-shown level n t e v s)
+
+  gathers : (level k : ℕ) (e : Place) (v : View) (above : List ℕ) → Node n t k e → show n t e ≡ some v
+      → v .kind ≤ level → AllHigher n t (v .kind) above → Gathers level above e
+  gathers zero k e v above node shows low higher xs w h = absurd (omega (arith, shown-kind n t e v shows .0))
+  gathers (suc level) k e v above node shows low higher xs w h =
+      go (enters a e w) refl (below v level above node shows low higher (gathers level))
+    where
+      r : Seen n c t v (enter n c above (w .table) e)
+      r = seen v node shows above higher xs w h
+
+      Goal : Type 0
+      Goal = Walking (gather a xs (tree (suc level) n t e .certs)) (walk (suc level) n c a above e w)
+
+      by : Past a e (w .found) → gather a xs (tree (suc level) n t e .certs) ≡ xs
+      by (no-room z) = gather-full a xs (tree (suc level) n t e .certs) (omega (arith, z, ap length (h .found)))
+      by (beside z) =
+          gather-beside a xs (e .low) (e .high) (tree (suc level) n t e .certs)
+          (orders (p .good) (suc level) k e v node shows low .within) z
+
+      go : (b : Bool) → enters a e w ≡ b → ((d : Place) → List·Memᴰ d (kids e v) → Gathers level (e .child ∷ above) d) → Goal
+      go false q ih =
+          subst (λ (ys : List Cert). Walking ys (walk (suc level) n c a above e w)) (sym (by (past a e w (h .whole) q)))
+          (subst (Walking xs) (sym (walk-past level n c a above e w q)) h)
+      go true q ih =
+          subst (λ (ys : List Cert). Walking ys (walk (suc level) n c a above e w))
+          (gather-append a xs (v .certs) (treeEach (tree level n t) (kids e v) .certs)
+          ∙ ap (gather a xs) (sym (certs-here level e v shows)))
+          (subst (Walking (gather a (gather a xs (v .certs)) (treeEach (tree level n t) (kids e v) .certs)))
+          (sym (walk-here level n c a above e w (r .page) q (r .given)))
+          (subst (λ (u : View). Walking (gather a (gather a xs (v .certs)) (treeEach (tree level n t) (kids e v) .certs))
+          (walkEach (walk level n c a (e .child ∷ above)) (kids e u) (finds a u w (enter n c above (w .table) e .table)))) (sym (r .view))
+          (each level (e .child ∷ above) (kids e v) ih (gather a xs (v .certs))
+          (finds a v w (enter n c above (w .table) e .table)) (begun v node shows above higher xs w h))))
+
+  -- the whole tree
+  pub walk-gathers : Walking (gather a [] (treeOf n t .certs)) (walkOf n c a t)
+  unfolding walkOf treeOf
+  walk-gathers =
+      let x = node-root n t 0 (omega arith) in
+      let z = p .good .whole x in
+      let l = shown-kind n t (rootPlace t) (z .view) (z .shows) in
+      gathers topKind 0 (rootPlace t) (z .view) [] x (z .shows) (l .1) (none-higher n t (z .view .kind)) []
+      (record { table = t; whole = true; found = [] }) (record { whole = refl; found = refl; left = shows-itself p })
