@@ -126,7 +126,7 @@ module _ {n c : ℕ} {t : List ℕ} (p : Passing n c t) (a : Asked) where
       (f e (List·Memᴰ·head refl) xs w h))
 
   -- no page above is entered again
-  apart : {k : ℕ} {e : Place} {v : View} → Node n t k e → show n t e ≡ some v → (above : List ℕ) → AllHigher n t (v .kind) above
+  pub apart : {k : ℕ} {e : Place} {v : View} → Node n t k e → show n t e ≡ some v → (above : List ℕ) → AllHigher n t (v .kind) above
       → mem (e .child) above ≡ false
   apart {k} {e} {v} node shows above higher = fails (mem (e .child) above) (λ m. clash (higher (e .child) m))
     where

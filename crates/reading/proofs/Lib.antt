@@ -12,3 +12,5 @@ pub mod Adds
 pub mod Soundly
 pub mod TreeCerts
 pub mod Gathers
+pub mod Ends
+pub mod Passes
