@@ -29,13 +29,10 @@ use Rattle.rules.proofs.Keys.{modelOf-keyOf, serialOf-keyOf, issueOf-keyOf, key
 use Rattle.rules.proofs.Retire.{retire-n}
 use Rattle.rules.proofs.Histories.{demand3}
 use Rattle.reading.specs.Inserting.{inserted, Adds, InsertAdds}
+use Rattle.reading.specs.Agreeing.{answerFor}
 use Rattle.reading.proofs.Changes.{Along, insert-done}
 
 -- ── What a lookup answers, by what it found ─────────────────────────────────────────────────────────────────────
-
-pub answerFor : Option ℕ → Looked
-answerFor none = Looked.Missing
-answerFor (some x) = Looked.Found x
 
 found-for : (k : ℕ) (steps : List Step) → foundIn k steps ≡ answerFor (recordIn (foundIn k steps))
 unfolding foundIn recordIn answerFor

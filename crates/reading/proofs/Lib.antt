@@ -14,3 +14,6 @@ pub mod TreeCerts
 pub mod Gathers
 pub mod Ends
 pub mod Passes
+pub mod Largest
+pub mod SameTree
+pub mod Agrees

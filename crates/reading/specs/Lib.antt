@@ -2,3 +2,4 @@
 pub mod Reading
 pub mod Leaving
 pub mod Inserting
+pub mod Agreeing

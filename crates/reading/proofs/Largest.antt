@@ -1,0 +1,135 @@
+-- The last of certificates that rise is the newest of its meter.
+use Prim.Native.Nat.{ℕ, zero, suc, _+_, _-_, _^_, _≤_, _<_}
+use native.Mathlib.Omega.{arith}
+use mathlib.Core.Path.{_≡_, refl, sym, ap, _∙_, subst}
+use mathlib.Core.Bool.{Bool, true, false}
+use mathlib.Core.List.{List, [], _∷_, _++_}
+use mathlib.Core.Option.{Option, some, none}
+use lib.ListN.{length, take}
+use lib.Seq.{take-all}
+use Rattle.rules.specs.Layout.{lastKey}
+use Rattle.rules.specs.Test.{between, all, mem}
+use Rattle.rules.specs.Key.{keyOf, modelOf, serialOf, issueOf}
+use Rattle.rules.specs.Entry.{Entry, Cert, keys, find, cut, risesFrom, rising}
+use Rattle.rules.specs.Newest.{meter, newestIn}
+use Rattle.rules.specs.declared.Asked.{Asked}
+use Rattle.rules.specs.declared.Newest.{Newest}
+use Rattle.rules.proofs.Keys.{keyOf-parts, modelOf-meter, serialOf-meter, issueOf-bound}
+use Rattle.rules.proofs.Tests.{all-head, all-tail, all-imp, all-mem, between-wider, between-of, between-low, between-high}
+use Rattle.rules.proofs.Rises.{rises-head, rises-tail, rises-mem, rising-from, rising-tail, length-keys}
+use Rattle.rules.proofs.Entries.{find-head, find-tail, mem-find, find-none, find-cut, cut-within, cut-rising}
+use Rattle.reading.specs.Agreeing.{Largest, found, missing}
+use Rattle.reading.proofs.Gathers.{gather}
+
+-- ── How many keys a range has ───────────────────────────────────────────────────────────────────────────────────
+
+length-rises : (k high : ℕ) (xs : List ℕ) → risesFrom k xs ≡ true → all (between 0 high) xs ≡ true → k ≤ high → length xs ≤ high - k
+length-rises k high [] r w h = omega arith
+length-rises k high (x ∷ xs) r w h =
+    let a = rises-head k x xs r in
+    let b = between-high 0 high x (all-head (between 0 high) x xs w) in
+    let c = length-rises x high xs (rises-tail k x xs r) (all-tail (between 0 high) x xs w) b in
+    omega (arith, a, b, c)
+
+length-rising : (low high : ℕ) (xs : List ℕ) → rising xs ≡ true → all (between low high) xs ≡ true → length xs ≤ suc high - low
+length-rising low high [] r w = omega arith
+length-rising low high (x ∷ xs) r w =
+    let a = all-head (between low high) x xs w in
+    let b = between-low low high x a in
+    let c = between-high low high x a in
+    let d = length-rises x high xs (rising-from x xs r)
+    (all-imp (between low high) (between 0 high) (λ k y. between-wider low high 0 high k (omega arith) (omega arith) y) xs (all-tail (between low high) x xs w)) c in
+    omega (arith, b, c, d)
+
+-- where there is room for all
+gather-all : (a : Asked) (ys : List Cert) → length (cut (a .low) (a .high) ys) ≤ a .room → gather a [] ys ≡ cut (a .low) (a .high) ys
+gather-all a ys h =
+    let q : a .room - 0 ≡ a .room = omega arith in
+    rw q (take-all (a .room) (cut (a .low) (a .high) ys) h)
+
+-- ── The last one ────────────────────────────────────────────────────────────────────────────────────────────────
+
+record Last (xs : List Cert) : Type 0 where
+  entry : Cert
+  answer : newestIn xs ≡ Newest.Found (issueOf (entry .key)) (entry .value)
+  finds : find (entry .key) xs ≡ some (entry .value)
+  none-above : (k : ℕ) → entry .key < k → find k xs ≡ none
+
+last-of : (x : Cert) (xs : List Cert) → rising (keys (x ∷ xs)) ≡ true → Last (x ∷ xs)
+unfolding newestIn keys find
+last-of x [] r = record {
+  entry = x;
+  answer = refl;
+  finds = find-head (x .key) x [] refl;
+  none-above = λ k h. find-tail k x [] (λ q. absurd (omega (arith, q, h)));
+}
+last-of x (y ∷ ys) r =
+    let l = last-of y ys (rising-tail (x .key) (keys (y ∷ ys)) r) in
+    let up = rises-mem (x .key) (l .entry .key) (keys (y ∷ ys)) (rising-from (x .key) (keys (y ∷ ys)) r)
+    (mem-find (l .entry .key) (y ∷ ys) (l .entry .value) (l .finds)) in
+    record {
+      entry = l .entry;
+      answer = l .answer;
+      finds = find-tail (l .entry .key) x (y ∷ ys) (λ q. absurd (omega (arith, q, up))) ∙ l .finds;
+      none-above = λ k h. find-tail k x (y ∷ ys) (λ q. absurd (omega (arith, q, h, up))) ∙ l .none-above k h;
+    }
+
+-- ── Of one meter ────────────────────────────────────────────────────────────────────────────────────────────────
+
+module _ (certs : List Cert) (rise : rising (keys certs) ≡ true) (model serial : ℕ) (wide : serial < 2 ^ 32) where
+  abbrev low : ℕ
+  low = keyOf model serial 1
+
+  abbrev high : ℕ
+  high = keyOf model serial 65535
+
+  abbrev own : List Cert
+  own = cut low high certs
+
+  -- there is room for all of them
+  few : length own ≤ 65535
+  unfolding keyOf
+  few = omega (arith, length-rising low high (keys own) (cut-rising low high certs rise) (cut-within low high certs), length-keys own)
+
+  pub gather-meter : gather (meter model serial) [] certs ≡ own
+  unfolding meter
+  gather-meter = gather-all (meter model serial) certs (omega (arith, few))
+
+  in-meter : (j : ℕ) → 1 ≤ j → j < 65536 → find (keyOf model serial j) own ≡ find (keyOf model serial j) certs
+  unfolding keyOf
+  in-meter j a b = find-cut low high (keyOf model serial j) certs (between-of low high (keyOf model serial j) (omega arith) (omega arith))
+
+  above-issue : (i j : ℕ) → i < j → keyOf model serial i < keyOf model serial j
+  unfolding keyOf
+  above-issue i j h = omega arith
+
+  -- a key in the meter's range is that of its issue
+  issue-of : (k : ℕ) → low ≤ k → k ≤ high → (keyOf model serial (issueOf k) ≡ k) × (1 ≤ issueOf k)
+  unfolding keyOf issueOf
+  issue-of k a b = (omega arith, omega arith)
+
+  pub largest : Largest certs model serial (newestIn own)
+  unfolding newestIn find
+  largest = go own refl
+    where
+      ends : (x : Cert) (xs : List Cert) → own ≡ x ∷ xs → Largest certs model serial (newestIn own)
+      ends x xs q =
+          let l = last-of x xs (ap (λ (ys : List Cert). rising (keys ys)) (sym q) ∙ cut-rising low high certs rise) in
+          let k = l .entry .key in
+          let f : find k own ≡ some (l .entry .value) = ap (find k) q ∙ l .finds in
+          let b = all-mem (between low high) k (keys own) (cut-within low high certs) (mem-find k own (l .entry .value) f) in
+          let i = issue-of k (between-low low high k b) (between-high low high k b) in
+          found (issueOf k) (l .entry .value) (ap newestIn q ∙ l .answer)
+          (ap (λ (j : ℕ). find j certs) (i .0) ∙ (sym (find-cut low high k certs b) ∙ f))
+          (λ j h m. sym (in-meter j (omega (arith, i .1, h)) m)
+          ∙ (ap (find (keyOf model serial j)) q ∙ l .none-above (keyOf model serial j) (omega (arith, above-issue (issueOf k) j h, i .0))))
+
+      go : (xs : List Cert) → own ≡ xs → Largest certs model serial (newestIn own)
+      go [] q = missing (ap newestIn q ∙ nothing) (λ j a b. sym (in-meter j a b) ∙ (ap (find (keyOf model serial j)) q ∙ nowhere (keyOf model serial j)))
+        where
+          nothing : newestIn [] ≡ Newest.Missing
+          nothing = refl
+
+          nowhere : (k : ℕ) → find {B = ℕ} k [] ≡ none
+          nowhere k = refl
+      go (x ∷ xs) q = ends x xs q
