@@ -42,7 +42,7 @@ length-rising low high (x ∷ xs) r w =
     omega (arith, b, c, d)
 
 -- where there is room for all
-gather-all : (a : Asked) (ys : List Cert) → length (cut (a .low) (a .high) ys) ≤ a .room → gather a [] ys ≡ cut (a .low) (a .high) ys
+pub gather-all : (a : Asked) (ys : List Cert) → length (cut (a .low) (a .high) ys) ≤ a .room → gather a [] ys ≡ cut (a .low) (a .high) ys
 gather-all a ys h =
     let q : a .room - 0 ≡ a .room = omega arith in
     rw q (take-all (a .room) (cut (a .low) (a .high) ys) h)

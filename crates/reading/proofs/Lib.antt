@@ -17,3 +17,4 @@ pub mod Passes
 pub mod Largest
 pub mod SameTree
 pub mod Agrees
+pub mod OpeningEnters

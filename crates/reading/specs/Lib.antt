@@ -3,3 +3,4 @@ pub mod Reading
 pub mod Leaving
 pub mod Inserting
 pub mod Agreeing
+pub mod Entering
