@@ -243,13 +243,13 @@ fate-step : {n : ℕ} {m : State} → Fate n m → (e : Event) → Typed e → F
 fate-step (alive a) e t = alive-step a e t
 fate-step (over o) e t = over (over-step o e)
 
-fate-run : {n : ℕ} (m : State) → Fate n m → (h : List Event) → AllTyped h → Fate n (run h m)
+pub fate-run : {n : ℕ} (m : State) → Fate n m → (h : List Event) → AllTyped h → Fate n (run h m)
 unfolding run AllTyped
 fate-run m f [] t = f
 fate-run m f (e ∷ es) t = fate-run (step e m) (fate-step f e (t .0)) es (t .1)
 
 -- format, then open
-fate-start : (n : ℕ) (w s : List ℕ) → Lent n w s → Fate n (start w s)
+pub fate-start : (n : ℕ) (w s : List ℕ) → Lent n w s → Fate n (start w s)
 unfolding start format
 fate-start n w s l =
     alive (subst (λ (t : List ℕ). Alive n (afterOpen before (opening w t))) (sym formats)
