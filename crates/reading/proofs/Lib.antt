@@ -18,3 +18,4 @@ pub mod Largest
 pub mod SameTree
 pub mod Agrees
 pub mod OpeningEnters
+pub mod HistoriesAgree

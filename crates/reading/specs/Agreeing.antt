@@ -79,6 +79,11 @@ pub record Agree (w t : List ℕ) (s : Session) : Type 0 where
   pub after-newest : (model serial : ℕ) → held s (newest w t s model serial .working) ≡ held s w
   pub after-list : (start : ℕ) (ks xs : List ℕ) → held s (list w t s start ks xs .working) ≡ held s w
 
+-- a store of a history
+pub record AgreeIn (m : State) : Type 0 where
+  pub passes : Passes (m .working) (m .stable) (m .session)
+  pub agree : Agree (m .working) (m .stable) (m .session)
+
 -- in tables of any bytes that pass the tests
 unfoldable pub ReadersAgree : Type 0
 ReadersAgree = (w t : List ℕ) (s : Session) → Passes w t s → Agree w t s
@@ -87,4 +92,4 @@ ReadersAgree = (w t : List ℕ) (s : Session) → Passes w t s → Agree w t s
 unfoldable pub HistoriesAgree : Type 0
 HistoriesAgree =
     (n : ℕ) (w s : List ℕ) → Lent n w s → (h : List Event) → AllTyped h → run h (start w s) .session .n ≡ n
-    → Passes (run h (start w s) .working) (run h (start w s) .stable) (run h (start w s) .session)
+    → AgreeIn (run h (start w s))
