@@ -20,8 +20,8 @@ use Rattle.rules.proofs.Tests.{not-both, fails}
 use Rattle.rules.proofs.Views.{Shaped, shaped-read}
 use Rattle.rules.proofs.Asks.{pick-leaf, kids-pick, kids-want}
 use Rattle.apply.specs.Leads.{Stands, Leads}
-use Rattle.apply.proofs.Going.{leads-first}
 use Rattle.apply.proofs.Whole.{root-splits}
+use Rattle.reading.specs.Inserting.{few}
 use Rattle.reading.proofs.Splitting.{pages-root, pages-stay, pages-below, root-above}
 
 -- ── Kinds rise along a way ──────────────────────────────────────────────────────────────────────────────────────
@@ -55,9 +55,6 @@ top-of-three s u v l =
     omega (arith, a, b, l .0 .fits .sound .kind-from, l .3 .3 .0 .fits .sound .kind-to)
 
 -- ── The numbers ─────────────────────────────────────────────────────────────────────────────────────────────────
-
-abbrev few : List ℕ
-few = 0 ∷ (2 ∷ (3 ∷ (4 ∷ (5 ∷ []))))
 
 among : (way : List Step) (j : ℕ) → newPages way ≡ j → mem j few ≡ true → mem (newPages way) few ≡ true
 among way j e m = ap (λ (i : ℕ). mem i few) e ∙ m

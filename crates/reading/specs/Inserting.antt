@@ -26,6 +26,10 @@ use Rattle.reading.specs.Leaving.{Typed}
 unfoldable pub takenFor : Session → List Step → List ℕ
 takenFor s steps = take (newPages steps) (freePages s (numbers steps))
 
+-- how many that can be: two for each split, one for a new root; a root over three levels never splits
+abbrev pub few : List ℕ
+few = 0 ∷ (2 ∷ (3 ∷ (4 ∷ (5 ∷ []))))
+
 pub record SameMarks (s r : Session) (i : ℕ) : Type 0 where
   pub free : getD (r .free) i false ≡ getD (s .free) i false
   pub waiting : getD (r .waiting) i false ≡ getD (s .waiting) i false
@@ -33,8 +37,7 @@ pub record SameMarks (s r : Session) (i : ℕ) : Type 0 where
 pub record FewChange (w : List ℕ) (s : Session) (k : ℕ) (r : Left Inserted) : Type 0 where
   pub steps : List Step
   pub way : wayOf (s .n) (s .c) k w .steps ≡ some steps
-  -- two new pages for each split, one for a new root; a root over three levels never splits
-  pub count : mem (newPages steps) (0 ∷ 2 ∷ 3 ∷ 4 ∷ 5 ∷ []) ≡ true
+  pub count : mem (newPages steps) few ≡ true
   pub as-many : length (takenFor s steps) ≡ newPages steps
   pub length-stays : length (r .working) ≡ length w
   -- every page but page 0, those entered and those taken is as it was, byte for byte
