@@ -7,21 +7,19 @@ use mathlib.Core.Logic.{_≢_}
 use mathlib.Core.Bool.{Bool, true, false}
 use mathlib.Core.List.{List, [], _∷_, _++_}
 use mathlib.Core.Option.{Option, some, none, Option·none-ne-some}
-use lib.Dec.{eqb}
-use lib.ListN.{length, drop, getD}
+use lib.ListN.{drop, getD}
 use borrow.Author.Tests.{eq-eqb, ne-eqb}
 use Rattle.rules.specs.Layout.{lastKey}
-use Rattle.rules.specs.Key.{keyOf, modelOf, serialOf, issueOf, goodParts}
+use Rattle.rules.specs.Key.{keyOf, goodParts}
 use Rattle.rules.specs.Entry.{find}
-use Rattle.rules.specs.Page.{View, Page}
 use Rattle.rules.specs.Table.{fit0}
-use Rattle.rules.specs.Walk.{Step, Way, certsAt, numbers, wayOf}
+use Rattle.rules.specs.Walk.{Step, certsAt, numbers, wayOf}
 use Rattle.rules.specs.Marks.{freePages}
 use Rattle.rules.specs.Call.{Left, lengthsFor, lookedNo}
-use Rattle.rules.specs.Insert.{full, Making, making, grow, halve, split, insertDone, insert}
+use Rattle.rules.specs.Insert.{full, Making, making, grow, halve, split, insertDone}
 use Rattle.rules.specs.Lookup.{foundIn, lookupLeft, lookupKey, lookup}
 use Rattle.rules.specs.History.{Event, inserts, State, latest, recordIn, content, gains, afterInsert, step, run, start, Typed, AllTyped}
-use Rattle.rules.specs.Demand.{Lent, Serves, Demand3}
+use Rattle.rules.specs.Demand.{Serves, Demand3}
 use Rattle.rules.specs.declared.Session.{Session}
 use Rattle.rules.specs.declared.Inserted.{Inserted}
 use Rattle.rules.specs.declared.Looked.{Looked}
@@ -30,7 +28,7 @@ use Rattle.rules.proofs.Retire.{retire-n}
 use Rattle.rules.proofs.Histories.{demand3}
 use Rattle.reading.specs.Inserting.{inserted, Adds, InsertAdds}
 use Rattle.reading.specs.Agreeing.{answerFor}
-use Rattle.reading.proofs.Changes.{Along, insert-done}
+use Rattle.reading.proofs.Changes.{insert-done}
 
 -- ── What a lookup answers, by what it found ─────────────────────────────────────────────────────────────────────
 

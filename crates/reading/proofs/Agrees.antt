@@ -1,20 +1,18 @@
 -- Lookup, newest and list answer by the certificates of the tree as it stands, in any table that passes opening's tests.
-use Prim.Native.Nat.{ℕ, _-_, _^_, _≤_, _<_, min}
+use Prim.Native.Nat.{ℕ, _-_, _^_, _<_, min}
 use native.Mathlib.Omega.{arith}
 use mathlib.Core.Path.{_≡_, refl, sym, ap, _∙_, subst}
 use mathlib.Core.Bool.{Bool, true, false, _&&_}
-use mathlib.Core.List.{List, [], _∷_, _++_}
+use mathlib.Core.List.{List, []}
 use mathlib.Core.Option.{Option, some, none}
 use lib.Dec.{ltb}
-use lib.ListN.{length, take}
-use Rattle.rules.specs.Layout.{lastKey}
+use lib.ListN.{length}
 use Rattle.rules.specs.Key.{keyOf, goodParts}
-use Rattle.rules.specs.Entry.{Cert, keys, find, cut, rising}
+use Rattle.rules.specs.Entry.{Cert, keys, find}
 use Rattle.rules.specs.Page.{over}
-use Rattle.rules.specs.Table.{fit0}
-use Rattle.rules.specs.Walk.{Step, Way, certsAt, wayOf, Walked, walkOf}
-use Rattle.rules.specs.Tree.{Tree, treeOf}
-use Rattle.rules.specs.Call.{Left, lengthsFor}
+use Rattle.rules.specs.Walk.{Step, certsAt, wayOf, walkOf}
+use Rattle.rules.specs.Tree.{treeOf}
+use Rattle.rules.specs.Call.{Left}
 use Rattle.rules.specs.Lookup.{foundIn, lookupLeft, lookupKey, lookup}
 use Rattle.rules.specs.Newest.{meter, newestIn, newestLeft, newestMeter, newest}
 use Rattle.rules.specs.List.{ListLeft, upFrom, recordsOf, listDone, listFrom, list}
@@ -25,7 +23,7 @@ use Rattle.rules.specs.declared.Newest.{Newest}
 use Rattle.rules.specs.declared.Listed.{Listed}
 use Rattle.rules.proofs.Keys.{keyOf-bound}
 use Rattle.rules.proofs.Lengths.{lengthsFor-true}
-use Rattle.reading.specs.Agreeing.{held, Passes, answerFor, Largest, listedFrom, Fills, Agree, ReadersAgree}
+use Rattle.reading.specs.Agreeing.{held, Passes, answerFor, Largest, listedFrom, Fills, ReadersAgree}
 use Rattle.reading.proofs.Soundly.{Passing, Shows}
 use Rattle.reading.proofs.TreeCerts.{all-ordered}
 use Rattle.reading.proofs.SameTree.{same-held}

@@ -1,22 +1,22 @@
 -- An insert that is done: which pages and which marks it moves, in tables of any bytes.
-use Prim.Native.Nat.{ℕ, suc, _*_, _^_, _≤_, _<_}
+use Prim.Native.Nat.{ℕ, _*_, _^_, _≤_, _<_}
 use native.Mathlib.Omega.{arith}
 use mathlib.Core.Path.{_≡_, refl, sym, ap, _∙_, subst}
 use mathlib.Core.Logic.{_⊎_, inl, inr, _≢_}
 use mathlib.Core.Bool.{Bool, true, false, _&&_, _||_}
-use mathlib.Core.List.{List, [], _∷_, _++_}
-use mathlib.Core.Option.{Option, some, none, Option·some-injective}
+use mathlib.Core.List.{List, [], _∷_}
+use mathlib.Core.Option.{Option, some, none}
 use lib.Dec.{ltb}
-use lib.ListN.{length, take, drop, getD, take-append-drop}
+use lib.ListN.{length, take, drop, take-append-drop}
 use lib.Seq.{length-take-le}
 use borrow.Author.Tests.{ltb-false}
-use Rattle.rules.specs.Layout.{pageSize, topKind, leafRoom, innerRoom}
+use Rattle.rules.specs.Layout.{pageSize, topKind}
 use Rattle.rules.specs.Test.{mem, distinct}
 use Rattle.rules.specs.Key.{keyOf, goodParts}
-use Rattle.rules.specs.Entry.{Entry, Cert, find, put}
-use Rattle.rules.specs.Page.{View, Page, isLeaf, touch}
-use Rattle.rules.specs.Table.{pageAt, read, change, fit0}
-use Rattle.rules.specs.Walk.{Step, Way, numbers, certsAt, wayOf}
+use Rattle.rules.specs.Entry.{Cert, find}
+use Rattle.rules.specs.Page.{Page, isLeaf, touch}
+use Rattle.rules.specs.Table.{pageAt, read, fit0}
+use Rattle.rules.specs.Walk.{Step, numbers, certsAt, wayOf}
 use Rattle.rules.specs.Marks.{freePages}
 use Rattle.rules.specs.Call.{Left, lengthsFor, insertedNo}
 use Rattle.rules.specs.Insert.{splitting, rootSplits, newPages, tooHigh, tooSoon, noRoom, putCert, changed, Making, making, split, insertRefused, insertDone, insertAlong, insertKey, insert}
@@ -35,8 +35,8 @@ use Rattle.way.proofs.Stood.{way-stands}
 use Rattle.apply.specs.Leads.{Whole, Leads, Fresh, Chosen}
 use Rattle.apply.proofs.Going.{Gone, apart-by}
 use Rattle.apply.proofs.Whole.{split-gone}
-use Rattle.reading.specs.Leaving.{Typed, askedFor}
-use Rattle.reading.specs.Inserting.{takenFor, SameMarks, FewChange, InsertChanges}
+use Rattle.reading.specs.Leaving.{askedFor}
+use Rattle.reading.specs.Inserting.{takenFor, FewChange, InsertChanges}
 use Rattle.reading.proofs.WayLeft.{WayLeft, way-left}
 use Rattle.reading.proofs.Refused.{key-bound}
 use Rattle.reading.proofs.Leading.{WayLeads, way-leads}

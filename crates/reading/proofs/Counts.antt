@@ -1,6 +1,6 @@
 -- How many new pages an insert takes that is done: none, two for each split, one more for a new root. The root of a way of three
 -- pages is of the highest kind and never splits.
-use Prim.Native.Nat.{ℕ, suc, _+_, _≤_, _<_}
+use Prim.Native.Nat.{ℕ, suc, _≤_}
 use native.Mathlib.Omega.{arith}
 use mathlib.Core.Path.{_≡_, refl, sym, ap, _∙_, subst}
 use mathlib.Core.Logic.{_⊎_, inl, inr}
@@ -11,12 +11,12 @@ use lib.ListN.{length}
 use borrow.Author.Tests.{eqb-false}
 use Rattle.rules.specs.Layout.{topKind}
 use Rattle.rules.specs.Test.{mem}
-use Rattle.rules.specs.Page.{View, Page, isLeaf}
+use Rattle.rules.specs.Page.{Page, isLeaf}
 use Rattle.rules.specs.Place.{kids, pick}
-use Rattle.rules.specs.Walk.{Step, numbers}
+use Rattle.rules.specs.Walk.{Step}
 use Rattle.rules.specs.Insert.{full, rootSplits, newPages, tooHigh}
 use Rattle.rules.specs.declared.Place.{Place}
-use Rattle.rules.proofs.Tests.{not-both, fails}
+use Rattle.rules.proofs.Tests.{fails}
 use Rattle.rules.proofs.Views.{Shaped, shaped-read}
 use Rattle.rules.proofs.Asks.{pick-leaf, kids-pick, kids-want}
 use Rattle.apply.specs.Leads.{Stands, Leads}

@@ -1,17 +1,16 @@
 -- The way of a key, in any table whose tree passes opening's tests: no damage is met, and the leaf at its end finds of the key what
 -- the tree's certificates have.
-use Prim.Native.Nat.{ℕ, zero, suc, _≤_, _<_}
+use Prim.Native.Nat.{ℕ, zero, suc, _≤_}
 use native.Mathlib.Omega.{arith}
-use mathlib.Core.Path.{_≡_, refl, sym, ap, _∙_, subst}
+use mathlib.Core.Path.{_≡_, refl, sym, ap, _∙_}
 use mathlib.Core.Bool.{Bool, true, false}
 use mathlib.Core.List.{List, [], _∷_}
 use mathlib.Core.Option.{Option, some, none, Option·none-ne-some}
 use Rattle.rules.specs.Layout.{topKind, lastKey}
-use Rattle.rules.specs.Test.{mem}
 use Rattle.rules.specs.Entry.{find}
-use Rattle.rules.specs.Page.{View, Page, isLeaf}
+use Rattle.rules.specs.Page.{View, isLeaf}
 use Rattle.rules.specs.Place.{rootPlace, kids, pick, show}
-use Rattle.rules.specs.Enter.{Entered, enter}
+use Rattle.rules.specs.Enter.{enter}
 use Rattle.rules.specs.Walk.{Step, Way, numbers, certsAt, descend, wayOf}
 use Rattle.rules.specs.Tree.{tree, treeOf}
 use Rattle.rules.specs.declared.Place.{Place}

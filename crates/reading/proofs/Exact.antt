@@ -1,5 +1,5 @@
 -- A lookup that finds a record found it under exactly the key asked for, in the leaf that its walk read last.
-use Prim.Native.Nat.{ℕ, zero, suc, _^_, _<_}
+use Prim.Native.Nat.{ℕ, zero, suc}
 use native.Mathlib.Omega.{arith}
 use mathlib.Core.Path.{_≡_, refl, sym, ap, _∙_, subst}
 use mathlib.Core.Bool.{Bool, true, false}
@@ -8,14 +8,13 @@ use mathlib.Core.Option.{Option, some, none, Option·some-injective, Option·non
 use lib.Dec.{eqb}
 use borrow.Author.Tests.{eqb-true, eqb-false}
 use Rattle.rules.specs.Key.{keyOf, goodParts}
-use Rattle.rules.specs.Entry.{Entry, Cert, find}
+use Rattle.rules.specs.Entry.{Cert, find}
 use Rattle.rules.specs.Page.{View, Page, isLeaf, fresh}
 use Rattle.rules.specs.Table.{read, fit0}
-use Rattle.rules.specs.Place.{kids, pick, fits, mendable, mended}
-use Rattle.rules.specs.Test.{mem}
-use Rattle.rules.specs.Enter.{Entered, mend, enter}
-use Rattle.rules.specs.Walk.{Step, Way, numbers, certsAt, descend, wayOf}
-use Rattle.rules.specs.Call.{Left, lengthsFor, lookedNo}
+use Rattle.rules.specs.Place.{kids, pick, mended}
+use Rattle.rules.specs.Enter.{Entered, enter}
+use Rattle.rules.specs.Walk.{Step, numbers, certsAt, descend, wayOf}
+use Rattle.rules.specs.Call.{lengthsFor, lookedNo}
 use Rattle.rules.specs.Lookup.{foundIn, lookupLeft, lookupKey, lookup}
 use Rattle.rules.specs.declared.Place.{Place}
 use Rattle.rules.specs.declared.Session.{Session}
@@ -24,7 +23,7 @@ use Rattle.rules.proofs.Keys.{modelOf-keyOf, serialOf-keyOf, issueOf-keyOf}
 use Rattle.rules.proofs.Entries.{find-head, find-tail}
 use Rattle.rules.proofs.Views.{Shaped, shaped-read, shaped-cut}
 use Rattle.enter.proofs.Stands.{Comes, stood, mends, stops, comes}
-use Rattle.reading.specs.Reading.{Exact, LookupExact}
+use Rattle.reading.specs.Reading.{LookupExact}
 
 -- ── What is found stands in the list, under the key asked for ───────────────────────────────────────────────────
 

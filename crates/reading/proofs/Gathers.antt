@@ -6,17 +6,17 @@ use mathlib.Core.Path.{_≡_, refl, sym, ap, _∙_, subst}
 use mathlib.Core.Logic.{_⊎_, inl, inr}
 use mathlib.Core.Bool.{Bool, true, false}
 use mathlib.Core.List.{List, [], _∷_, _++_, append-nil, append-assoc, List·Memᴰ, List·Memᴰ·head, List·Memᴰ·tail}
-use mathlib.Core.Option.{Option, some, none, Option·some-injective}
+use mathlib.Core.Option.{some, Option·some-injective}
 use lib.Dec.{leb, ltb}
 use lib.ListN.{length, take, length-append, length-take}
 use lib.Seq.{take-nil}
 use borrow.Author.Tests.{ltb-false, leb-false}
-use Rattle.rules.specs.Layout.{topKind, lastKey}
+use Rattle.rules.specs.Layout.{topKind}
 use Rattle.rules.specs.Test.{between, every, all, mem}
-use Rattle.rules.specs.Entry.{Entry, Cert, keys, cut}
+use Rattle.rules.specs.Entry.{Cert, keys, cut}
 use Rattle.rules.specs.Page.{View, Page}
 use Rattle.rules.specs.Place.{rootPlace, kids, show}
-use Rattle.rules.specs.Enter.{Entered, enter}
+use Rattle.rules.specs.Enter.{enter}
 use Rattle.rules.specs.Walk.{Walked, enters, finds, walkEach, walk, walkOf}
 use Rattle.rules.specs.Tree.{Tree, empty, join, here, treeEach, tree, treeOf}
 use Rattle.rules.specs.declared.Asked.{Asked}
@@ -24,13 +24,12 @@ use Rattle.rules.specs.declared.Place.{Place}
 use Rattle.rules.proofs.Tests.{not-both, fails, all-mem, between-low, between-high, between-below, between-above}
 use Rattle.rules.proofs.Entries.{cut-nil, cut-none, cut-append}
 use Rattle.rules.proofs.Ways.{Node}
-use Rattle.rules.proofs.Invariant.{Good}
 use Rattle.rules.proofs.Kids.{shown-kind}
 use Rattle.rules.proofs.Nodes.{node-root, kid-kind}
 use Rattle.rules.proofs.Opens.{tree-shown, kid-node}
 use Rattle.rules.proofs.Enters.{Higher, AllHigher, none-higher, more-higher}
 use Rattle.reading.proofs.Soundly.{Passing, Shows, shows-itself, Seen, enter-seen}
-use Rattle.reading.proofs.TreeCerts.{Ordered, orders}
+use Rattle.reading.proofs.TreeCerts.{orders}
 
 -- ── Lists filled until there is no room ─────────────────────────────────────────────────────────────────────────
 

@@ -1,8 +1,6 @@
 -- Every store of a history passes opening's tests while it is open, so lookup, newest and list agree in it.
 use Prim.Native.Nat.{ℕ}
 use native.Mathlib.Omega.{arith}
-use mathlib.Core.Path.{_≡_}
-use mathlib.Core.List.{List}
 use Rattle.rules.specs.History.{State, run, start}
 use Rattle.rules.proofs.Epochs.{working-good}
 use Rattle.rules.proofs.Opens.{good-tree}

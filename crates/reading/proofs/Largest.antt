@@ -1,23 +1,21 @@
 -- The last of certificates that rise is the newest of its meter.
-use Prim.Native.Nat.{ℕ, zero, suc, _+_, _-_, _^_, _≤_, _<_}
+use Prim.Native.Nat.{ℕ, suc, _-_, _^_, _≤_, _<_}
 use native.Mathlib.Omega.{arith}
-use mathlib.Core.Path.{_≡_, refl, sym, ap, _∙_, subst}
-use mathlib.Core.Bool.{Bool, true, false}
-use mathlib.Core.List.{List, [], _∷_, _++_}
-use mathlib.Core.Option.{Option, some, none}
-use lib.ListN.{length, take}
+use mathlib.Core.Path.{_≡_, refl, sym, ap, _∙_}
+use mathlib.Core.Bool.{true}
+use mathlib.Core.List.{List, [], _∷_}
+use mathlib.Core.Option.{some, none}
+use lib.ListN.{length}
 use lib.Seq.{take-all}
-use Rattle.rules.specs.Layout.{lastKey}
-use Rattle.rules.specs.Test.{between, all, mem}
-use Rattle.rules.specs.Key.{keyOf, modelOf, serialOf, issueOf}
-use Rattle.rules.specs.Entry.{Entry, Cert, keys, find, cut, risesFrom, rising}
+use Rattle.rules.specs.Test.{between, all}
+use Rattle.rules.specs.Key.{keyOf, issueOf}
+use Rattle.rules.specs.Entry.{Cert, keys, find, cut, risesFrom, rising}
 use Rattle.rules.specs.Newest.{meter, newestIn}
 use Rattle.rules.specs.declared.Asked.{Asked}
 use Rattle.rules.specs.declared.Newest.{Newest}
-use Rattle.rules.proofs.Keys.{keyOf-parts, modelOf-meter, serialOf-meter, issueOf-bound}
 use Rattle.rules.proofs.Tests.{all-head, all-tail, all-imp, all-mem, between-wider, between-of, between-low, between-high}
 use Rattle.rules.proofs.Rises.{rises-head, rises-tail, rises-mem, rising-from, rising-tail, length-keys}
-use Rattle.rules.proofs.Entries.{find-head, find-tail, mem-find, find-none, find-cut, cut-within, cut-rising}
+use Rattle.rules.proofs.Entries.{find-head, find-tail, mem-find, find-cut, cut-within, cut-rising}
 use Rattle.reading.specs.Agreeing.{Largest, found, missing}
 use Rattle.reading.proofs.Gathers.{gather}
 

@@ -1,8 +1,8 @@
 -- The steps of a way stand in the table that the walk leaves, each asked for by the one above it, in tables of any bytes.
 use Prim.Native.Nat.{ℕ, zero, suc, _+_, _*_, _^_, _≤_, _<_}
 use native.Mathlib.Omega.{arith}
-use mathlib.Core.Path.{_≡_, refl, sym, ap, _∙_, subst}
-use mathlib.Core.Bool.{Bool, true, false}
+use mathlib.Core.Path.{_≡_, refl, sym, ap, _∙_}
+use mathlib.Core.Bool.{true}
 use mathlib.Core.List.{List, [], _∷_}
 use mathlib.Core.Option.{Option, some, none, Option·some-injective, Option·none-ne-some}
 use lib.ListN.{length}
@@ -10,15 +10,15 @@ use borrow.Author.Tests.{ltb-true}
 use Rattle.fields.specs.Field.{Bytes}
 use Rattle.rules.specs.Layout.{pageSize, topKind, lastKey}
 use Rattle.rules.specs.Test.{mem}
-use Rattle.rules.specs.Page.{View, Page}
+use Rattle.rules.specs.Page.{Page}
 use Rattle.rules.specs.Table.{read, fit0, previous0}
 use Rattle.rules.specs.Place.{rootPlace, kids, pick}
-use Rattle.rules.specs.Enter.{Entered, enter}
-use Rattle.rules.specs.Walk.{Step, Way, numbers, descend, wayOf}
+use Rattle.rules.specs.Enter.{enter}
+use Rattle.rules.specs.Walk.{Step, numbers, descend, wayOf}
 use Rattle.rules.specs.declared.Place.{Place}
 use Rattle.rules.proofs.Tests.{every-true, mem-head, mem-tail}
 use Rattle.rules.proofs.Asks.{kids-pick, kids-names}
-use Rattle.way.proofs.Stood.{Ready, ready-root, ready-stays, ready-next, Stood, stood-here}
+use Rattle.way.proofs.Stood.{Ready, ready-root, ready-stays, ready-next, stood-here}
 use Rattle.apply.specs.Leads.{Stands, Leads}
 use Rattle.reading.proofs.Turns.{entered-apart}
 

@@ -1,8 +1,8 @@
 -- What splits down a way do to the session's marks: the numbers taken are free no longer, and no mark moves but theirs and those
 -- of the way's pages.
-use Prim.Native.Nat.{ℕ, suc, _+_, _≤_}
+use Prim.Native.Nat.{ℕ, _≤_}
 use native.Mathlib.Omega.{arith}
-use mathlib.Core.Path.{_≡_, refl, sym, ap, _∙_, subst}
+use mathlib.Core.Path.{_≡_, refl, sym, _∙_, subst}
 use mathlib.Core.Logic.{_⊎_, inl, inr, _≢_}
 use mathlib.Core.Bool.{Bool, true, false, _&&_}
 use mathlib.Core.List.{List, [], _∷_}
@@ -10,15 +10,12 @@ use lib.Dec.{eqb}
 use lib.ListN.{length, getD}
 use borrow.Author.Tests.{eqb-true, eqb-false}
 use Rattle.rules.specs.Test.{mem}
-use Rattle.rules.specs.Page.{View, Page}
 use Rattle.rules.specs.Walk.{Step, numbers}
-use Rattle.rules.specs.Marks.{taken, freed, waits}
+use Rattle.rules.specs.Marks.{taken}
 use Rattle.rules.specs.Insert.{full, newPages, heirs, retire, Making, making, grow, halve, split}
 use Rattle.rules.specs.declared.Session.{Session}
-use Rattle.rules.proofs.Tests.{not-both, mem-nil, mem-cases}
-use Rattle.rules.proofs.All.{All, nil, cons, all-head, all-tail}
+use Rattle.rules.proofs.Tests.{mem-nil, mem-cases}
 use Rattle.rules.proofs.Marked.{free-taken-same, free-taken-other, free-freed-other, waiting-waits-other}
-use Rattle.apply.specs.Leads.{Fresh, Chosen}
 use Rattle.apply.proofs.Going.{mem-rest, mem-not}
 use Rattle.apply.proofs.Splits.{split-stays, split-root, split-below}
 use Rattle.reading.specs.Inserting.{SameMarks}

@@ -1,36 +1,33 @@
 -- Where opening answers 0, entering page after page shows what it read off the table as that stands.
-use Prim.Native.Nat.{ℕ, _-_, _*_, _^_, _≤_, _<_}
+use Prim.Native.Nat.{ℕ, _*_, _≤_}
 use native.Mathlib.Omega.{arith}
 use mathlib.Core.Path.{_≡_, refl, sym, ap, _∙_, subst}
 use mathlib.Core.Bool.{Bool, true, false, _&&_}
-use mathlib.Core.List.{List, [], _∷_, List·Memᴰ}
-use mathlib.Core.Option.{Option, some}
-use lib.Dec.{leb}
-use lib.ListN.{length, take}
-use lib.Seq.{take-all}
-use Rattle.fields.specs.Field.{Bytes}
-use Rattle.rules.specs.Layout.{pageSize, lastKey, lastNumber}
+use mathlib.Core.List.{List, []}
+use mathlib.Core.Option.{some}
+use lib.ListN.{length}
+use Rattle.rules.specs.Layout.{pageSize, lastKey}
 use Rattle.rules.specs.Test.{mem}
 use Rattle.rules.specs.Entry.{Cert, cut}
-use Rattle.rules.specs.Page.{View, Page}
-use Rattle.rules.specs.Table.{pages, goodLengths, fit0, number0}
-use Rattle.rules.specs.Place.{rootPlace, kids, show}
-use Rattle.rules.specs.Enter.{Entered, enter}
-use Rattle.rules.specs.Walk.{Walked, walkOf}
-use Rattle.rules.specs.Tree.{Tree, treeOf, goodTree}
-use Rattle.rules.specs.Call.{Left, openedNo}
+use Rattle.rules.specs.Page.{View}
+use Rattle.rules.specs.Table.{pages, goodLengths, fit0}
+use Rattle.rules.specs.Place.{show}
+use Rattle.rules.specs.Enter.{enter}
+use Rattle.rules.specs.Walk.{walkOf}
+use Rattle.rules.specs.Tree.{treeOf, goodTree}
+use Rattle.rules.specs.Call.{openedNo}
 use Rattle.rules.specs.Open.{opening, openRefused}
 use Rattle.rules.specs.declared.Asked.{Asked}
 use Rattle.rules.specs.declared.Place.{Place}
 use Rattle.rules.specs.declared.Opened.{Opened}
 use Rattle.rules.proofs.Tests.{and-left, and-right}
 use Rattle.rules.proofs.Entries.{cut-all}
-use Rattle.rules.proofs.Lengths.{Tables, pages-of, goodLengths-true}
+use Rattle.rules.proofs.Lengths.{pages-of, goodLengths-true}
 use Rattle.rules.proofs.Ways.{Node}
 use Rattle.rules.proofs.Nodes.{node-root}
 use Rattle.rules.proofs.Opens.{kid-node}
 use Rattle.reading.specs.Entering.{InTree, at-root, below, EnteredFrom, none-yet, one-more, Gives, Alike, OpeningEnters}
-use Rattle.reading.proofs.Soundly.{Passing, Shows, shows-itself, Seen, enter-seen}
+use Rattle.reading.proofs.Soundly.{Passing, Shows, shows-itself, enter-seen}
 use Rattle.reading.proofs.TreeCerts.{all-ordered}
 use Rattle.reading.proofs.SameTree.{same-held}
 use Rattle.reading.proofs.Gathers.{gather, walk-gathers}

@@ -1,18 +1,18 @@
 -- Opening's test, read back: a table that passes it is good, place by place.
-use Prim.Native.Nat.{ℕ, zero, suc, _-_, _≤_, _<_}
+use Prim.Native.Nat.{ℕ, zero, suc, _-_}
 use native.Mathlib.Omega.{arith}
 use mathlib.Core.Path.{_≡_, refl, sym, ap, _∙_, subst}
 use mathlib.Core.Logic.{_⊎_, inl, inr, _≢_}
-use mathlib.Core.Bool.{Bool, true, false, not, _&&_, false≢true}
+use mathlib.Core.Bool.{Bool, true, false, not, false≢true}
 use mathlib.Core.List.{List, [], _∷_, _++_, List·Memᴰ, List·Memᴰ·cases-cons, List·Memᴰ·not-nil}
 use mathlib.Core.Option.{Option, some, none}
 use borrow.Author.Tests.{ltb-true}
 use Rattle.rules.specs.Layout.{topKind}
-use Rattle.rules.specs.Test.{mem, distinct, all, every}
+use Rattle.rules.specs.Test.{mem, distinct}
 use Rattle.rules.specs.Page.{View}
-use Rattle.rules.specs.Table.{read, fit0, root0, previous0}
-use Rattle.rules.specs.Place.{rootPlace, kids, pick, fits, show}
-use Rattle.rules.specs.Tree.{Tree, broken, empty, join, sparedAt, here, treeEach, tree, treeOf, goodTree}
+use Rattle.rules.specs.Table.{fit0, root0, previous0}
+use Rattle.rules.specs.Place.{rootPlace, kids, pick, show}
+use Rattle.rules.specs.Tree.{Tree, broken, join, sparedAt, here, treeEach, tree, treeOf, goodTree}
 use Rattle.rules.specs.declared.Place.{Place}
 use Rattle.rules.proofs.Tests.{and-left, and-right, every-true, between-low, between-high, mem-head, mem-tail, mem-left, mem-right, all-mem, not-both, distinct-head, distinct-tail, distinct-left, distinct-right, distinct-apart}
 use Rattle.rules.proofs.Picks.{pick-mem}

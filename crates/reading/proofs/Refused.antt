@@ -1,27 +1,27 @@
 -- A refused insert, and every lookup, leaves each page as it was or mended for a place of the key's way.
-use Prim.Native.Nat.{ℕ, _*_, _^_, _≤_, _<_}
+use Prim.Native.Nat.{ℕ, _≤_}
 use native.Mathlib.Omega.{arith}
-use mathlib.Core.Path.{_≡_, refl, sym, ap, _∙_, subst}
+use mathlib.Core.Path.{_≡_, refl, sym, ap, _∙_}
 use mathlib.Core.Bool.{Bool, true, false}
 use mathlib.Core.List.{List}
 use mathlib.Core.Option.{Option, some, none}
 use lib.ListN.{length}
-use Rattle.rules.specs.Layout.{pageSize, lastKey}
+use Rattle.rules.specs.Layout.{lastKey}
 use Rattle.rules.specs.Key.{keyOf, goodParts}
 use Rattle.rules.specs.Entry.{find}
 use Rattle.rules.specs.Table.{fit0}
-use Rattle.rules.specs.Walk.{Step, Way, numbers, certsAt, wayOf}
+use Rattle.rules.specs.Walk.{Step, numbers, certsAt, wayOf}
 use Rattle.rules.specs.Marks.{freePages}
 use Rattle.rules.specs.Call.{Left, lengthsFor}
 use Rattle.rules.specs.Insert.{splitting, tooSoon, noRoom, insertRefused, insertDone, insertAlong, insertKey, insert}
-use Rattle.rules.specs.Lookup.{foundIn, lookupLeft, lookupKey, lookup}
+use Rattle.rules.specs.Lookup.{lookupLeft, lookupKey, lookup}
 use Rattle.rules.specs.declared.Session.{Session}
 use Rattle.rules.specs.declared.Inserted.{Inserted}
 use Rattle.rules.specs.declared.Looked.{Looked}
 use Rattle.rules.proofs.Keys.{keyOf-bound}
 use Rattle.rules.proofs.Lengths.{lengthsFor-true}
-use Rattle.reading.specs.Leaving.{askedFor, as-it-was, OnlyWay, Typed, InsertRefused, LookupLeaves}
-use Rattle.reading.proofs.WayLeft.{WayLeft, way-left}
+use Rattle.reading.specs.Leaving.{as-it-was, OnlyWay, Typed, InsertRefused, LookupLeaves}
+use Rattle.reading.proofs.WayLeft.{way-left}
 
 -- ── A call that writes what its walk leaves, or nothing ─────────────────────────────────────────────────────────
 

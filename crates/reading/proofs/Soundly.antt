@@ -5,36 +5,35 @@ use native.Mathlib.Omega.{arith}
 use mathlib.Core.Path.{_≡_, refl, sym, ap, _∙_, subst}
 use mathlib.Core.Logic.{_⊎_, inl, inr, _≢_}
 use mathlib.Core.Bool.{Bool, true, false, false≢true}
-use mathlib.Core.List.{List, [], _∷_}
-use mathlib.Core.Option.{Option, some, none, Option·some-injective, Option·none-ne-some}
+use mathlib.Core.List.{List}
+use mathlib.Core.Option.{some, Option·some-injective, Option·none-ne-some}
 use lib.Dec.{eqb}
 use lib.ListN.{length}
 use borrow.Author.Tests.{eqb-true, eqb-false}
 use Rattle.fields.specs.Field.{Bytes}
 use Rattle.fields.proofs.Field.{leAt-bound}
-use Rattle.rules.specs.Layout.{pageSize, lastKey}
+use Rattle.rules.specs.Layout.{pageSize}
 use Rattle.rules.specs.Test.{mem}
-use Rattle.rules.specs.Entry.{Entry, Child, Below, find}
+use Rattle.rules.specs.Entry.{Child, Below, find}
 use Rattle.rules.specs.Page.{View, Page, fresh}
 use Rattle.rules.specs.Table.{read, build, birth0}
-use Rattle.rules.specs.Place.{rootPlace, kids, pick, fits, mended, cutView, show}
+use Rattle.rules.specs.Place.{rootPlace, fits, mended, cutView, show}
 use Rattle.rules.specs.Enter.{Entered, mend, enter}
 use Rattle.rules.specs.declared.Place.{Place}
 use Rattle.rules.proofs.All.{All, nil, cons, all-cut}
 use Rattle.rules.proofs.EntryBytes.{WideChild}
 use Rattle.rules.proofs.Entries.{find-head, find-tail}
-use Rattle.rules.proofs.Pages.{Wide}
 use Rattle.rules.proofs.Tests.{fails}
-use Rattle.rules.proofs.Tables.{Has, Room, has-page, wide-read, length-build, bytes-build, read-build-same, read-build-other}
+use Rattle.rules.proofs.Tables.{Has, Room, has-page, wide-read, length-build, bytes-build, read-build-other}
 use Rattle.rules.proofs.PageZero.{rootPlace-same, same0-build}
-use Rattle.rules.proofs.Places.{Fits, fits-of, Mendable, mendable-of, mended-fits, Shown, fitting, lost, show-some, shows-mended}
-use Rattle.rules.proofs.Picks.{belowOf, Kid}
+use Rattle.rules.proofs.Places.{fits-of, Mendable, mendable-of, mended-fits, Shown, fitting, lost, show-some, shows-mended}
+use Rattle.rules.proofs.Picks.{belowOf}
 use Rattle.rules.proofs.Asks.{kids-pick}
 use Rattle.rules.proofs.Ways.{at, under, Node, Found, Lost, Undamaged}
-use Rattle.rules.proofs.Invariant.{Rooted, Good}
+use Rattle.rules.proofs.Invariant.{Good}
 use Rattle.rules.proofs.Sources.{show-found}
 use Rattle.rules.proofs.Kids.{sound-here}
-use Rattle.rules.proofs.Nodes.{Above, above, at-root, at-range, node-page, node-range}
+use Rattle.rules.proofs.Nodes.{above, at-root, at-range, node-page, node-range}
 use Rattle.rules.proofs.Mix.{show-as}
 use Rattle.rules.proofs.Touch.{at-goes}
 use Rattle.rules.proofs.Mended.{Steady, steady-same, steady-node, steady-back, steady-found, steady-then, node-last}

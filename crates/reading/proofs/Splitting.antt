@@ -11,7 +11,6 @@ use lib.ListN.{length, take}
 use borrow.Author.Tests.{eqb-true, eqb-false, eq-eqb, ne-eqb}
 use Rattle.rules.specs.Layout.{pageSize}
 use Rattle.rules.specs.Test.{mem}
-use Rattle.rules.specs.Page.{View, Page}
 use Rattle.rules.specs.Table.{pageAt}
 use Rattle.rules.specs.Walk.{Step, numbers}
 use Rattle.rules.specs.Insert.{full, splitting, rootSplits, newPages, Making, making, grow, halve, split}
@@ -19,7 +18,7 @@ use Rattle.rules.specs.declared.Session.{Session}
 use Rattle.rules.proofs.Tests.{same-test, not-both}
 use Rattle.rules.proofs.All.{all-head, all-tail}
 use Rattle.rules.proofs.Tables.{Has, has-page}
-use Rattle.apply.specs.Leads.{Whole, Leads, Fresh, Chosen}
+use Rattle.apply.specs.Leads.{Whole, Leads, Chosen}
 use Rattle.apply.proofs.Going.{Gone, apart-by, mem-rest, mem-not, splitting-more, pages-more, chosen-above}
 use Rattle.apply.proofs.Splits.{split-stays, split-root, split-below}
 use Rattle.apply.proofs.Whole.{root-splits, pages-none, split-gone}

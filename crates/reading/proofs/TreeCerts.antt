@@ -3,26 +3,25 @@
 use Prim.Native.Nat.{ℕ, zero, suc, _-_, _≤_, _<_}
 use native.Mathlib.Omega.{arith}
 use mathlib.Core.Path.{_≡_, refl, sym, ap, _∙_, subst}
-use mathlib.Core.Logic.{_⊎_, inl, inr, _≢_}
 use mathlib.Core.Bool.{Bool, true, false}
 use mathlib.Core.List.{List, [], _∷_, _++_, append-nil, List·Memᴰ, List·Memᴰ·head, List·Memᴰ·tail}
 use mathlib.Core.Option.{Option, some, none, Option·some-injective, Option·none-ne-some}
-use Rattle.rules.specs.Layout.{leafKind, topKind, lastKey}
+use Rattle.rules.specs.Layout.{topKind, lastKey}
 use Rattle.rules.specs.Test.{between, all, mem}
-use Rattle.rules.specs.Entry.{Entry, Cert, Child, keys, find, rising}
-use Rattle.rules.specs.Page.{View, Page, isLeaf}
+use Rattle.rules.specs.Entry.{Cert, Child, keys, find, rising}
+use Rattle.rules.specs.Page.{View, isLeaf}
 use Rattle.rules.specs.Place.{rootPlace, highBefore, placeOf, placesIn, kids, pick, show}
 use Rattle.rules.specs.Tree.{Tree, empty, join, here, treeEach, tree, treeOf}
 use Rattle.rules.specs.declared.Place.{Place}
-use Rattle.rules.proofs.Tests.{fails, all-nil, all-append, all-imp, all-mem, between-of, between-low, between-high, between-above, between-below, between-wider}
+use Rattle.rules.proofs.Tests.{fails, all-nil, all-append, all-imp, all-mem, between-low, between-high, between-below, between-wider}
 use Rattle.rules.proofs.Rises.{rises-mem, rising-nil, rising-from, rising-append, keys-append}
 use Rattle.rules.proofs.Entries.{find-outside, find-append-left, find-append-right}
 use Rattle.rules.proofs.Views.{Shaped, leaf-kind}
 use Rattle.rules.proofs.Sounds.{Sound}
 use Rattle.rules.proofs.Places.{show-some, shown-shaped}
-use Rattle.rules.proofs.Picks.{Rising, rising-rest, Kid, kid-key, kid-rise, places-kids, pick-here, pick-later}
+use Rattle.rules.proofs.Picks.{Rising, rising-rest, kid-key, kid-rise, places-kids, pick-here, pick-later}
 use Rattle.rules.proofs.Asks.{pick-leaf, kids-rising}
-use Rattle.rules.proofs.Ways.{Node, Undamaged}
+use Rattle.rules.proofs.Ways.{Node}
 use Rattle.rules.proofs.Invariant.{Good}
 use Rattle.rules.proofs.Kids.{shown-kind, sound-here, kid-within, leaf-kids}
 use Rattle.rules.proofs.Nodes.{node-root, node-range, kid-kind}

@@ -1,32 +1,29 @@
 -- What a walk of one key leaves of each page: those of its way are as they were or mended, the others as they were.
-use Prim.Native.Nat.{ℕ, zero, suc, _*_, _^_, _≤_, _<_}
+use Prim.Native.Nat.{ℕ, suc, _≤_, _<_}
 use native.Mathlib.Omega.{arith}
 use mathlib.Core.Path.{_≡_, refl, sym, ap, _∙_, subst}
 use mathlib.Core.Logic.{_⊎_, inl, inr, _≢_}
 use mathlib.Core.Bool.{Bool, true, false}
-use mathlib.Core.List.{List, [], _∷_, List·Memᴰ, List·Memᴰ·head, List·Memᴰ·tail}
-use mathlib.Core.Option.{Option, some, none, Option·some-injective, Option·none-ne-some}
+use mathlib.Core.List.{List, [], _∷_, List·Memᴰ}
+use mathlib.Core.Option.{some, none, Option·none-ne-some}
 use lib.Dec.{eqb}
-use lib.ListN.{length}
 use borrow.Author.Tests.{eqb-true, eqb-false}
-use Rattle.fields.specs.Field.{Bytes}
-use Rattle.rules.specs.Layout.{pageSize, lastKey}
 use Rattle.rules.specs.Test.{mem}
-use Rattle.rules.specs.Page.{View, Page, isLeaf, pageIn, buildBytes}
-use Rattle.rules.specs.Table.{pageAt, read, build, fit0}
-use Rattle.rules.specs.Place.{rootPlace, kids, pick, fits, mendable, mended}
+use Rattle.rules.specs.Page.{Page, isLeaf, pageIn, buildBytes}
+use Rattle.rules.specs.Table.{pageAt, read, build}
+use Rattle.rules.specs.Place.{kids, pick, fits, mendable, mended}
 use Rattle.rules.specs.Enter.{Entered, mend, enter}
-use Rattle.rules.specs.Walk.{Step, Way, numbers, descend, wayOf}
+use Rattle.rules.specs.Walk.{Step, numbers}
 use Rattle.rules.specs.declared.Place.{Place}
 use Rattle.rules.proofs.Tests.{not-both, fails, mem-nil, mem-head, mem-tail, mem-cases}
-use Rattle.rules.proofs.All.{All, nil, cons, all-map}
+use Rattle.rules.proofs.All.{All, nil, cons}
 use Rattle.rules.proofs.Views.{Shaped, shaped-read}
-use Rattle.rules.proofs.Places.{Fits, Mendable, mendable-true}
+use Rattle.rules.proofs.Places.{mendable-true}
 use Rattle.rules.proofs.Asks.{pick-leaf, kids-pick, kids-want}
 use Rattle.rules.proofs.Tables.{has-page, pageAt-build-same, pageAt-build-other}
-use Rattle.enter.proofs.Mended.{Narrow, room-mended}
-use Rattle.way.proofs.Stood.{Ready, ready-root, ready-long, ready-bytes, ready-stays, ready-next, Stood, stood-here}
-use Rattle.reading.specs.Leaving.{askedFrom, askedFor, PageLeft, as-it-was, mended-for}
+use Rattle.enter.proofs.Mended.{room-mended}
+use Rattle.way.proofs.Stood.{Ready, ready-stays, ready-next, Stood, stood-here}
+use Rattle.reading.specs.Leaving.{PageLeft, as-it-was, mended-for}
 
 -- ── One place entered ───────────────────────────────────────────────────────────────────────────────────────────
 

@@ -8,14 +8,14 @@ use lib.ListN.{length}
 use Rattle.fields.specs.Field.{Bytes}
 use Rattle.rules.specs.Layout.{pageSize, topKind, lastKey}
 use Rattle.rules.specs.Test.{mem}
-use Rattle.rules.specs.Page.{View, Page}
-use Rattle.rules.specs.Table.{pageAt, read, fit0}
+use Rattle.rules.specs.Page.{Page}
+use Rattle.rules.specs.Table.{pageAt, fit0}
 use Rattle.rules.specs.Place.{rootPlace, kids, pick}
 use Rattle.rules.specs.Enter.{Entered, enter}
 use Rattle.rules.specs.Walk.{Step, Way, numbers, descend, wayOf}
 use Rattle.rules.specs.declared.Place.{Place}
 use Rattle.rules.proofs.Tests.{not-both, fails, mem-nil, mem-head, mem-tail}
-use Rattle.rules.proofs.All.{All, nil}
+use Rattle.rules.proofs.All.{nil}
 use Rattle.way.proofs.Stood.{ready-root, ready-long, ready-bytes}
 use Rattle.reading.specs.Leaving.{askedFrom, askedFor, PageLeft, as-it-was}
 use Rattle.reading.proofs.Turns.{Going, turn-others, ends-here, goes-on}

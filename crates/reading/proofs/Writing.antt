@@ -2,18 +2,17 @@
 -- write was of one page exactly, and every other page stays, byte for byte.
 use Prim.Native.Nat.{ℕ, _+_, _*_, _≤_, _<_}
 use native.Mathlib.Omega.{arith}
-use mathlib.Core.Path.{_≡_, refl, sym, ap, _∙_}
+use mathlib.Core.Path.{_≡_, _∙_}
 use mathlib.Core.Logic.{_≢_}
-use mathlib.Core.List.{List, [], _∷_, _++_}
-use lib.ListN.{length, take, drop, length-append, length-take, length-drop}
+use mathlib.Core.List.{List}
+use lib.ListN.{length, length-append, length-take, length-drop}
 use Rattle.rules.specs.Layout.{pageSize, lastKey}
-use Rattle.rules.specs.Page.{View, Page, pageBytes, over, blank, buildBytes, changeBytes, fresh, touch}
-use Rattle.rules.specs.Table.{pageAt, setPage, read, build, change, setRoot}
+use Rattle.rules.specs.Page.{Page, pageBytes, over, blank, buildBytes, changeBytes, fresh, touch}
+use Rattle.rules.specs.Table.{pageAt, setPage, read, build, change}
 use Rattle.rules.specs.Walk.{Step}
-use Rattle.rules.specs.Insert.{divide, lowerPage, upperPage, twins, rootOver, rootPrevious, changed, Making, making, grow, halve}
-use Rattle.rules.specs.declared.Session.{Session}
+use Rattle.rules.specs.Insert.{lowerPage, upperPage, twins, rootOver, rootPrevious, changed, Making, grow, halve}
 use Rattle.rules.proofs.Pages.{length-blank}
-use Rattle.rules.proofs.Tables.{Has, has-page, length-pageAt, pageAt-setPage-other}
+use Rattle.rules.proofs.Tables.{Has, length-pageAt, pageAt-setPage-other}
 use Rattle.rules.proofs.PageZero.{length-setRoot, pageAt-setRoot}
 
 -- ── One page ────────────────────────────────────────────────────────────────────────────────────────────────────

@@ -12,8 +12,8 @@ use Rattle.rules.specs.Key.{keyOf, goodParts}
 use Rattle.rules.specs.Entry.{Cert, keys, find, cut, rising}
 use Rattle.rules.specs.Page.{over}
 use Rattle.rules.specs.Table.{fit0}
-use Rattle.rules.specs.Tree.{Tree, treeOf, goodTree}
-use Rattle.rules.specs.Call.{Left, lengthsFor}
+use Rattle.rules.specs.Tree.{treeOf, goodTree}
+use Rattle.rules.specs.Call.{lengthsFor}
 use Rattle.rules.specs.Lookup.{lookup}
 use Rattle.rules.specs.Newest.{newest}
 use Rattle.rules.specs.List.{ListLeft, recordsOf, list}

@@ -12,9 +12,8 @@ use Rattle.rules.specs.Page.{View, Page}
 use Rattle.rules.specs.Table.{pages}
 use Rattle.rules.specs.Place.{rootPlace, kids, show}
 use Rattle.rules.specs.Enter.{Entered, enter}
-use Rattle.rules.specs.Walk.{Walked, walkOf}
-use Rattle.rules.specs.Tree.{Tree, treeOf}
-use Rattle.rules.specs.Call.{Left}
+use Rattle.rules.specs.Walk.{walkOf}
+use Rattle.rules.specs.Tree.{treeOf}
 use Rattle.rules.specs.Open.{opening}
 use Rattle.rules.specs.declared.Place.{Place}
 use Rattle.rules.specs.declared.Opened.{Opened}

@@ -1,14 +1,14 @@
 -- What an insert that is done changes: which pages, which marks, and what is found afterwards.
 use Prim.Native.Nat.{ℕ, _≤_, _<_}
 use mathlib.Core.Path.{_≡_}
-use mathlib.Core.Bool.{Bool, true, false}
+use mathlib.Core.Bool.{true, false}
 use mathlib.Core.List.{List, [], _∷_}
 use mathlib.Core.Option.{some}
 use lib.ListN.{length, take, getD}
 use Rattle.rules.specs.Key.{keyOf}
 use Rattle.rules.specs.Test.{mem}
 use Rattle.rules.specs.Table.{pageAt}
-use Rattle.rules.specs.Walk.{Step, Way, numbers, wayOf}
+use Rattle.rules.specs.Walk.{Step, numbers, wayOf}
 use Rattle.rules.specs.Marks.{freePages}
 use Rattle.rules.specs.Call.{Left}
 use Rattle.rules.specs.Insert.{rootSplits, newPages, insert}

@@ -8,10 +8,10 @@ use lib.ListN.{length}
 use Rattle.fields.specs.Field.{Bytes}
 use Rattle.rules.specs.Layout.{topKind}
 use Rattle.rules.specs.Key.{keyOf}
-use Rattle.rules.specs.Page.{Page, buildBytes}
+use Rattle.rules.specs.Page.{buildBytes}
 use Rattle.rules.specs.Table.{pageAt, read}
 use Rattle.rules.specs.Place.{rootPlace, kids, pick, fits, mendable, mended}
-use Rattle.rules.specs.Enter.{Entered, enter}
+use Rattle.rules.specs.Enter.{enter}
 use Rattle.rules.specs.Walk.{Step, numbers}
 use Rattle.rules.specs.Call.{Left}
 use Rattle.rules.specs.Insert.{insert}

@@ -5,10 +5,9 @@ use mathlib.Core.Bool.{true}
 use mathlib.Core.List.{List, _∷_, List·Memᴰ}
 use mathlib.Core.Option.{some}
 use Rattle.rules.specs.Key.{keyOf, modelOf, serialOf, issueOf}
-use Rattle.rules.specs.Entry.{Entry, Cert}
-use Rattle.rules.specs.Page.{View, Page, isLeaf}
-use Rattle.rules.specs.Walk.{Step, Way, wayOf}
-use Rattle.rules.specs.Call.{Left}
+use Rattle.rules.specs.Entry.{Cert}
+use Rattle.rules.specs.Page.{isLeaf}
+use Rattle.rules.specs.Walk.{Step, wayOf}
 use Rattle.rules.specs.Lookup.{lookup}
 use Rattle.rules.specs.declared.Session.{Session}
 use Rattle.rules.specs.declared.Looked.{Looked}
