@@ -167,9 +167,6 @@ module _ (m : State) (model serial issue x : ℕ) (wide-model : model < 65536) (
   unfolding step afterInsert
   others model′ serial′ issue′ a b c d = go (goodParts model′ serial′ issue′) refl
     where
-      j : ℕ
-      j = keyOf model′ serial′ issue′
-
       j-bound : keyOf model′ serial′ issue′ ≤ lastKey
       j-bound = omega (arith, keyOf-bound model′ serial′ issue′ (omega arith) (omega arith) (omega arith))
 

@@ -1,21 +1,30 @@
+-- The promises of specs/, proved; each file uses only those above it.
+
+-- A record that is found
 pub mod Exact
+-- What a walk of one key leaves of each page
 pub mod Turns
 pub mod WayLeft
 pub mod Refused
+-- What an insert changes, in tables of any bytes
 pub mod Leading
 pub mod Writing
 pub mod Splitting
 pub mod Marking
 pub mod Counts
 pub mod Changes
+-- and what it adds, in every history
 pub mod Adds
+-- Tables whose tree passes opening's tests
+pub mod Passes
 pub mod Soundly
 pub mod TreeCerts
+pub mod SameTree
+-- the walks through them
 pub mod Gathers
 pub mod Ends
-pub mod Passes
 pub mod Largest
-pub mod SameTree
+-- Lookup, newest and list; opening
 pub mod Agrees
-pub mod OpeningEnters
 pub mod HistoriesAgree
+pub mod OpeningEnters

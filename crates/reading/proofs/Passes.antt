@@ -99,12 +99,6 @@ module _ (f : Place → Tree) where
   each-once i [] d b m o h x y = absurd (List·Memᴰ·not-nil m)
   each-once i (e ∷ es) d b m o h x y = go (List·Memᴰ·cases-cons m) (List·Memᴰ·cases-cons o) (each-once i es d b)
     where
-      first : List ℕ
-      first = f e .children
-
-      rest : List ℕ
-      rest = treeEach f es .children
-
       Goal : Type 0
       Goal = (d ≡ b) × (distinct (f d .children) ≡ true)
 

@@ -1,4 +1,4 @@
--- What a user may rely on, one promise after the other.
+-- What a user may rely on. Each file ends with its promises; each promise is proved by the theorem of its name in proofs/.
 pub mod Reading
 pub mod Leaving
 pub mod Inserting
