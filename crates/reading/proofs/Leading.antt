@@ -40,7 +40,7 @@ stands-in q x = record {
   high = x .high;
 }
 
-leads-in : (n k : ℕ) (t u : List ℕ) (s : Step) (above : List Step) → ((i : ℕ) → mem i (numbers (s ∷ above)) ≡ true → read u i ≡ read t i)
+pub leads-in : (n k : ℕ) (t u : List ℕ) (s : Step) (above : List Step) → ((i : ℕ) → mem i (numbers (s ∷ above)) ≡ true → read u i ≡ read t i)
     → Leads n k t (s ∷ above) → Leads n k u (s ∷ above)
 unfolding numbers
 leads-in n k t u s [] f l = (stands-in (f (s .place .child) (mem-head (s .place .child) [])) (l .0), l .1, l .2)

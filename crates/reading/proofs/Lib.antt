@@ -14,6 +14,7 @@ pub mod Marking
 pub mod Counts
 pub mod Changes
 -- and what it adds, in every history
+pub mod Chains
 pub mod Adds
 -- Tables whose tree passes opening's tests
 pub mod Passes

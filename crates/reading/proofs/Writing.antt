@@ -2,17 +2,17 @@
 -- write was of one page exactly, and every other page stays, byte for byte.
 use Prim.Native.Nat.{ℕ, _+_, _*_, _≤_, _<_}
 use native.Mathlib.Omega.{arith}
-use mathlib.Core.Path.{_≡_, _∙_}
+use mathlib.Core.Path.{_≡_, ap, _∙_}
 use mathlib.Core.Logic.{_≢_}
 use mathlib.Core.List.{List}
 use lib.ListN.{length, length-append, length-take, length-drop}
 use Rattle.rules.specs.Layout.{pageSize, lastKey}
-use Rattle.rules.specs.Page.{Page, pageBytes, over, blank, buildBytes, changeBytes, fresh, touch}
+use Rattle.rules.specs.Page.{Page, pageIn, pageBytes, over, blank, buildBytes, changeBytes, fresh, touch}
 use Rattle.rules.specs.Table.{pageAt, setPage, read, build, change}
 use Rattle.rules.specs.Walk.{Step}
 use Rattle.rules.specs.Insert.{lowerPage, upperPage, twins, rootOver, rootPrevious, changed, Making, grow, halve}
-use Rattle.rules.proofs.Pages.{length-blank}
-use Rattle.rules.proofs.Tables.{Has, length-pageAt, pageAt-setPage-other}
+use Rattle.rules.proofs.Pages.{Wide, length-blank, pageIn-buildBytes, pageIn-changeBytes}
+use Rattle.rules.proofs.Tables.{Has, length-pageAt, pageAt-setPage-same, pageAt-setPage-other}
 use Rattle.rules.proofs.PageZero.{length-setRoot, pageAt-setRoot}
 
 -- ── One page ────────────────────────────────────────────────────────────────────────────────────────────────────
@@ -46,6 +46,17 @@ module _ (t : List ℕ) (i : ℕ) (p : Page) (h : Has t i) where
   unfolding build
   build-other e j d =
       pageAt-setPage-other t i (buildBytes p) h (omega (arith, length-set t i (buildBytes p) h, whole-build)) j d
+
+  build-same : length (build t i p) ≤ length t → pageAt (build t i p) i ≡ buildBytes p
+  unfolding build
+  build-same e =
+      pageAt-setPage-same t i (buildBytes p) h (omega (arith, length-set t i (buildBytes p) h, whole-build))
+
+  change-same : length (change t i p) ≤ length t → pageAt (change t i p) i ≡ changeBytes p (pageAt t i)
+  unfolding change
+  change-same e =
+      pageAt-setPage-same t i (changeBytes p (pageAt t i)) h
+      (omega (arith, length-set t i (changeBytes p (pageAt t i)) h, whole-change))
 
   pub change-other : length (change t i p) ≤ length t → (j : ℕ) → j ≢ i → pageAt (change t i p) j ≡ pageAt t j
   unfolding change
@@ -96,6 +107,40 @@ module _ {n : ℕ} (c k : ℕ) (M : Making) (s : Step) (a b : ℕ) (long : n * p
       ∙ (build-other T₁ b (upperPage c (s .page)) has-b (omega (arith, e, longer-a, longer-at)) i y
       ∙ build-other (M .table) a (lowerPage c (s .page)) has-a (omega (arith, e, longer-b, longer-at)) i x)
 
+  -- the halves, and the page above with its two entries
+  module _ (e : length (halve c k s a b M .table) ≤ length (M .table)) where
+    pub halve-lower : Wide (lowerPage c (s .page)) → a ≢ b → a ≢ M .at → read (halve c k s a b M .table) a ≡ lowerPage c (s .page)
+    unfolding read halve changed
+    halve-lower x y z =
+        ap pageIn
+        (change-other T₂ (M .at) above has-at (omega (arith, e, longer-a, longer-b)) a z
+        ∙ (build-other T₁ b (upperPage c (s .page)) has-b (omega (arith, e, longer-a, longer-at)) a y
+        ∙ build-same (M .table) a (lowerPage c (s .page)) has-a (omega (arith, e, longer-b, longer-at))))
+        ∙ pageIn-buildBytes x
+
+    pub halve-upper : Wide (upperPage c (s .page)) → b ≢ M .at → read (halve c k s a b M .table) b ≡ upperPage c (s .page)
+    unfolding read halve changed
+    halve-upper x z =
+        ap pageIn
+        (change-other T₂ (M .at) above has-at (omega (arith, e, longer-a, longer-b)) b z
+        ∙ build-same T₁ b (upperPage c (s .page)) has-b (omega (arith, e, longer-a, longer-at)))
+        ∙ pageIn-buildBytes x
+
+    still-at : M .at ≢ a → M .at ≢ b → read T₂ (M .at) ≡ read (M .table) (M .at)
+    unfolding read halve changed
+    still-at x y =
+        ap pageIn
+        (build-other T₁ b (upperPage c (s .page)) has-b (omega (arith, e, longer-a, longer-at)) (M .at) y
+        ∙ build-other (M .table) a (lowerPage c (s .page)) has-a (omega (arith, e, longer-b, longer-at)) (M .at) x)
+
+    pub halve-above : (q : Page) → read (M .table) (M .at) ≡ q → Wide (touch c (twins c s a b (q .view)) q) → M .at ≢ a → M .at ≢ b
+        → read (halve c k s a b M .table) (M .at) ≡ touch c (twins c s a b (q .view)) q
+    unfolding read halve changed
+    halve-above q h x y z =
+        ap pageIn (change-same T₂ (M .at) above has-at (omega (arith, e, longer-a, longer-b)))
+        ∙ (ap (λ (o : Page). pageIn (changeBytes (touch c (twins c s a b (o .view)) o) (pageAt T₂ (M .at)))) (still-at y z ∙ h)
+        ∙ pageIn-changeBytes x (pageAt T₂ (M .at)))
+
 -- ── A new root ──────────────────────────────────────────────────────────────────────────────────────────────────
 
 module _ (c : ℕ) (M : Making) (s : Step) (g : ℕ) (has : Has (M .table) g) where
@@ -115,3 +160,11 @@ module _ (c : ℕ) (M : Making) (s : Step) (g : ℕ) (has : Has (M .table) g) wh
   grow-other e i o d =
       pageAt-setRoot (build (M .table) g root) g (rootPrevious c s) c i o
       ∙ build-other (M .table) g root has (omega (arith, e, same-length)) i d
+
+  pub grow-new : length (grow c s g M .table) ≤ length (M .table) → 1 ≤ g → Wide root → read (grow c s g M .table) g ≡ root
+  unfolding read grow
+  grow-new e o x =
+      ap pageIn
+      (pageAt-setRoot (build (M .table) g root) g (rootPrevious c s) c g o
+      ∙ build-same (M .table) g root has (omega (arith, e, same-length)))
+      ∙ pageIn-buildBytes x
