@@ -148,20 +148,20 @@ module _ {n c k : ℕ} {t : List ℕ} {s : Step} {above : List Step} {new : List
   abbrev page : Page
   page = touch c (putCert x (old .view)) old
 
-  leaf-at : isLeaf (old .view) ≡ true
+  pub leaf-at : isLeaf (old .view) ≡ true
   leaf-at = leaf-same (old .view) (s .page .view) (g .onward .kind) ∙ leaf
 
   shaped-at : Shaped (old .view)
   shaped-at = shaped-read (m .table) (m .at)
 
-  room-at : Room page
+  pub room-at : Room page
   unfolding touch putCert
   room-at =
       room-pageBytes page (shaped-putCert x (old .view) leaf-at shaped-at)
       (omega (arith, length-put-le x (old .view .certs), room (old .view) (g .onward .roomy) .0))
       (omega (arith, ap length (shaped-at .leaf leaf-at)))
 
-  has-at : Has (m .table) (m .at)
+  pub has-at : Has (m .table) (m .at)
   has-at = has-page (m .table) n (m .at) (g .whole .long) (g .onward .below)
 
   put-length : length (changed c (putCert x) (m .table) (m .at)) ≡ n * pageSize

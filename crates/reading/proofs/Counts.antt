@@ -33,10 +33,10 @@ module _ {n k : ℕ} {t : List ℕ} (u : Step) (st : Stands n k t u) (d : Place)
       (λ l. Option·none-ne-some d
       (sym (pick-leaf k (u .place) (u .page .view) (subst (λ (y : Page). Shaped (y .view)) (st .reads) (shaped-read t (u .place .child))) l) ∙ p))
 
-  want-below : (1 ≤ d .want) × (suc (d .want) ≡ u .page .view .kind)
+  pub want-below : (1 ≤ d .want) × (suc (d .want) ≡ u .page .view .kind)
   want-below = kids-want (u .place) (st .fits .sound) d inner (kids-pick (u .place) (st .fits .sound) k d p)
 
-kind-above : {n k : ℕ} {t : List ℕ} (s u : Step) → Stands n k t s → Stands n k t u → pick k (kids (u .place) (u .page .view)) ≡ some (s .place)
+pub kind-above : {n k : ℕ} {t : List ℕ} (s u : Step) → Stands n k t s → Stands n k t u → pick k (kids (u .place) (u .page .view)) ≡ some (s .place)
     → u .page .view .kind ≡ suc (s .page .view .kind)
 kind-above s u a b p = go (a .fits .kind)
   where

@@ -15,6 +15,8 @@ pub mod Counts
 pub mod Changes
 -- and what it adds, in every history
 pub mod Chains
+pub mod SplitChain
+pub mod Found
 pub mod Adds
 -- Tables whose tree passes opening's tests
 pub mod Passes
