@@ -110,7 +110,7 @@ split-n c k (s ∷ (u ∷ above)) new M = go (full (s .page .view)) refl (split-
     go true f ih = rw (f, split) (halve-n c k s (getD new 0 0) (getD new 1 0) (split c k (u ∷ above) (drop 2 new) M) ∙ ih)
     go false f ih = rw (f, split)
 
-done-n : (k x : ℕ) (s : Session) (way : List Step) (w t : List ℕ) → insertDone k x s way w t .session .n ≡ s .n
+pub done-n : (k x : ℕ) (s : Session) (way : List Step) (w t : List ℕ) → insertDone k x s way w t .session .n ≡ s .n
 unfolding insertDone
 done-n k x s way w t = split-n (s .c) k way (freePages s (numbers way)) (making w s 0)
 

@@ -1,6 +1,6 @@
 -- The way of the inserted key after the splits, in tables of any bytes: it still leads down from the root, through the pages that
 -- were halved anew, to the page that the key goes into.
-use Prim.Native.Nat.{ℕ, suc, _-_, _*_, _^_, _≤_, _<_}
+use Prim.Native.Nat.{ℕ, _-_, _*_, _≤_, _<_}
 use native.Mathlib.Omega.{arith}
 use mathlib.Core.Path.{_≡_, refl, sym, ap, _∙_, subst}
 use mathlib.Core.Logic.{_⊎_, inl, inr, _≢_}
@@ -10,11 +10,11 @@ use mathlib.Core.Option.{some, Option·none-ne-some}
 use lib.Dec.{ltb}
 use lib.ListN.{length}
 use borrow.Author.Tests.{ltb-true, ltb-false}
-use Rattle.rules.specs.Layout.{pageSize, innerRoom}
+use Rattle.rules.specs.Layout.{pageSize, innerRoom, zeroKind}
 use Rattle.rules.specs.Test.{mem}
-use Rattle.rules.specs.Entry.{Child, keys, put}
+use Rattle.rules.specs.Entry.{Child, keys}
 use Rattle.rules.specs.Page.{View, Page, isLeaf, pageIn, touch}
-use Rattle.rules.specs.Table.{pageAt, read}
+use Rattle.rules.specs.Table.{read, kind0, n0}
 use Rattle.rules.specs.Place.{rootPlace, kids, pick}
 use Rattle.rules.specs.Walk.{Step, numbers}
 use Rattle.rules.specs.Insert.{full, divide, heirs, previousOf, newChild, putChild, lowerPage, upperPage, twins, Making, halve}
@@ -29,22 +29,20 @@ use Rattle.rules.proofs.Asks.{pick-leaf, kids-pick, kids-rising, kids-within}
 use Rattle.rules.proofs.Puts.{length-put-le}
 use Rattle.rules.proofs.Halves.{Divided, divided, room, lowerPage-fits, upperPage-fits, twins-fits}
 use Rattle.rules.proofs.Twins.{Twin, lowerPlace, upperPlace, kids-twins, twin-pick-lower, twin-pick-upper}
-use Rattle.rules.proofs.Pages.{WideView, Wide, wide-touch, pageIn-buildBytes, pageIn-changeBytes}
+use Rattle.rules.proofs.Pages.{Wide, wide-touch}
 use Rattle.rules.proofs.Widths.{wide-putChild, wide-newChild, divide-bound, wide-lowerPage, wide-upperPage}
 use Rattle.rules.proofs.Tables.{wide-read}
-use Rattle.rules.proofs.PageZero.{same0, rootPlace-same}
+use Rattle.rules.proofs.PageZero.{Same0, same0, rootPlace-same}
 use Rattle.apply.specs.Leads.{Whole, Stands, Leads}
 use Rattle.apply.proofs.Halving.{Sites}
-use Rattle.apply.proofs.Going.{mem-rest, mem-not}
-use Rattle.reading.proofs.Leading.{leads-in}
+use Rattle.reading.proofs.Leading.{topOf, leads-in}
 use Rattle.reading.proofs.Writing.{halve-other, halve-lower, halve-upper, halve-above}
 
 -- ── Steps from the root down to a page ──────────────────────────────────────────────────────────────────────────
 
 -- the place of the last step up
 abbrev pub topPlace : Step → List Step → Place
-topPlace s [] = s .place
-topPlace s (u ∷ above) = topPlace u above
+topPlace s above = topOf above (s .place)
 
 -- a way in T from its root to page i, over pages entered and new
 pub record Chained (n k : ℕ) (T : List ℕ) (i : ℕ) (entered new : List ℕ) : Type 0 where
@@ -54,6 +52,9 @@ pub record Chained (n k : ℕ) (T : List ℕ) (i : ℕ) (entered new : List ℕ)
   pub root : rootPlace T ≡ topPlace first rest
   pub child : first .place .child ≡ i
   pub only : (j : ℕ) → mem j (numbers (first ∷ rest)) ≡ true → (mem j entered ≡ true) ⊎ (mem j new ≡ true)
+  -- page 0 is still one of such a table
+  pub zero-kind : kind0 T ≡ zeroKind
+  pub zero-pages : n0 T ≡ n
 
 pub first-stands : (n k : ℕ) (t : List ℕ) (s : Step) (above : List Step) → Leads n k t (s ∷ above) → Stands n k t s
 first-stands n k t s [] l = l .0
@@ -65,10 +66,6 @@ pub leads-again : (n k : ℕ) (t u : List ℕ) (s : Step) (q : Page) (above : Li
     → Leads n k u (record { place = s .place; page = q } ∷ above)
 leads-again n k t u s q [] x f l = (x, l .1, l .2)
 leads-again n k t u s q (v ∷ above) x f l = (x, l .1, l .2, leads-in n k t u v above f (l .3))
-
-pub top-again : (s : Step) (q : Page) (above : List Step) → topPlace s above ≡ topPlace (record { place = s .place; page = q }) above
-top-again s q [] = refl
-top-again s q (v ∷ above) = refl
 
 -- the first step's number is none of those above
 pub first-apart : (n k : ℕ) (t : List ℕ) (s : Step) (above : List Step) → Leads n k t (s ∷ above) → (j : ℕ) → mem j (numbers above) ≡ true
@@ -237,11 +234,11 @@ module _ {n c k : ℕ} (M : Making) (s : Step) (e : Place) {entered ns : List �
   above-leads : Leads n k (halve c k s a b M .table) (record { place = C .first .place; page = page } ∷ C .rest)
   above-leads = leads-again n k (M .table) (halve c k s a b M .table) (C .first) page (C .rest) above-stands rest-same (C .leads)
 
-  root-same : rootPlace (halve c k s a b M .table) ≡ rootPlace (M .table)
-  root-same =
-      rootPlace-same (same0 (halve c k s a b M .table) (M .table)
+  zero-same : Same0 (halve c k s a b M .table) (M .table)
+  zero-same =
+      same0 (halve c k s a b M .table) (M .table)
       (halve-other c k M s a b long (x .lower-below) (x .upper-below) (x .at-below) short 0
-      (λ q. absurd (omega (arith, q, x .lower-page))) (λ q. absurd (omega (arith, q, x .upper-page))) (λ q. absurd (omega (arith, q, at-from)))))
+      (λ q. absurd (omega (arith, q, x .lower-page))) (λ q. absurd (omega (arith, q, x .upper-page))) (λ q. absurd (omega (arith, q, at-from))))
 
   -- the half that the key's way goes on in
   module _ (h : Step) (stands : Stands n k (halve c k s a b M .table) h)
@@ -260,9 +257,11 @@ module _ {n c k : ℕ} (M : Making) (s : Step) (e : Place) {entered ns : List �
       first = h;
       rest = record { place = C .first .place; page = page } ∷ C .rest;
       leads = (stands, half-apart, goes, above-leads);
-      root = root-same ∙ (C .root ∙ top-again (C .first) page (C .rest));
+      root = rootPlace-same zero-same ∙ C .root;
       child = q;
       only = λ j m. which j (mem-cases j (h .place .child) (u .place .child ∷ numbers (C .rest)) m);
+      zero-kind = zero-same .kind ∙ C .zero-kind;
+      zero-pages = zero-same .n ∙ C .zero-pages;
     }
       where
         own-new : (j : ℕ) → j ≡ h .place .child → (h .place .child ≡ a) ⊎ (h .place .child ≡ b) → mem j (a ∷ (b ∷ ns)) ≡ true

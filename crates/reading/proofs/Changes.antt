@@ -16,6 +16,7 @@ use Rattle.rules.specs.Key.{keyOf, goodParts}
 use Rattle.rules.specs.Entry.{Cert, find}
 use Rattle.rules.specs.Page.{Page, isLeaf, touch}
 use Rattle.rules.specs.Table.{pageAt, read, fit0}
+use Rattle.rules.specs.Place.{rootPlace}
 use Rattle.rules.specs.Walk.{Step, numbers, certsAt, wayOf}
 use Rattle.rules.specs.Marks.{freePages}
 use Rattle.rules.specs.Call.{Left, lengthsFor, insertedNo}
@@ -128,7 +129,7 @@ module _ (s : Session) (way : List Step) (roomy : noRoom way (freePages s (numbe
       let j = mem-index i (takenFor s way) 0 m in
       subst (FreePage s (numbers way)) (j .2) (all-at free-of (j .0) 0 (j .1))
 
-  chosen : Chosen (s .n) way (takenFor s way)
+  pub chosen : Chosen (s .n) way (takenFor s way)
   unfolding takenFor
   chosen = record {
     fresh = all-map fresh-of free-of;
@@ -164,7 +165,7 @@ module _ {n c k : ℕ} {t : List ℕ} {s : Step} {above : List Step} {new : List
   pub has-at : Has (m .table) (m .at)
   has-at = has-page (m .table) n (m .at) (g .whole .long) (g .onward .below)
 
-  put-length : length (changed c (putCert x) (m .table) (m .at)) ≡ n * pageSize
+  pub put-length : length (changed c (putCert x) (m .table) (m .at)) ≡ n * pageSize
   unfolding changed
   put-length = length-change (m .table) (m .at) page has-at room-at ∙ g .whole .long
 
@@ -183,29 +184,29 @@ module _ (w t : List ℕ) (s : Session) (k x : ℕ) (table : Tables (s .n) w t) 
     (counter : s .c < 256 ^ 4) (first : Step) (rest : List Step) (way : wayOf (s .n) (s .c) k w .steps ≡ some (first ∷ rest))
     (leads : Leads (s .n) k (wayOf (s .n) (s .c) k w .table) (first ∷ rest)) (short : length (first ∷ rest) ≤ topKind)
     (leaf : isLeaf (first .page .view) ≡ true) (roomy : noRoom (first ∷ rest) (freePages s (numbers (first ∷ rest))) ≡ false) where
-  abbrev u : List ℕ
+  abbrev pub u : List ℕ
   u = wayOf (s .n) (s .c) k w .table
 
-  abbrev steps : List Step
+  abbrev pub steps : List Step
   steps = first ∷ rest
 
-  abbrev new : List ℕ
+  abbrev pub new : List ℕ
   new = takenFor s steps
 
-  whole : Whole (s .n) (s .c) u
+  pub whole : Whole (s .n) (s .c) u
   whole = record { long = L .long; few = table .most; bytes = L .bytes; counter = counter }
 
-  abbrev made : Making
+  abbrev pub made : Making
   made = split (s .c) k steps new (making u s 0)
 
-  gone : Gone (s .n) (s .c) k u first rest new made
+  pub gone : Gone (s .n) (s .c) k u first rest new made
   gone = split-gone s whole first rest new short leads (chosen s steps roomy)
 
   same-made : split (s .c) k steps (freePages s (numbers steps)) (making u s 0) ≡ made
   unfolding takenFor
   same-made = split-take (s .c) k u s first rest (freePages s (numbers steps)) (enough s steps roomy)
 
-  abbrev done : Making → Left Inserted
+  abbrev pub done : Making → Left Inserted
   done m = record {
     answer = Inserted.Done;
     session = m .session;
@@ -213,7 +214,7 @@ module _ (w t : List ℕ) (s : Session) (k x : ℕ) (table : Tables (s .n) w t) 
     stable = t;
   }
 
-  same-done : insertDone k x s steps u t ≡ done made
+  pub same-done : insertDone k x s steps u t ≡ done made
   unfolding insertDone
   same-done = ap done same-made
 
@@ -236,6 +237,10 @@ module _ (w t : List ℕ) (s : Session) (k x : ℕ) (table : Tables (s .n) w t) 
       go : (0 ≡ v .place .child) ⊎ (mem 0 (numbers (v′ ∷ vs)) ≡ true) → (mem 0 (numbers (v′ ∷ vs)) ≡ true → ⊥) → ⊥
       go (inl q) ih = omega (arith, q, l .0 .page)
       go (inr q) ih = ih q
+
+  -- page 0 is as the walk found it
+  pub zero-stays : pageAt u 0 ≡ pageAt w 0
+  zero-stays = L .others steps way 0 (fails (mem 0 (numbers steps)) (λ m. zero-entered steps m leads))
 
   pub few-change : FewChange w s k (insertDone k x s steps u t)
   few-change = subst (FewChange w s k) (sym same-done) (record {
@@ -265,7 +270,7 @@ insert-changes w t s model serial issue x y h = go (WL .are)
     T : Tables (s .n) w t
     T = lengthsFor-true s w t (D .lengths)
 
-    WL : WayLeads (s .n) (keyOf model serial issue) topKind (wayOf (s .n) (s .c) (keyOf model serial issue) w .table) (D .steps)
+    WL : WayLeads (s .n) (keyOf model serial issue) topKind (rootPlace w) (wayOf (s .n) (s .c) (keyOf model serial issue) w .table) (D .steps)
     WL = way-leads (s .n) (s .c) (keyOf model serial issue) w (T .working) (D .fit) (y .bytes) (y .counter) (key-bound y) (D .steps) (D .way)
 
     go : D .steps ≡ WL .first ∷ WL .rest → FewChange w s (keyOf model serial issue) (insert w t s model serial issue x)

@@ -1,24 +1,25 @@
 -- After an insert that is done a lookup of its key finds the record, in tables of any bytes, with any session.
-use Prim.Native.Nat.{ℕ, zero, suc, _+_, _-_, _*_, _^_, _≤_, _<_}
+use Prim.Native.Nat.{ℕ, suc, _+_, _-_, _^_, _≤_, _<_}
 use native.Mathlib.Omega.{arith}
 use mathlib.Core.Path.{_≡_, refl, sym, ap, _∙_, subst}
-use mathlib.Core.Logic.{_⊎_, inl, inr, _≢_}
-use mathlib.Core.Bool.{Bool, true, false}
+use mathlib.Core.Logic.{_≢_}
+use mathlib.Core.Bool.{true, false}
 use mathlib.Core.List.{List, [], _∷_}
-use mathlib.Core.Option.{Option, some, none}
+use mathlib.Core.Option.{some, none}
 use lib.ListN.{length}
-use Rattle.rules.specs.Layout.{pageSize, topKind, leafRoom, lastKey}
+use borrow.Author.Tests.{eq-eqb, lt-ltb}
+use Rattle.rules.specs.Layout.{topKind, leafRoom, zeroKind, lastKey}
 use Rattle.rules.specs.Test.{mem}
 use Rattle.rules.specs.Key.{goodKey}
-use Rattle.rules.specs.Entry.{Entry, Cert, find, put}
-use Rattle.rules.specs.Page.{View, Page, isLeaf, touch}
-use Rattle.rules.specs.Table.{read, change}
+use Rattle.rules.specs.Entry.{Cert, find}
+use Rattle.rules.specs.Page.{Page, isLeaf, touch}
+use Rattle.rules.specs.Table.{read, kind0, n0, root0, previous0, fit0}
 use Rattle.rules.specs.Place.{rootPlace, kids, pick, fits}
 use Rattle.rules.specs.Enter.{Entered, enter}
-use Rattle.rules.specs.Walk.{Step, Way, numbers, certsAt, descend, wayOf}
-use Rattle.rules.specs.Insert.{full, putCert, changed, Making}
+use Rattle.rules.specs.Walk.{Step, numbers, certsAt, descend, wayOf}
+use Rattle.rules.specs.Insert.{putCert, changed, Making}
 use Rattle.rules.specs.declared.Place.{Place}
-use Rattle.rules.proofs.Tests.{mem-nil}
+use Rattle.rules.proofs.Tests.{every-of, between-of}
 use Rattle.rules.proofs.Views.{Shaped, shaped-read}
 use Rattle.rules.proofs.Places.{Fits, fits-of, putCert-fits}
 use Rattle.rules.proofs.Asks.{pick-leaf}
@@ -28,12 +29,12 @@ use Rattle.rules.proofs.EntryBytes.{WideCert}
 use Rattle.rules.proofs.Pages.{Wide, wide-touch}
 use Rattle.rules.proofs.Widths.{wide-putCert}
 use Rattle.rules.proofs.Tables.{wide-read, read-change-same, read-change-other}
-use Rattle.rules.proofs.PageZero.{rootPlace-same, same0-change}
+use Rattle.rules.proofs.PageZero.{Same0, rootPlace-same, same0-change}
 use Rattle.apply.specs.Leads.{Stands, Leads}
 use Rattle.apply.proofs.Going.{Gone}
 use Rattle.reading.proofs.Changes.{leaf-at, room-at, has-at}
 use Rattle.reading.proofs.Counts.{kind-above}
-use Rattle.reading.proofs.Chains.{topPlace, Chained, first-stands, leads-again, top-again, first-apart}
+use Rattle.reading.proofs.Chains.{topPlace, Chained, first-stands, leads-again, first-apart}
 
 -- ── A way that stands is walked without a mend ──────────────────────────────────────────────────────────────────
 
@@ -97,6 +98,28 @@ module _ (n c k : ℕ) (t : List ℕ) where
       reaches s above l r (suc level) (omega (arith, kinds n k t s above l, st .fits .sound .kind-from))
       ∙ descend-ends level above s st (step-apart n k t s above l) (pick-leaf k (s .place) (s .page .view) shape leaf)
 
+-- ── Page 0 ──────────────────────────────────────────────────────────────────────────────────────────────────────
+
+-- a place names a page, and a page or none as its previous
+record Named (n : ℕ) (e : Place) : Type 0 where
+  from : 1 ≤ e .child
+  below : e .child < n
+  previous : e .previous < n
+
+top-named : (n k : ℕ) (t : List ℕ) (s : Step) (above : List Step) → Leads n k t (s ∷ above) → Named n (topPlace s above)
+top-named n k t s [] l = record { from = l .0 .page; below = l .0 .below; previous = l .0 .previous }
+top-named n k t s (u ∷ above) l = top-named n k t u above (l .3)
+
+fit-of : (n : ℕ) (t : List ℕ) → kind0 t ≡ zeroKind → n0 t ≡ n → Named n (rootPlace t) → fit0 n t ≡ true
+unfolding fit0 rootPlace
+fit-of n t a b x =
+    let f = x .from in
+    let g = x .below in
+    every-of _ (
+      eq-eqb (kind0 t) zeroKind a,
+      (eq-eqb (n0 t) n b, (between-of 1 (n - 1) (root0 t) f (omega (arith, f, g)), (lt-ltb (previous0 t) n (x .previous), tt))),
+    )
+
 -- ── The entry put in ────────────────────────────────────────────────────────────────────────────────────────────
 
 module _ {n c k : ℕ} {t : List ℕ} {s : Step} {above : List Step} {new entered : List ℕ} {m : Making} (g : Gone n c k t s above new m)
@@ -143,10 +166,9 @@ module _ {n c k : ℕ} {t : List ℕ} {s : Step} {above : List Step} {new entere
   unfolding changed
   reads-other j d = read-change-other (m .table) (m .at) page (has-at g leaf cert) (room-at g leaf cert) j d
 
-  root-same : rootPlace F ≡ rootPlace (m .table)
+  zero-same : Same0 F (m .table)
   unfolding changed
-  root-same =
-      rootPlace-same (same0-change (m .table) (m .at) (has-at g leaf cert) (omega (arith, C .child, U .page)) page (room-at g leaf cert))
+  zero-same = same0-change (m .table) (m .at) (has-at g leaf cert) (omega (arith, C .child, U .page)) page (room-at g leaf cert)
 
   stands : Stands n k F (record { place = C .first .place; page = page })
   stands = record {
@@ -169,11 +191,20 @@ module _ {n c k : ℕ} {t : List ℕ} {s : Step} {above : List Step} {new entere
   leaf-page = leaf-here
 
   -- the way of the key in the table that the insert leaves, and what it finds
-  pub put-way : wayOf n c k F ≡ record { table = F; steps = some (record { place = C .first .place; page = page } ∷ C .rest) }
-  put-way =
-      leads-way n c k F (record { place = C .first .place; page = page }) (C .rest) leads
-      (root-same ∙ (C .root ∙ top-again (C .first) page (C .rest))) leaf-page
+  abbrev pub put-steps : List Step
+  put-steps = record { place = C .first .place; page = page } ∷ C .rest
 
-  pub put-found : find k (certsAt (record { place = C .first .place; page = page } ∷ C .rest)) ≡ some x
+  root-is : rootPlace F ≡ topPlace (record { place = C .first .place; page = page }) (C .rest)
+  root-is = rootPlace-same zero-same ∙ C .root
+
+  pub put-way : (c′ : ℕ) → wayOf n c′ k F ≡ record { table = F; steps = some put-steps }
+  put-way c′ = leads-way n c′ k F (record { place = C .first .place; page = page }) (C .rest) leads root-is leaf-page
+
+  pub put-fit : fit0 n F ≡ true
+  put-fit =
+      fit-of n F (zero-same .kind ∙ C .zero-kind) (zero-same .n ∙ C .zero-pages)
+      (subst (Named n) (sym root-is) (top-named n k F (record { place = C .first .place; page = page }) (C .rest) leads))
+
+  pub put-found : find k (certsAt put-steps) ≡ some x
   unfolding certsAt touch putCert
   put-found = find-put-same cert (old .view .certs)

@@ -29,6 +29,11 @@ abbrev LeadsTo : ℕ → ℕ → List ℕ → List Step → Place → Type 0
 LeadsTo n k t [] e = (e .low ≡ 0) × (e .high ≡ lastKey)
 LeadsTo n k t (u ∷ above) e = (pick k (kids (u .place) (u .page .view)) ≡ some e) × Leads n k t (u ∷ above)
 
+-- the place where a way starts, above a place
+abbrev pub topOf : List Step → Place → Place
+topOf [] e = e
+topOf (u ∷ above) e = topOf above (u .place)
+
 stands-in : {n k : ℕ} {t u : List ℕ} {s : Step} → read u (s .place .child) ≡ read t (s .place .child) → Stands n k t s → Stands n k u s
 stands-in q x = record {
   page = x .page;
@@ -54,11 +59,12 @@ leads-in n k t u s (v ∷ above) f l = (
 -- ── The descent ─────────────────────────────────────────────────────────────────────────────────────────────────
 
 -- what a way hands out: a first step, those above it, and that they lead down from the root
-pub record WayLeads (n k level : ℕ) (t : List ℕ) (steps : List Step) : Type 0 where
+pub record WayLeads (n k level : ℕ) (root : Place) (t : List ℕ) (steps : List Step) : Type 0 where
   pub first : Step
   pub rest : List Step
   pub are : steps ≡ first ∷ rest
   pub leads : Leads n k t (first ∷ rest)
+  pub top : topOf rest (first .place) ≡ root
   pub short : length steps ≤ level
 
 stands-here : {n c k : ℕ} {t : List ℕ} {e : Place} (above : List ℕ) → Ready n c k t e → e .previous < n
@@ -86,24 +92,24 @@ leads-more {n} {c} {k} (v ∷ above) {t} {e} r previous p h l = (
   leads-in n k t (enter n c (numbers (v ∷ above)) t e .table) v above (ready-stays r (numbers (v ∷ above))) (l .1),
 )
 
-descend-leads : (level n c k : ℕ) (above : List Step) (t : List ℕ) (e : Place) → Ready n c k t e → e .previous < n → LeadsTo n k t above e
+descend-leads : (level n c k : ℕ) (root : Place) (above : List Step) (t : List ℕ) (e : Place) → topOf above e ≡ root → Ready n c k t e → e .previous < n → LeadsTo n k t above e
     → (steps : List Step) → descend level n c k above t e .steps ≡ some steps
-    → (top : ℕ) → level + length above ≤ top → WayLeads n k top (descend level n c k above t e .table) steps
+    → (top : ℕ) → level + length above ≤ top → WayLeads n k top root (descend level n c k above t e .table) steps
 unfolding descend
-descend-leads zero n c k above t e r b l steps h top z = absurd (Option·none-ne-some steps h)
-descend-leads (suc level) n c k above t e r b l steps h top z =
-    found (enter n c (numbers above) t e .page) refl (λ ss d. descend-leads level n c k ss (enter n c (numbers above) t e .table) d)
+descend-leads zero n c k root above t e y r b l steps h top z = absurd (Option·none-ne-some steps h)
+descend-leads (suc level) n c k root above t e y r b l steps h top z =
+    found (enter n c (numbers above) t e .page) refl (λ ss d. descend-leads level n c k root ss (enter n c (numbers above) t e .table) d)
   where
     w : List ℕ
     w = enter n c (numbers above) t e .table
 
     Rest : Type 0
-    Rest = (ss : List Step) (d : Place) → Ready n c k w d → d .previous < n → LeadsTo n k w ss d
+    Rest = (ss : List Step) (d : Place) → topOf ss d ≡ root → Ready n c k w d → d .previous < n → LeadsTo n k w ss d
         → (zs : List Step) → descend level n c k ss w d .steps ≡ some zs
-        → (top : ℕ) → level + length ss ≤ top → WayLeads n k top (descend level n c k ss w d .table) zs
+        → (top : ℕ) → level + length ss ≤ top → WayLeads n k top root (descend level n c k ss w d .table) zs
 
     below : (p : Page) → enter n c (numbers above) t e .page ≡ some p → (o : Option Place) → pick k (kids e (p .view)) ≡ o → Rest
-        → WayLeads n k top (descend (suc level) n c k above t e .table) steps
+        → WayLeads n k top root (descend (suc level) n c k above t e .table) steps
     below p f none q ih =
         let g = Option·some-injective (record { place = e; page = p } ∷ above) steps (rw (descend, f, q) at h) in
         rw (descend, f, q)
@@ -112,16 +118,17 @@ descend-leads (suc level) n c k above t e r b l steps h top z =
           rest = above;
           are = sym g;
           leads = leads-more above r b p f l;
+          top = y;
           short = omega (arith, ap length g, z);
         })
     below p f (some d) q ih =
         let x = stood-here r (numbers above) p f in
         rw (descend, f, q)
-        (ih (record { place = e; page = p } ∷ above) d (ready-next r (numbers above) p f d q)
+        (ih (record { place = e; page = p } ∷ above) d y (ready-next r (numbers above) p f d q)
         (kids-names e (x .fits .sound) d (kids-pick e (x .fits .sound) k d q) .previous-below)
         (q, leads-more above r b p f l) steps (rw (descend, f, q) at h) top (omega (arith, z)))
 
-    found : (o : Option Page) → enter n c (numbers above) t e .page ≡ o → Rest → WayLeads n k top (descend (suc level) n c k above t e .table) steps
+    found : (o : Option Page) → enter n c (numbers above) t e .page ≡ o → Rest → WayLeads n k top root (descend (suc level) n c k above t e .table) steps
     found none f ih = absurd (Option·none-ne-some steps (rw (descend, f) at h))
     found (some p) f ih = below p f (pick k (kids e (p .view))) refl ih
 
@@ -136,7 +143,7 @@ unfolding rootPlace
 root-range t = (refl, refl)
 
 pub way-leads : (n c k : ℕ) (t : List ℕ) → length t ≡ n * pageSize → fit0 n t ≡ true → Bytes t → c < 256 ^ 4 → k ≤ lastKey
-    → (steps : List Step) → wayOf n c k t .steps ≡ some steps → WayLeads n k topKind (wayOf n c k t .table) steps
+    → (steps : List Step) → wayOf n c k t .steps ≡ some steps → WayLeads n k topKind (rootPlace t) (wayOf n c k t .table) steps
 unfolding wayOf
 way-leads n c k t l f b m h steps q =
-    descend-leads topKind n c k [] t (rootPlace t) (ready-root n c k t l f b m h) (root-previous n t f) (root-range t) steps q topKind (omega arith)
+    descend-leads topKind n c k (rootPlace t) [] t (rootPlace t) refl (ready-root n c k t l f b m h) (root-previous n t f) (root-range t) steps q topKind (omega arith)

@@ -18,6 +18,7 @@ pub mod Chains
 pub mod SplitChain
 pub mod Found
 pub mod Adds
+pub mod FoundThen
 -- Tables whose tree passes opening's tests
 pub mod Passes
 pub mod Soundly

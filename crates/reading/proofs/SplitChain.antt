@@ -1,24 +1,24 @@
 -- The way of the inserted key after all splits: from the root, a new one where the old was split, down to the page that the key
 -- goes into.
-use Prim.Native.Nat.{ℕ, suc, _-_, _*_, _^_, _≤_, _<_}
+use Prim.Native.Nat.{ℕ, _-_, _*_, _≤_, _<_}
 use native.Mathlib.Omega.{arith}
 use mathlib.Core.Path.{_≡_, refl, sym, ap, _∙_, subst}
-use mathlib.Core.Logic.{_⊎_, inl, inr, _≢_}
+use mathlib.Core.Logic.{_⊎_, inl, inr}
 use mathlib.Core.Bool.{Bool, true, false}
 use mathlib.Core.List.{List, [], _∷_}
 use mathlib.Core.Option.{some}
 use lib.Dec.{eqb}
 use lib.ListN.{length}
-use Rattle.rules.specs.Layout.{pageSize, topKind, lastKey}
+use Rattle.rules.specs.Layout.{pageSize, topKind, zeroKind, lastKey}
 use Rattle.rules.specs.Test.{mem}
 use Rattle.rules.specs.Page.{View, Page, count, fresh}
-use Rattle.rules.specs.Table.{read, build}
+use Rattle.rules.specs.Table.{read, build, kind0, n0}
 use Rattle.rules.specs.Place.{rootPlace, placesIn, kids, pick}
 use Rattle.rules.specs.Walk.{Step, numbers}
 use Rattle.rules.specs.Insert.{full, newChild, rootOver, rootPrevious, Making, making, grow, halve, split}
 use Rattle.rules.specs.declared.Place.{Place}
 use Rattle.rules.specs.declared.Session.{Session}
-use Rattle.rules.proofs.Tests.{mem-nil, mem-cases, mem-head, distinct-head, distinct-tail, fails}
+use Rattle.rules.proofs.Tests.{mem-nil, mem-cases, mem-head, distinct-head, distinct-tail}
 use Rattle.rules.proofs.All.{nil, cons, all-head, all-tail}
 use Rattle.rules.proofs.Sounds.{Sound}
 use Rattle.rules.proofs.Places.{Fits}
@@ -28,13 +28,13 @@ use Rattle.rules.proofs.Twins.{kids-rootOver}
 use Rattle.rules.proofs.Pages.{Wide, wide-fresh}
 use Rattle.rules.proofs.Widths.{wide-newChild}
 use Rattle.rules.proofs.Tables.{Has, has-page, wide-read}
-use Rattle.rules.proofs.PageZero.{length-setRoot, rootPlace-setRoot}
-use Rattle.apply.specs.Leads.{Whole, Stands, Leads, Fresh, Chosen}
-use Rattle.apply.proofs.Halving.{Onward, Sites}
+use Rattle.rules.proofs.PageZero.{Same0, same0-build, length-setRoot, kind0-setRoot, n0-setRoot, rootPlace-setRoot}
+use Rattle.rules.proofs.Writes.{room-of}
+use Rattle.apply.specs.Leads.{Whole, Stands, Leads, Chosen}
 use Rattle.apply.proofs.Going.{Gone, mem-rest, pages-more, chosen-above}
 use Rattle.apply.proofs.Splits.{split-stays, split-root, split-below, stands-below, sites}
 use Rattle.apply.proofs.Whole.{short, root-whole, root-stands, root-sites, split-gone}
-use Rattle.reading.proofs.Writing.{grow-longer, halve-longer, grow-new}
+use Rattle.reading.proofs.Writing.{grow-longer, grow-new}
 use Rattle.reading.proofs.Splitting.{pages-root}
 use Rattle.reading.proofs.Counts.{want-below}
 use Rattle.reading.proofs.Chains.{topPlace, Chained, first-stands, halve-chained}
@@ -93,26 +93,35 @@ module _ {n c k : ℕ} {t : List ℕ} (w : Whole n c t) (s : Step) (st : Stands 
       (omega (arith, grow-longer c (making t m 0) s g has, length-setRoot (build t g over) g (rootPrevious c s) c, w .long, below))
       (omega (arith, below, w .few)) (omega (arith, previous-in, w .few)) (w .counter)
 
+  over-sound : Sound n 0 lastKey (rootOver s)
+  over-sound = rootOver-sound n s kind from (st .page) (st .below) (st .previous)
+
   over-stands : k ≤ lastKey → Stands n k (grow c s g (making t m 0) .table) (record { place = place; page = over })
   over-stands b = record {
     page = page;
     below = below;
     previous = previous-in;
     reads = reads-over;
-    fits = rootOver-fits n c s place refl refl refl refl (rootOver-sound n s kind from (st .page) (st .below) (st .previous));
+    fits = rootOver-fits n c s place refl refl refl refl over-sound;
     low = omega arith;
     high = b;
   }
 
-  grow-chained : k ≤ lastKey → (ns : List ℕ) → Chained n k (grow c s g (making t m 0) .table) g [] (g ∷ ns)
-  unfolding numbers
-  grow-chained b ns = record {
+  zero-same : Same0 (build t g over) t
+  unfolding fresh
+  zero-same = same0-build t g has page over (room-of wide-over over-sound)
+
+  grow-chained : k ≤ lastKey → kind0 t ≡ zeroKind → n0 t ≡ n → (ns : List ℕ) → Chained n k (grow c s g (making t m 0) .table) g [] (g ∷ ns)
+  unfolding numbers grow
+  grow-chained b z y ns = record {
     first = record { place = place; page = over };
     rest = [];
     leads = (over-stands b, refl, refl);
     root = root-is;
     child = refl;
     only = λ j h. inr (go j (mem-cases j g [] h));
+    zero-kind = kind0-setRoot (build t g over) g (rootPrevious c s) c ∙ (zero-same .kind ∙ z);
+    zero-pages = n0-setRoot (build t g over) g (rootPrevious c s) c ∙ (zero-same .n ∙ y);
   }
     where
       go : (j : ℕ) → (j ≡ g) ⊎ (mem j [] ≡ true) → mem j (g ∷ ns) ≡ true
@@ -145,7 +154,7 @@ want-is s f h = go (f .kind)
 
 -- ── The whole way ───────────────────────────────────────────────────────────────────────────────────────────────
 
-module _ {n c k : ℕ} {t : List ℕ} (m : Session) (w : Whole n c t) (bound : k ≤ lastKey) where
+module _ {n c k : ℕ} {t : List ℕ} (m : Session) (w : Whole n c t) (bound : k ≤ lastKey) (zero-kind : kind0 t ≡ zeroKind) (zero-pages : n0 t ≡ n) where
   abbrev Goal : List ℕ → List ℕ → Making → Type 0
   Goal entered new M = Chained n k (M .table) (M .at) entered new
 
@@ -153,7 +162,16 @@ module _ {n c k : ℕ} {t : List ℕ} (m : Session) (w : Whole n c t) (bound : k
       → rootPlace t ≡ topPlace s above → Goal (numbers (s ∷ above)) ns (split c k (s ∷ above) ns (making t m 0))
   stay-chained s above ns f l r =
       subst (Goal (numbers (s ∷ above)) ns) (sym (split-stays c k s above ns t m f))
-      (record { first = s; rest = above; leads = l; root = r; child = refl; only = λ j h. inl h })
+      (record {
+        first = s;
+        rest = above;
+        leads = l;
+        root = r;
+        child = refl;
+        only = λ j h. inl h;
+        zero-kind = zero-kind;
+        zero-pages = zero-pages;
+      })
 
   none-in : (i : ℕ) → mem i [] ≡ false
   unfolding mem
@@ -166,7 +184,7 @@ module _ {n c k : ℕ} {t : List ℕ} (m : Session) (w : Whole n c t) (bound : k
       subst (Goal (s .place .child ∷ []) (a ∷ (b ∷ (g ∷ ns)))) (sym q)
       (halve-chained M s (asked w s (l .0) (l .1) (l .2) kind g page below m up) (root-whole s a b g ns m w l f x) (root-stands s a b g ns m w l f x) f
       (root-sites s a b g ns m w l f x)
-      (grow-chained w s (l .0) (l .1) (l .2) kind g page below m up bound ns)
+      (grow-chained w s (l .0) (l .1) (l .2) kind g page below m up bound zero-kind zero-pages ns)
       (goes-down w s (l .0) (l .1) (l .2) kind g page below m up)
       (sym (l .0 .fits .low)) (sym (l .0 .fits .high ∙ l .2)) refl
       (ap (λ (p : Page). full (p .view)) (reads-over w s (l .0) (l .1) (l .2) kind g page below m up) ∙ full-over s) end

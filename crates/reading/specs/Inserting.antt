@@ -1,5 +1,5 @@
 -- What an insert that is done changes: which pages, which marks, and what is found afterwards.
-use Prim.Native.Nat.{ℕ, _≤_, _<_}
+use Prim.Native.Nat.{ℕ, _^_, _≤_, _<_}
 use mathlib.Core.Path.{_≡_}
 use mathlib.Core.Bool.{true, false}
 use mathlib.Core.List.{List, [], _∷_}
@@ -57,6 +57,18 @@ InsertChanges =
     → FewChange w s (keyOf model serial issue) (insert w t s model serial issue x)
 
 -- ── What is found afterwards ────────────────────────────────────────────────────────────────────────────────────
+
+-- a lookup of the key answers 0 with the record, and has nothing to mend
+pub record FoundThen (r : Left Inserted) (model serial issue x : ℕ) : Type 0 where
+  pub answer : lookup (r .working) (r .stable) (r .session) model serial issue .answer ≡ Looked.Found x
+  pub working : lookup (r .working) (r .stable) (r .session) model serial issue .working ≡ r .working
+
+-- in tables of any bytes, with any session
+unfoldable pub InsertFound : Type 0
+InsertFound =
+    (w t : List ℕ) (s : Session) (model serial issue x : ℕ) → Typed w s model serial issue → x < 256 ^ 4
+    → insert w t s model serial issue x .answer ≡ Inserted.Done
+    → FoundThen (insert w t s model serial issue x) model serial issue x
 
 -- an insert into a store of a history
 abbrev pub inserted : State → ℕ → ℕ → ℕ → ℕ → Left Inserted
