@@ -7,16 +7,13 @@ use mathlib.Core.Logic.{_≢_}
 use mathlib.Core.Bool.{Bool, true, false}
 use mathlib.Core.List.{List, [], _∷_, _++_}
 use mathlib.Core.Option.{Option, some, none, Option·none-ne-some}
-use lib.ListN.{drop, getD}
 use borrow.Author.Tests.{eq-eqb, ne-eqb}
 use Rattle.rules.specs.Layout.{lastKey}
 use Rattle.rules.specs.Key.{keyOf, goodParts}
 use Rattle.rules.specs.Entry.{find}
 use Rattle.rules.specs.Table.{fit0}
-use Rattle.rules.specs.Walk.{Step, certsAt, numbers, wayOf}
-use Rattle.rules.specs.Marks.{freePages}
+use Rattle.rules.specs.Walk.{Step, certsAt, wayOf}
 use Rattle.rules.specs.Call.{Left, lengthsFor, lookedNo}
-use Rattle.rules.specs.Insert.{full, Making, making, grow, halve, split, insertDone}
 use Rattle.rules.specs.Lookup.{foundIn, lookupLeft, lookupKey, lookup}
 use Rattle.rules.specs.History.{Event, inserts, State, latest, recordIn, content, gains, afterInsert, step, run, start, Typed, AllTyped}
 use Rattle.rules.specs.Demand.{Serves, Demand3}
@@ -24,10 +21,10 @@ use Rattle.rules.specs.declared.Session.{Session}
 use Rattle.rules.specs.declared.Inserted.{Inserted}
 use Rattle.rules.specs.declared.Looked.{Looked}
 use Rattle.rules.proofs.Keys.{modelOf-keyOf, serialOf-keyOf, issueOf-keyOf, keyOf-bound}
-use Rattle.rules.proofs.Retire.{retire-n}
 use Rattle.rules.proofs.Histories.{demand3}
 use Rattle.reading.specs.Inserting.{inserted, Adds, InsertAdds}
 use Rattle.reading.specs.Agreeing.{answerFor}
+use Rattle.reading.proofs.Marking.{done-n}
 use Rattle.reading.proofs.Changes.{insert-done}
 
 -- ── What a lookup answers, by what it found ─────────────────────────────────────────────────────────────────────
@@ -88,31 +85,6 @@ content-of : (s : Session) (w t : List ℕ) (model serial issue : ℕ) → seria
     → content s w t (keyOf model serial issue) ≡ recordIn (lookup w t s model serial issue .answer)
 unfolding content
 content-of s w t model serial issue a b = rw (modelOf-keyOf model serial issue a b, serialOf-keyOf model serial issue a b, issueOf-keyOf model serial issue a b)
-
--- ── The session keeps its number of pages ───────────────────────────────────────────────────────────────────────
-
-halve-n : (c k : ℕ) (s : Step) (a b : ℕ) (M : Making) → halve c k s a b M .session .n ≡ M .session .n
-unfolding halve
-halve-n c k s a b M = retire-n c s _
-
-split-n : (c k : ℕ) (way : List Step) (new : List ℕ) (M : Making) → split c k way new M .session .n ≡ M .session .n
-unfolding split grow
-split-n c k [] new M = refl
-split-n c k (s ∷ []) new M = go (full (s .page .view)) refl
-  where
-    go : (b : Bool) → full (s .page .view) ≡ b → split c k (s ∷ []) new M .session .n ≡ M .session .n
-    go true f = rw (f, split) (halve-n c k s (getD new 0 0) (getD new 1 0) (grow c s (getD new 2 0) M))
-    go false f = rw (f, split)
-split-n c k (s ∷ (u ∷ above)) new M = go (full (s .page .view)) refl (split-n c k (u ∷ above) (drop 2 new) M)
-  where
-    go : (b : Bool) → full (s .page .view) ≡ b → split c k (u ∷ above) (drop 2 new) M .session .n ≡ M .session .n
-        → split c k (s ∷ (u ∷ above)) new M .session .n ≡ M .session .n
-    go true f ih = rw (f, split) (halve-n c k s (getD new 0 0) (getD new 1 0) (split c k (u ∷ above) (drop 2 new) M) ∙ ih)
-    go false f ih = rw (f, split)
-
-pub done-n : (k x : ℕ) (s : Session) (way : List Step) (w t : List ℕ) → insertDone k x s way w t .session .n ≡ s .n
-unfolding insertDone
-done-n k x s way w t = split-n (s .c) k way (freePages s (numbers way)) (making w s 0)
 
 -- ── One event more ──────────────────────────────────────────────────────────────────────────────────────────────
 

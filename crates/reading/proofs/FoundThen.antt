@@ -37,7 +37,7 @@ use Rattle.reading.proofs.Changes.{Along, insert-done, made, done, gone
 use Rattle.reading.proofs.Chains.{topPlace, Chained}
 use Rattle.reading.proofs.SplitChain.{split-chained}
 use Rattle.reading.proofs.Found.{put-steps, put-way, put-fit, put-found}
-use Rattle.reading.proofs.Adds.{done-n}
+use Rattle.reading.proofs.Marking.{done-n}
 
 -- ── A lookup of a way that is known ─────────────────────────────────────────────────────────────────────────────
 

@@ -13,12 +13,13 @@ pub mod Splitting
 pub mod Marking
 pub mod Counts
 pub mod Changes
--- and what it adds, in every history
+-- and that its key is found then: the way of the key after the splits
 pub mod Chains
 pub mod SplitChain
 pub mod Found
-pub mod Adds
 pub mod FoundThen
+-- What an insert adds, in every history
+pub mod Adds
 -- Tables whose tree passes opening's tests
 pub mod Passes
 pub mod Soundly

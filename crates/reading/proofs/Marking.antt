@@ -7,14 +7,15 @@ use mathlib.Core.Logic.{_⊎_, inl, inr, _≢_}
 use mathlib.Core.Bool.{Bool, true, false, _&&_}
 use mathlib.Core.List.{List, [], _∷_}
 use lib.Dec.{eqb}
-use lib.ListN.{length, getD}
+use lib.ListN.{length, drop, getD}
 use borrow.Author.Tests.{eqb-true, eqb-false}
 use Rattle.rules.specs.Test.{mem}
 use Rattle.rules.specs.Walk.{Step, numbers}
-use Rattle.rules.specs.Marks.{taken}
-use Rattle.rules.specs.Insert.{full, newPages, heirs, retire, Making, making, grow, halve, split}
+use Rattle.rules.specs.Marks.{taken, freePages}
+use Rattle.rules.specs.Insert.{full, newPages, heirs, retire, Making, making, grow, halve, split, insertDone}
 use Rattle.rules.specs.declared.Session.{Session}
 use Rattle.rules.proofs.Tests.{mem-nil, mem-cases}
+use Rattle.rules.proofs.Retire.{retire-n}
 use Rattle.rules.proofs.Marked.{free-taken-same, free-taken-other, free-freed-other, waiting-waits-other}
 use Rattle.apply.proofs.Going.{mem-rest, mem-not}
 use Rattle.apply.proofs.Splits.{split-stays, split-root, split-below}
@@ -202,3 +203,28 @@ module _ (c k : ℕ) (t : List ℕ) (m : Session) (i : ℕ) where
       go (a ∷ (b ∷ ns)) e r true f ih =
           subst Goal (sym (split-below c k s u above (a ∷ (b ∷ ns)) (making t m 0) f))
           (below a b ns (omega (arith, e, pages-below s (u ∷ above) f)) ih (mem-cases i a (b ∷ ns) r))
+
+-- ── The session keeps its number of pages ───────────────────────────────────────────────────────────────────────
+
+halve-n : (c k : ℕ) (s : Step) (a b : ℕ) (M : Making) → halve c k s a b M .session .n ≡ M .session .n
+unfolding halve
+halve-n c k s a b M = retire-n c s _
+
+split-n : (c k : ℕ) (way : List Step) (new : List ℕ) (M : Making) → split c k way new M .session .n ≡ M .session .n
+unfolding split grow
+split-n c k [] new M = refl
+split-n c k (s ∷ []) new M = go (full (s .page .view)) refl
+  where
+    go : (b : Bool) → full (s .page .view) ≡ b → split c k (s ∷ []) new M .session .n ≡ M .session .n
+    go true f = rw (f, split) (halve-n c k s (getD new 0 0) (getD new 1 0) (grow c s (getD new 2 0) M))
+    go false f = rw (f, split)
+split-n c k (s ∷ (u ∷ above)) new M = go (full (s .page .view)) refl (split-n c k (u ∷ above) (drop 2 new) M)
+  where
+    go : (b : Bool) → full (s .page .view) ≡ b → split c k (u ∷ above) (drop 2 new) M .session .n ≡ M .session .n
+        → split c k (s ∷ (u ∷ above)) new M .session .n ≡ M .session .n
+    go true f ih = rw (f, split) (halve-n c k s (getD new 0 0) (getD new 1 0) (split c k (u ∷ above) (drop 2 new) M) ∙ ih)
+    go false f ih = rw (f, split)
+
+pub done-n : (k x : ℕ) (s : Session) (way : List Step) (w t : List ℕ) → insertDone k x s way w t .session .n ≡ s .n
+unfolding insertDone
+done-n k x s way w t = split-n (s .c) k way (freePages s (numbers way)) (making w s 0)
