@@ -70,7 +70,7 @@ module _ (a : Asked) (xs : List Cert) where
 
 -- ── One step of the rules' walk ─────────────────────────────────────────────────────────────────────────────────
 
-walk-past : (level n c : ℕ) (a : Asked) (above : List ℕ) (e : Place) (w : Walked) → enters a e w ≡ false
+pub walk-past : (level n c : ℕ) (a : Asked) (above : List ℕ) (e : Place) (w : Walked) → enters a e w ≡ false
     → walk (suc level) n c a above e w ≡ w
 unfolding walk
 walk-past level n c a above e w h = rw (h, walk)

@@ -30,6 +30,7 @@ pub mod Gathers
 pub mod Ends
 pub mod Largest
 -- Lookup, newest and list; opening
+pub mod Empty
 pub mod Agrees
 pub mod HistoriesAgree
 pub mod OpeningEnters

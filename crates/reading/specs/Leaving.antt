@@ -1,5 +1,5 @@
 -- What a walk of one key leaves of each page.
-use Prim.Native.Nat.{ℕ, zero, suc, _^_, _<_}
+use Prim.Native.Nat.{ℕ, zero, suc, _^_, _<_, min}
 use mathlib.Core.Path.{_≡_}
 use mathlib.Core.Bool.{true, false}
 use mathlib.Core.List.{List, [], _∷_, List·Memᴰ}
@@ -16,6 +16,7 @@ use Rattle.rules.specs.Walk.{Step, numbers}
 use Rattle.rules.specs.Call.{Left}
 use Rattle.rules.specs.Insert.{insert}
 use Rattle.rules.specs.Lookup.{lookup}
+use Rattle.rules.specs.List.{ListLeft, list}
 use Rattle.rules.specs.declared.Place.{Place}
 use Rattle.rules.specs.declared.Session.{Session}
 use Rattle.rules.specs.declared.Inserted.{Inserted}
@@ -77,3 +78,16 @@ unfoldable pub LookupLeaves : Type 0
 LookupLeaves =
     (w t : List ℕ) (s : Session) (model serial issue : ℕ) → Typed w s model serial issue
     → OnlyWay (keyOf model serial issue) w t s (lookup w t s model serial issue)
+
+-- ── A list without room ─────────────────────────────────────────────────────────────────────────────────────────
+
+-- no page is entered, so none is mended, and no place of a lent list is filled
+pub record NothingListed (w ks xs : List ℕ) (r : ListLeft) : Type 0 where
+  pub working : r .working ≡ w
+  pub keys : r .keys ≡ ks
+  pub records : r .records ≡ xs
+
+unfoldable pub EmptyList : Type 0
+EmptyList =
+    (w t : List ℕ) (s : Session) (start : ℕ) (ks xs : List ℕ) → min (length ks) (length xs) ≡ 0
+    → NothingListed w ks xs (list w t s start ks xs)
