@@ -88,12 +88,12 @@ content-of s w t model serial issue a b = rw (modelOf-keyOf model serial issue a
 
 -- ── One event more ──────────────────────────────────────────────────────────────────────────────────────────────
 
-run-then : (h : List Event) (e : Event) (m : State) → run (h ++ (e ∷ [])) m ≡ step e (run h m)
+pub run-then : (h : List Event) (e : Event) (m : State) → run (h ++ (e ∷ [])) m ≡ step e (run h m)
 unfolding run
 run-then [] e m = refl
 run-then (x ∷ h) e m = run-then h e (step x m)
 
-typed-then : (h : List Event) (e : Event) → AllTyped h → Typed e → AllTyped (h ++ (e ∷ []))
+pub typed-then : (h : List Event) (e : Event) → AllTyped h → Typed e → AllTyped (h ++ (e ∷ []))
 unfolding AllTyped
 typed-then [] e t y = (y, tt)
 typed-then (x ∷ h) e t y = (t .0, typed-then h e (t .1) y)
@@ -171,23 +171,24 @@ module _ (m : State) (model serial issue x : ℕ) (wide-model : model < 65536) (
   adds : Adds m model serial issue x r
   adds = record { own = own; others = others }
 
+-- an insert that is done leaves the session's number of pages
+pub done-pages : (w s : List ℕ) (h : List Event) (model serial issue x : ℕ) → inserted (run h (start w s)) model serial issue x .answer ≡ Inserted.Done
+    → run (h ++ (inserts model serial issue x ∷ [])) (start w s) .session .n ≡ run h (start w s) .session .n
+unfolding step afterInsert
+done-pages w s h model serial issue x done =
+    let m = run h (start w s) in
+    let y = insert-done (m .working) (m .stable) (m .session) model serial issue x done in
+    ap (λ (q : State). q .session .n) (run-then h (inserts model serial issue x) (start w s))
+    ∙ (ap (λ (q : Left Inserted). q .session .n) (y .is)
+    ∙ done-n (keyOf model serial issue) x (m .session) (y .steps)
+    (wayOf (m .session .n) (m .session .c) (keyOf model serial issue) (m .working) .table) (m .stable))
+
 pub insert-adds : InsertAdds
-unfolding InsertAdds Demand3 step afterInsert Typed
+unfolding InsertAdds Demand3 Typed
 insert-adds n w s l h t z model serial issue x a b c d done =
-    adds m model serial issue x a b c (demand3 n w s l h t .1 z)
-    (subst Serves (run-then h e (start w s)) (demand3 n w s l (h ++ (e ∷ [])) (typed-then h e t (a, b, c, d)) .1 pages)) done
+    adds (run h (start w s)) model serial issue x a b c (demand3 n w s l h t .1 z)
+    (subst Serves (run-then h e (start w s))
+    (demand3 n w s l (h ++ (e ∷ [])) (typed-then h e t (a, b, c, d)) .1 (done-pages w s h model serial issue x done ∙ z))) done
   where
     e : Event
     e = inserts model serial issue x
-
-    m : State
-    m = run h (start w s)
-
-    pages : run (h ++ (inserts model serial issue x ∷ [])) (start w s) .session .n ≡ n
-    pages =
-        let y = insert-done (run h (start w s) .working) (run h (start w s) .stable) (run h (start w s) .session) model serial issue x done in
-        ap (λ (q : State). q .session .n) (run-then h (inserts model serial issue x) (start w s))
-        ∙ (ap (λ (q : Left Inserted). q .session .n) (y .is)
-        ∙ (done-n (keyOf model serial issue) x (run h (start w s) .session) (y .steps)
-        (wayOf (run h (start w s) .session .n) (run h (start w s) .session .c) (keyOf model serial issue) (run h (start w s) .working) .table)
-        (run h (start w s) .stable) ∙ z))

@@ -1,10 +1,10 @@
 -- A list without room enters no page, in tables of any bytes.
 use Prim.Native.Nat.{ℕ, min}
-use mathlib.Core.Path.{_≡_, refl, ap, _∙_, subst}
+use mathlib.Core.Path.{_≡_, refl, ap}
 use mathlib.Core.Bool.{Bool, true, false}
 use mathlib.Core.List.{List, []}
 use lib.ListN.{length}
-use Rattle.rules.specs.Entry.{Cert, keys}
+use Rattle.rules.specs.Entry.{keys}
 use Rattle.rules.specs.Page.{over}
 use Rattle.rules.specs.Table.{fit0}
 use Rattle.rules.specs.Place.{rootPlace}

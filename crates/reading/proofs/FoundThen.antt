@@ -60,7 +60,7 @@ lookup-of w t s model serial issue steps l g f h =
     rw (l, lookup) (rw g (rw f (key-of (keyOf model serial issue) s w t steps h)))
 
 -- a key that was inserted has no part that is zero
-done-good : (w t : List ℕ) (s : Session) (model serial issue x : ℕ) → insert w t s model serial issue x .answer ≡ Inserted.Done
+pub done-good : (w t : List ℕ) (s : Session) (model serial issue x : ℕ) → insert w t s model serial issue x .answer ≡ Inserted.Done
     → goodParts model serial issue ≡ true
 unfolding insert insertRefused insertedNo
 done-good w t s model serial issue x h = go (lengthsFor s w t) refl (goodParts model serial issue) refl

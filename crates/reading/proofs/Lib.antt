@@ -33,4 +33,5 @@ pub mod Largest
 pub mod Empty
 pub mod Agrees
 pub mod HistoriesAgree
+pub mod Puts
 pub mod OpeningEnters

@@ -8,6 +8,7 @@ use mathlib.Core.List.{List, [], _∷_, _++_, append-nil, List·Memᴰ, List·Me
 use mathlib.Core.Option.{Option, some, none, Option·some-injective, Option·none-ne-some}
 use Rattle.rules.specs.Layout.{topKind, lastKey}
 use Rattle.rules.specs.Test.{between, all, mem}
+use Rattle.rules.specs.Key.{goodKey}
 use Rattle.rules.specs.Entry.{Cert, Child, keys, find, rising}
 use Rattle.rules.specs.Page.{View, isLeaf}
 use Rattle.rules.specs.Place.{rootPlace, highBefore, placeOf, placesIn, kids, pick, show}
@@ -227,3 +228,34 @@ module _ {n : ℕ} {t : List ℕ} (g : Good n t) where
     where
       inner : isLeaf v ≡ false
       inner = fails (isLeaf v) (λ l. Option·none-ne-some d (sym (pick-leaf k e v (shown-shaped (show-some n t e v s)) l) ∙ q))
+
+  -- ── What every certificate passes ───────────────────────────────────────────────────────────────────────────────
+
+  abbrev passes : Cert → Bool
+  passes x = goodKey (x .key)
+
+  each-good : (f : Place → Tree) (es : List Place) → ((d : Place) → List·Memᴰ d es → all passes (f d .certs) ≡ true)
+      → all passes (treeEach f es .certs) ≡ true
+  each-good f [] h = ap (all passes) (each-nil f) ∙ all-nil passes
+  each-good f (e ∷ es) h =
+      ap (all passes) (each-cons f e es)
+      ∙ all-append passes (f e .certs) (treeEach f es .certs) (h e (List·Memᴰ·head refl)) (each-good f es (λ d m. h d (List·Memᴰ·tail m)))
+
+  goods : (level k : ℕ) (e : Place) (v : View) → Node n t k e → show n t e ≡ some v → v .kind ≤ level
+      → all passes (tree level n t e .certs) ≡ true
+  goods zero k e v x s h = absurd (omega (arith, shown-kind n t e v s .0))
+  goods (suc level) k e v x s h =
+      ap (all passes) (certs-here level e v s)
+      ∙ all-append passes (v .certs) (treeEach (tree level n t) (kids e v) .certs) (sound level k e v x s h .good)
+      (each-good (tree level n t) (kids e v)
+      (λ d m.
+      let y = kid-node v d x s m .1 in
+      let w = g .whole y in
+      goods level (d .low) d (w .view) y (w .shows) (kid-low level k e v x s h d m (w .view) (w .shows))))
+
+  pub all-good : all passes (treeOf n t .certs) ≡ true
+  unfolding treeOf
+  all-good =
+      let x = node-root n t 0 (omega arith) in
+      let w = g .whole x in
+      goods topKind 0 (rootPlace t) (w .view) x (w .shows) (shown-kind n t (rootPlace t) (w .view) (w .shows) .1)

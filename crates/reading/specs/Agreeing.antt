@@ -9,7 +9,7 @@ use lib.ListN.{length, take}
 use Rattle.fields.specs.Field.{Bytes}
 use Rattle.rules.specs.Layout.{lastKey}
 use Rattle.rules.specs.Key.{keyOf, goodParts}
-use Rattle.rules.specs.Entry.{Cert, keys, find, cut, rising}
+use Rattle.rules.specs.Entry.{Cert, keys, find, cut, put, rising}
 use Rattle.rules.specs.Page.{over}
 use Rattle.rules.specs.Table.{fit0}
 use Rattle.rules.specs.Tree.{treeOf, goodTree}
@@ -20,9 +20,11 @@ use Rattle.rules.specs.List.{ListLeft, recordsOf, list}
 use Rattle.rules.specs.History.{Event, State, run, start, AllTyped}
 use Rattle.rules.specs.Demand.{Lent}
 use Rattle.rules.specs.declared.Session.{Session}
+use Rattle.rules.specs.declared.Inserted.{Inserted}
 use Rattle.rules.specs.declared.Looked.{Looked}
 use Rattle.rules.specs.declared.Newest.{Newest}
 use Rattle.rules.specs.declared.Listed.{Listed}
+use Rattle.reading.specs.Inserting.{inserted}
 
 -- ── What the tree holds ─────────────────────────────────────────────────────────────────────────────────────────
 
@@ -93,3 +95,12 @@ unfoldable pub HistoriesAgree : Type 0
 HistoriesAgree =
     (n : ℕ) (w s : List ℕ) → Lent n w s → (h : List Event) → AllTyped h → run h (start w s) .session .n ≡ n
     → AgreeIn (run h (start w s))
+
+-- and an insert that is done there puts one certificate into the tree, in key order
+unfoldable pub InsertPuts : Type 0
+InsertPuts =
+    (n : ℕ) (w s : List ℕ) → Lent n w s → (h : List Event) → AllTyped h → run h (start w s) .session .n ≡ n
+    → (model serial issue x : ℕ) → model < 65536 → serial < 4294967296 → issue < 65536 → x < 4294967296
+    → inserted (run h (start w s)) model serial issue x .answer ≡ Inserted.Done
+    → held (inserted (run h (start w s)) model serial issue x .session) (inserted (run h (start w s)) model serial issue x .working)
+    ≡ put (record { key = keyOf model serial issue; value = x }) (held (run h (start w s) .session) (run h (start w s) .working))
