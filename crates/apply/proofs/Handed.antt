@@ -96,18 +96,5 @@ module _ {k : ℕ} {t : List ℕ} {s : Session} {w : Way} {pages : List ℕ} (R 
     new = ready-chosen (R .ready);
   }
 
-  pub len-one : w .len ≡ 1 → listed w ≡ w .leaf ∷ []
-  len-one q = ap (λ (i : ℕ). take i (w .leaf ∷ (w .parent ∷ (w .top ∷ [])))) q
-
-  pub len-two : w .len ≡ 2 → listed w ≡ w .leaf ∷ (w .parent ∷ [])
-  len-two q = ap (λ (i : ℕ). take i (w .leaf ∷ (w .parent ∷ (w .top ∷ [])))) q
-
-  some-page : w .len ≢ 0
+  pub some-page : w .len ≢ 0
   some-page q = subst (λ (i : ℕ). Leads (s .n) k t (stepsIn t (take i (w .leaf ∷ (w .parent ∷ (w .top ∷ [])))))) q (R .ready .leads)
-
-  pub len-three : w .len ≢ 1 → w .len ≢ 2 → listed w ≡ w .leaf ∷ (w .parent ∷ (w .top ∷ []))
-  len-three a b = take-all (w .len) (w .leaf ∷ (w .parent ∷ (w .top ∷ []))) (omega (arith, some-page))
-
-  pub split-listed : {xs : List Step} {m : Making} → listed w ≡ xs → m ≡ split (s .c) k (stepsIn t xs) pages (making t s 0)
-      → m ≡ split (s .c) k (stepsIn t (listed w)) pages (making t s 0)
-  split-listed q z = z ∙ ap (λ (ys : List Step). split (s .c) k (stepsIn t ys) pages (making t s 0)) (sym q)

@@ -10,4 +10,6 @@ pub mod Root
 pub mod Numbers
 pub mod Handed
 pub mod Done
+pub mod Down
+pub mod Steps
 pub mod Tight

@@ -17,10 +17,10 @@ use Rattle.split.specs.Split.{stepAt, Halves, Grows}
 use Rattle.plan.specs.Plan.{fullBy}
 use Rattle.plan.proofs.Pages.{full-by}
 use Rattle.way.specs.declared.Step.{Step}
-use Rattle.apply.specs.Leads.{stepsIn, Level}
+use Rattle.apply.specs.Leads.{HeadRead, stepsIn, Level}
 use Rattle.apply.proofs.Going.{pages-more}
 use Rattle.apply.proofs.Whole.{pages-none}
-use Rattle.apply.proofs.Levels.{level-stays, level-above, level-halves, level-split}
+use Rattle.apply.proofs.Levels.{level-above, level-halves, level-split}
 use Rattle.apply.proofs.Root.{root-grows, root-halves, root-split}
 
 -- ── The first numbers of an array from a spot on ────────────────────────────────────────────────────────────────
@@ -44,16 +44,14 @@ first-three i pages h =
     ∙ ap (λ (z : List ℕ). getD pages i 0 ∷ (getD pages (i + 1) 0 ∷ z))
     (drop-cons pages (i + 2) 0 (omega arith) ∙ ap (λ (j : ℕ). getD pages (i + 2) 0 ∷ drop j pages) three)
 
+-- what the header says of the page
+pub full-read : (t : List ℕ) (x : Step) → HeadRead t x → full (read t (x .place .child) .view) ≡ fullBy (x .head)
+full-read t x h = sym (ap fullBy h ∙ full-by (read t (x .place .child)) (shaped-read t (x .place .child)))
+
 module _ {c k : ℕ} {t : List ℕ} {x : Step} {above : List Step} {pages : List ℕ} (L : Level c k t (x ∷ above) pages)
     {b : Bool} (q : b ≡ fullBy (x .head)) where
-  -- what the test of the header says of the page
-  pub full-then : full (read t (x .place .child) .view) ≡ b
-  full-then =
-      let p = read t (x .place .child) in
-      sym (q ∙ (ap fullBy (all-head (L .heads)) ∙ full-by p (shaped-read t (x .place .child))))
-
-  pub stays-then : b ≡ false → (m : Session) → making t m (x .place .child) ≡ split c k (stepsIn t (x ∷ above)) pages (making t m 0)
-  stays-then e m = level-stays c k t x above pages m (full-then ∙ e)
+  full-then : full (read t (x .place .child) .view) ≡ b
+  full-then = full-read t x (all-head (L .heads)) ∙ sym q
 
   enough : newPages (stepsIn t (x ∷ above)) ≤ length pages
   enough = omega (arith, L .new .enough, length-take (newPages (stepsIn t (x ∷ above))) pages)

@@ -1,9 +1,10 @@
 -- What is known of a way that was walked, and of the numbers chosen for new pages.
-use Prim.Native.Nat.{ℕ, _^_, _*_, _≤_, _<_}
+use Prim.Native.Nat.{ℕ, _-_, _^_, _*_, _≤_, _<_}
 use mathlib.Core.Path.{_≡_}
 use mathlib.Core.Bool.{true, false}
 use mathlib.Core.List.{List, [], _∷_}
 use mathlib.Core.Option.{some, none}
+use lib.Dec.{eqb}
 use lib.ListN.{length, take, getD}
 use Rattle.fields.specs.Field.{Bytes}
 use Rattle.rules.specs.Layout.{pageSize, mostPages, topKind, lastKey}
@@ -15,13 +16,14 @@ use Rattle.rules.specs.Place.{kids, pick}
 use Rattle.rules.specs.Marks.{freePages}
 use Rattle.rules.specs.Walk.{Step, numbers, certsAt}
 use Rattle.rules.specs.Call.{Left}
-use Rattle.rules.specs.Insert.{rootSplits, tooHigh, newPages, noRoom}
+use Rattle.rules.specs.Insert.{rootSplits, tooHigh, newPages, noRoom, Making, making, grow}
 use Rattle.rules.specs.declared.Session.{Session}
 use Rattle.rules.specs.declared.Inserted.{Inserted}
 use Rattle.rules.proofs.All.{All}
 use Rattle.rules.proofs.Places.{Fits}
 use Rattle.head.proofs.Headers.{headOf}
-use Rattle.split.specs.Split.{stepAt}
+use Rattle.split.specs.Split.{stepAt, Grows}
+use Rattle.way.specs.Ways.{noStep}
 use Rattle.way.specs.declared.Step as way
 use Rattle.way.specs.declared.Way.{Way}
 
@@ -97,12 +99,17 @@ HeadRead t x = x .head ≡ headOf (read t (x .place .child))
 abbrev pub listed : Way → List way.Step
 listed w = take (w .len) (w .leaf ∷ (w .parent ∷ (w .top ∷ [])))
 
+-- one of them
+abbrev pub stepOn : Way → ℕ → way.Step
+stepOn w i = getD (listed w) i noStep
+
 -- the steps as the rules see them, where their pages stand in a table
 abbrev pub stepsIn : List ℕ → List way.Step → List Step
 stepsIn t [] = []
 stepsIn t (x ∷ xs) = stepAt t (x .place) ∷ stepsIn t xs
 
 pub record ReadyWay (k : ℕ) (t : List ℕ) (s : Session) (w : Way) (chosen : List ℕ) : Type 0 where
+  pub len : w .len ≤ topKind
   pub heads : All (HeadRead t) (listed w)
   pub ready : Ready k t s (stepsIn t (listed w)) chosen
 
@@ -114,6 +121,21 @@ pub record Level (c k : ℕ) (t : List ℕ) (xs : List way.Step) (chosen : List 
   pub short : length xs ≤ topKind
   pub heads : All (HeadRead t) xs
   pub new : Chosen n (stepsIn t xs) (take (newPages (stepsIn t xs)) chosen)
+
+-- where so many pages split, from the leaf up, what a new root over all of them asks for
+pub record Starts (t : List ℕ) (w : Way) (chosen : List ℕ) (many : ℕ) : Type 0 where
+  pub some : 1 ≤ w .len
+  pub len : w .len ≤ topKind
+  pub short : many ≤ w .len
+  pub grows : many ≡ w .len → Grows t (stepOn w (many - 1) .place) (stepOn w (many - 1) .head) (getD chosen (2 * many) 0)
+
+-- what stands above them: that new root, or the page that has room
+unfoldable pub startOf : ℕ → List ℕ → Way → List ℕ → ℕ → Session → Making
+startOf c t w chosen many s =
+    elim (eqb many (w .len)) [
+      | true ↦ grow c (stepAt t (stepOn w (many - 1) .place)) (getD chosen (2 * many) 0) (making t s 0)
+      | false ↦ making t s (stepOn w many .place .child)
+    ]
 
 -- what is left by an insert that is done
 abbrev pub done : Session → List ℕ → List ℕ → Left Inserted

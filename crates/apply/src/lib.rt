@@ -8,12 +8,13 @@
 //
 // Below stand `split`, which splits one page, and `edit`, which puts the entry.
 ghost use mathlib.Core.Path.{_≡_};
-ghost use mathlib.Core.List.{List, [], _∷_};
-ghost use Prim.Native.Nat.{ℕ, _+_, _≤_};
-ghost use lib.ListN.{drop, getD};
+ghost use mathlib.Core.List.{List};
+ghost use Prim.Native.Nat.{ℕ, _+_, _≤_, _<_};
+ghost use lib.ListN.{getD};
+ghost use Rattle.rules.specs.Layout.{topKind};
 ghost use Rattle.rules.specs.Insert.{making, halve, split, insertDone};
 ghost use Rattle.split.specs.Split.{stepAt, Halves};
-ghost use Rattle.apply.specs.Leads.{mostNew, listed, stepsIn, ReadyWay, Level, done};
+ghost use Rattle.apply.specs.Leads.{mostNew, listed, stepOn, stepsIn, ReadyWay, Starts, startOf, done};
 use marks::Chosen;
 use rules::Session;
 use split::Made;
@@ -54,93 +55,57 @@ fn halve_step(
     )
 }
 
-// The root's page, split under a new root if it is full.
-fn split_root(
-    table: &mut [u8],
-    session: Session,
-    c: u32,
-    key: u64,
-    root: Step,
-    pages: [u16; NEW],
-    from: usize,
-) -> Made
-    requires { ⌜ (from + 3 ≤ mostNew) × Level c key (now table) (root ∷ []) (drop from pages) ⌝ }
-    ensures { λ r. ⌜ making (now (table .exit)) (r .session) (r .at)
-        ≡ split c key (stepsIn (now (table .entry)) (root ∷ [])) (drop from pages) (making (now (table .entry)) session 0) ⌝ }
+// A step of a way, the leaf's first.
+fn step_on(way: Way, i: usize) -> Step
+    requires { ⌜ (i < way .len) × (way .len ≤ topKind) ⌝ }
+    ensures { λ r. ⌜ r ≡ stepOn way i ⌝ }
 {
-    if !plan::is_full(root.head) {
-        return Made {
-            session,
-            at: root.place.child,
-        };
+    if i == 0 {
+        return way.leaf;
     }
-    let over = split::grow(table, session, c, root.place, root.head, pages[from + 2]);
-    halve_step(table, over, c, key, root, pages, from)
+    if i == 1 {
+        return way.parent;
+    }
+    way.top
 }
 
-// A page below the root, split below what the root then is.
-fn split_second(
+// What stands above the pages that split: a new root over them all, or the first page from the leaf up that has room.
+fn start(
     table: &mut [u8],
     session: Session,
     c: u32,
-    key: u64,
-    step: Step,
-    root: Step,
-    pages: [u16; NEW],
-    from: usize,
-) -> Made
-    requires { ⌜ (from + 5 ≤ mostNew) × Level c key (now table) (step ∷ (root ∷ [])) (drop from pages) ⌝ }
-    ensures { λ r. ⌜ making (now (table .exit)) (r .session) (r .at)
-        ≡ split c key (stepsIn (now (table .entry)) (step ∷ (root ∷ []))) (drop from pages) (making (now (table .entry)) session 0) ⌝ }
-{
-    if !plan::is_full(step.head) {
-        return Made {
-            session,
-            at: step.place.child,
-        };
-    }
-    let over = split_root(table, session, c, key, root, pages, from + 2);
-    halve_step(table, over, c, key, step, pages, from)
-}
-
-// The leaf of a way of three pages.
-fn split_third(
-    table: &mut [u8],
-    session: Session,
-    c: u32,
-    key: u64,
     way: Way,
     pages: [u16; NEW],
+    many: usize,
 ) -> Made
-    requires { ⌜ Level c key (now table) (way .leaf ∷ (way .parent ∷ (way .top ∷ []))) pages ⌝ }
-    ensures { λ r. ⌜ making (now (table .exit)) (r .session) (r .at)
-        ≡ split c key (stepsIn (now (table .entry)) (way .leaf ∷ (way .parent ∷ (way .top ∷ [])))) pages (making (now (table .entry)) session 0) ⌝ }
+    requires { ⌜ Starts (now table) way pages many ⌝ }
+    ensures { λ r. ⌜ making (now (table .exit)) (r .session) (r .at) ≡ startOf c (now (table .entry)) way pages many session ⌝ }
 {
-    let step = way.leaf;
-    if !plan::is_full(step.head) {
-        return Made {
-            session,
-            at: step.place.child,
-        };
+    if many == way.len {
+        let root = step_on(way, many - 1);
+        return split::grow(table, session, c, root.place, root.head, pages[2 * many]);
     }
-    let over = split_second(table, session, c, key, way.parent, way.top, pages, 2);
-    halve_step(table, over, c, key, step, pages, 0)
+    let step = step_on(way, many);
+    Made {
+        session,
+        at: step.place.child,
+    }
 }
 
-// A whole way, leaf first.
+// The full pages from the leaf up are halved, the highest first.
 fn split_way(table: &mut [u8], session: Session, key: u64, way: Way, pages: [u16; NEW]) -> Made
     requires { ⌜ ReadyWay key (now table) session way pages ⌝ }
     ensures { λ r. ⌜ making (now (table .exit)) (r .session) (r .at)
         ≡ split (session .c) key (stepsIn (now (table .entry)) (listed way)) pages (making (now (table .entry)) session 0) ⌝ }
 {
-    let c = session.c;
-    if way.len == 1 {
-        return split_root(table, session, c, key, way.leaf, pages, 0);
+    let many = plan::splits(way);
+    let mut made = start(table, session, session.c, way, pages, many);
+    let mut i = many;
+    while 0 < i {
+        i -= 1;
+        made = halve_step(table, made, session.c, key, step_on(way, i), pages, 2 * i);
     }
-    if way.len == 2 {
-        return split_second(table, session, c, key, way.leaf, way.parent, pages, 0);
-    }
-    split_third(table, session, c, key, way, pages)
+    made
 }
 
 // The splits, then the entry in the page that stands at the end of the way.

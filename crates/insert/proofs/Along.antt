@@ -211,6 +211,7 @@ module _ {k : ℕ} {t : List ℕ} {s : Session} {w : Way} (W : Walked k t s w) w
   pub ready : (x : Chosen) → x ≡ chosenBy s w → answerOf (planOf s (presentIn (find k (certsAt (stepsOf t w)))) (stepsOf t w)) ≡ Inserted.Done
       → ReadyWay k t s w (x .pages)
   ready x e d = record {
+    len = few;
     heads = W .heads;
     ready = record {
       whole = W .whole;
