@@ -8,11 +8,10 @@ use mathlib.Core.List.{List, [], _∷_}
 use borrow.Author.Tests.{eqb-true, eqb-false, eq-eqb, ne-eqb}
 use lib.Dec.{eqb}
 use lib.ListN.{length, take, drop, getD, drop-of-length-le}
-use lib.Seq.{drop-cons, drop-drop, take-all, length-take-le, getD-take}
-use Rattle.rules.specs.Table.{read}
-use Rattle.rules.specs.Insert.{full, Making, making, grow, halve, split}
+use lib.Seq.{drop-cons, drop-drop, length-take-le}
+use Rattle.rules.specs.Insert.{Making, making, grow, halve, split}
 use Rattle.rules.specs.declared.Session.{Session}
-use Rattle.rules.proofs.All.{All, all-head, all-tail, all-at}
+use Rattle.rules.proofs.All.{All, all-head, all-at}
 use Rattle.head.specs.declared.Head.{Head}
 use Rattle.split.specs.Split.{stepAt, Halves, Grows}
 use Rattle.plan.specs.Plan.{fullBy, splitsBy, headsOf}
@@ -250,9 +249,10 @@ module _ {k : ℕ} {t : List ℕ} {s : Session} {w : Way} {pages : List ℕ} (R 
   pub asks-all : (j : ℕ) → j ≤ many → Asks (s .c) k w pages j (reached k t s w pages j)
   asks-all zero h = tt
   asks-all (suc j) h =
-      let m = reached k t s w pages (suc j) in
-      (turn-halves j (omega arith) (m .table) (m .session) (m .at) refl,
-      subst (Asks (s .c) k w pages j) (sym (next j (omega arith))) (asks-all j (omega arith)))
+      let m = reached k t s w pages (suc j) in (
+        turn-halves j (omega arith) (m .table) (m .session) (m .at) refl,
+        subst (Asks (s .c) k w pages j) (sym (next j (omega arith))) (asks-all j (omega arith)),
+      )
 
   pub halved-all : (j : ℕ) → j ≤ many
       → halvings (s .c) k w pages j (reached k t s w pages j) ≡ split (s .c) k (stepsIn t (listed w)) pages (making t s 0)
@@ -301,7 +301,7 @@ module _ {k : ℕ} {t : List ℕ} {s : Session} {w : Way} {pages : List ℕ} (R 
       go i d false f =
           let less : i < length xs = omega (arith, d, many-is, splits-short xs, long, eqb-false i (w .len) f) in
           let room : fullBy (stepOn w i .head) ≡ false =
-              ap (λ (z : ℕ). fullBy (getD xs z noStep .head)) (d ∙ many-is) ∙ splits-end xs (omega (arith, d, many-is)) in
+          ap (λ (z : ℕ). fullBy (getD xs z noStep .head)) (d ∙ many-is) ∙ splits-end xs (omega (arith, d, many-is)) in
           let read-room = full-read t (stepOn w i) (all-at (R .heads) i noStep less) ∙ room in
           rw (f, startOf)
           (level-stays (s .c) k t (stepOn w i) (drop (suc i) xs) (drop (2 * i) pages) s read-room
@@ -338,3 +338,18 @@ module _ {k : ℕ} {t : List ℕ} {s : Session} {w : Way} {pages : List ℕ} (R 
   way-ends i r e h =
       none-left (s .c) k w pages i r (split (s .c) k (stepsIn t (listed w)) pages (making t s 0)) e
       (h ∙ (ap (halvings (s .c) k w pages many) (z ∙ way-started R many q) ∙ halved-all R many q many (omega arith)))
+
+-- ── A leaf that has room ────────────────────────────────────────────────────────────────────────────────────────
+
+pub leaf-stays : {k : ℕ} {t : List ℕ} {s : Session} {w : Way} {pages : List ℕ} → ReadyWay k t s w pages → {b : Bool}
+    → b ≡ fullBy (w .leaf .head) → b ≡ false
+    → making t s (w .leaf .place .child) ≡ split (s .c) k (stepsIn t (listed w)) pages (making t s 0)
+leaf-stays {k} {t} {s} {w} {pages} R q e = go (w .len) (some-page R) (R .heads)
+  where
+    go : (n : ℕ) → n ≢ 0 → All (HeadRead t) (take n (w .leaf ∷ (w .parent ∷ (w .top ∷ []))))
+        → making t s (w .leaf .place .child)
+        ≡ split (s .c) k (stepsIn t (take n (w .leaf ∷ (w .parent ∷ (w .top ∷ []))))) pages (making t s 0)
+    go zero z h = absurd (z refl)
+    go (suc n) z h =
+        level-stays (s .c) k t (w .leaf) (take n (w .parent ∷ (w .top ∷ []))) pages s
+        (full-read t (w .leaf) (all-head h) ∙ (sym q ∙ e))

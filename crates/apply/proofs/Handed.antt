@@ -8,10 +8,10 @@ use mathlib.Core.List.{List, [], _∷_}
 use borrow.Author.Tests.{ltb-true, ltb-false}
 use lib.Dec.{ltb}
 use lib.ListN.{length, take, getD, List·getD-eq-default}
-use lib.Seq.{take-all, length-take-le}
+use lib.Seq.{length-take-le}
 use Rattle.rules.specs.Walk as rules
 use Rattle.rules.specs.Marks.{freePages}
-use Rattle.rules.specs.Insert.{rootSplits, tooHigh, newPages, noRoom, Making, making, split}
+use Rattle.rules.specs.Insert.{rootSplits, tooHigh, newPages, noRoom}
 use Rattle.rules.specs.declared.Session.{Session}
 use Rattle.rules.proofs.All.{All, all-at, all-take, all-map}
 use Rattle.rules.proofs.Rises.{rising-take, rising-distinct}

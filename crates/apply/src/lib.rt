@@ -108,7 +108,8 @@ fn split_way(table: &mut [u8], session: Session, key: u64, way: Way, pages: [u16
     made
 }
 
-// The splits, then the entry in the page that stands at the end of the way.
+// The entry into a leaf that has room, as most have; else first the splits, then the entry in the page that stands at
+// the end of the way.
 pub fn apply(
     table: &mut [u8],
     session: Session,
@@ -121,6 +122,10 @@ pub fn apply(
     ensures { λ r. ⌜ ((stable : List ℕ) → done r (now (table .exit)) stable
         ≡ insertDone key value session (stepsIn (now (table .entry)) (listed way)) (now (table .entry)) stable) ⌝ }
 {
+    if !plan::is_full(way.leaf.head) {
+        edit::put_cert(table, way.leaf.place.child as usize, key, value, session.c);
+        return session;
+    }
     let pages = chosen.pages;
     let made = split_way(table, session, key, way, pages);
     edit::put_cert(table, made.at as usize, key, value, session.c);

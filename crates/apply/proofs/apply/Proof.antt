@@ -1,25 +1,53 @@
--- `apply::apply`: the page at the end of the split way takes the entry, and all is as the rules' insert leaves it.
+-- `apply::apply`: the page at the end of the way, split or not, takes the entry, and all is as the rules' insert leaves it.
 -- Assumes nothing.
+use borrow.Author.Tests.{not-true}
+use Rattle.apply.proofs.Down.{leaf-stays}
 use Rattle.apply.proofs.Done.{put-asks, all-done}
 use borrow.Author.Needs.{needs}
 use Rattle.apply.proofs.apply.Statement.{statement}
 use Rattle.apply.proofs.apply.Tie as tie
 
-split-way-requires : tie.Need-split-way-requires
-split-way-requires c κs = search needs
+is-full-requires : tie.Need-is-full-requires
+is-full-requires c κs = search needs
 
 cast-put-cert : tie.Need-cast-put-cert
 cast-put-cert c = search needs
 
 put-cert-requires : tie.Need-put-cert-requires
-put-cert-requires c κs = put-asks (c .before .before .before .before .before .before .before .before .pre .ready) (c .before .before .before .before .split-way .last .0) (c .before .before .before .before .split-way .result .session) (c .before .before .before .before .split-way .result .at) (c .before .before .before .before .split-way .ensures)
+put-cert-requires c κs = put-asks (c .before .before .before .before .before .pre .ready) (c .before .before .before .before .before .args .table .now) (c .before .before .before .before .before .args .session) (c .before .before .before .before .before .args .way .leaf .place .child) (leaf-stays (c .before .before .before .before .before .pre) (c .before .before .before .is-full .ensures) (not-true (c .before .before .before .is-full .result) (c .before .before .if1 .taken)))
 
 same-length : tie.Need-same-length
 same-length c = search needs
 
 returns : tie.Need-returns
-returns c = all-done (c .before .before .before .before .before .before .before .before .before .before .before .before .pre .ready) (c .before .before .before .before .before .before .before .before .split-way .last .0) (c .before .before .before .before .before .before .before .before .split-way .result .session) (c .before .before .before .before .before .before .before .before .split-way .result .at) (c .before .before .before .before .before .before .before .before .split-way .ensures) (c .before .before .before .before .before .before .before .before .before .before .before .before .args .value) (c .before .before .before .put-cert .last .0) (c .before .before .before .put-cert .ensures)
+returns c = all-done (c .before .before .before .before .before .before .before .before .pre .ready) (c .before .before .before .before .before .before .before .before .args .table .now) (c .before .before .before .before .before .before .before .before .args .session) (c .before .before .before .before .before .before .before .before .args .way .leaf .place .child) (leaf-stays (c .before .before .before .before .before .before .before .before .pre) (c .before .before .before .before .before .before .is-full .ensures) (not-true (c .before .before .before .before .before .before .is-full .result) (c .before .before .before .before .before .if1 .taken))) (c .before .before .before .before .before .before .before .before .args .value) (c .before .before .put-cert .last .0) (c .before .before .put-cert .ensures)
+
+split-way-requires : tie.Need-split-way-requires
+split-way-requires c κs = search needs
+
+cast-put-cert-2 : tie.Need-cast-put-cert-2
+cast-put-cert-2 c = search needs
+
+put-cert-requires-2 : tie.Need-put-cert-requires-2
+put-cert-requires-2 c κs = put-asks (c .before .before .before .before .before .before .before .before .before .before .pre .ready) (c .before .before .before .before .split-way .last .0) (c .before .before .before .before .split-way .result .session) (c .before .before .before .before .split-way .result .at) (c .before .before .before .before .split-way .ensures)
+
+same-length-2 : tie.Need-same-length-2
+same-length-2 c = search needs
+
+returns-2 : tie.Need-returns-2
+returns-2 c = all-done (c .before .before .before .before .before .before .before .before .before .before .before .before .before .before .pre .ready) (c .before .before .before .before .before .before .before .before .split-way .last .0) (c .before .before .before .before .before .before .before .before .split-way .result .session) (c .before .before .before .before .before .before .before .before .split-way .result .at) (c .before .before .before .before .before .before .before .before .split-way .ensures) (c .before .before .before .before .before .before .before .before .before .before .before .before .before .before .args .value) (c .before .before .before .put-cert2 .last .0) (c .before .before .before .put-cert2 .ensures)
 
 pub apply-spec : {M : Type 1} → statement M
 apply-spec =
-    tie.close (tie.spec split-way-requires cast-put-cert put-cert-requires same-length returns)
+    tie.close
+    (tie.spec
+    is-full-requires
+    cast-put-cert
+    put-cert-requires
+    same-length
+    returns
+    split-way-requires
+    cast-put-cert-2
+    put-cert-requires-2
+    same-length-2
+    returns-2)

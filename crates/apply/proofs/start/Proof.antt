@@ -1,50 +1,38 @@
+-- `apply::start`: all pages split and a new root grows, or the first that is not full stays.
+-- Assumes nothing.
 use Rattle.rules.specs.Insert.{making}
 use Rattle.apply.proofs.Down.{start-grows, start-grown, start-stays}
 use borrow.Author.Needs.{needs}
 use Rattle.apply.proofs.start.Statement.{statement}
 use Rattle.apply.proofs.start.Tie as tie
-use Rattle.apply.proofs.start.Reads as reads
-use Rattle.apply.proofs.start.Lts as lts
-use Rattle.apply.proofs.step_on.Reads as step-on-reads
-use Rattle.split.proofs.grow.Reads as grow-reads
 
--- src/lib.rt:85:33
 sub-step-on : tie.Need-sub-step-on
 sub-step-on c = search needs
 
--- src/lib.rt:85:13
 step-on-requires : tie.Need-step-on-requires
 step-on-requires c κs = search needs
 
--- src/lib.rt:86:76
 mul-grow : tie.Need-mul-grow
 mul-grow c = search needs
 
--- src/lib.rt:86:70
 mul-grow-2 : tie.Need-mul-grow-2
 mul-grow-2 c = search needs
 
--- src/lib.rt:86:70
 array-read-grow : tie.Need-array-read-grow
 array-read-grow c = search needs
 
--- src/lib.rt:86:9
 grow-requires : tie.Need-grow-requires
 grow-requires c κs = start-grows (c .before .before .before .before .before .pre) (c .before .before .if1 .taken) (c .before .step-on .result) (c .before .step-on .ensures)
 
--- src/lib.rt:86:9
 same-length : tie.Need-same-length
 same-length c = search needs
 
--- src/lib.rt:86:9
 returns : tie.Need-returns
 returns c = start-grown (c .before .before .before .before .before .before .before .before .args .c) (c .before .before .before .before .before .before .before .before .args .table .now) (c .before .before .before .before .before .before .before .before .args .way) (c .before .before .before .before .before .before .before .before .args .t5) (c .before .before .before .before .before .before .before .before .args .many) (c .before .before .before .before .before .before .before .before .args .session) (c .before .before .before .before .before .if1 .taken) (c .before .before .before .before .step-on .result) (c .before .before .before .before .step-on .ensures) (making (c .before .before .grow .last .0) (c .before .before .grow .result .session) (c .before .before .grow .result .at)) (c .before .before .grow .ensures)
 
--- src/lib.rt:88:9
 step-on-requires-2 : tie.Need-step-on-requires-2
 step-on-requires-2 c κs = search needs
 
--- src/lib.rt:73:1
 returns-2 : tie.Need-returns-2
 returns-2 c = start-stays (c .before .before .before .before .args .c) (c .before .before .before .before .args .table .now) (c .before .before .before .before .args .way) (c .before .before .before .before .args .t5) (c .before .before .before .before .args .many) (c .before .before .before .before .args .session) (c .before .if1 .left) (c .step-on2 .result) (c .step-on2 .ensures)
 

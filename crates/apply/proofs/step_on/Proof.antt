@@ -1,19 +1,16 @@
+-- `apply::step_on`: the way's steps by their number.
+-- Assumes nothing.
 use Rattle.apply.proofs.Steps.{step-first, step-second, step-third}
 use native.Mathlib.Omega.{arith}
 use Rattle.apply.proofs.step_on.Statement.{statement}
 use Rattle.apply.proofs.step_on.Tie as tie
-use Rattle.apply.proofs.step_on.Reads as reads
-use Rattle.apply.proofs.step_on.Lts as lts
 
--- src/lib.rt:64:9
 returns : tie.Need-returns
 returns c = step-first (c .before .before .args .way) (c .before .before .args .i) (c .before .before .pre .0) (c .before .if1 .taken)
 
--- src/lib.rt:67:9
 returns-2 : tie.Need-returns-2
 returns-2 c = step-second (c .before .before .before .args .way) (c .before .before .before .args .i) (c .before .before .before .pre .0) (c .before .if2 .taken)
 
--- src/lib.rt:59:1
 returns-3 : tie.Need-returns-3
 returns-3 c = step-third (c .before .before .before .args .way) (c .before .before .before .args .i) (c .before .before .before .pre .0) (omega (arith, c .before .before .before .pre .0, c .before .before .before .pre .1, c .before .before .if1 .left, c .before .if2 .left))
 
