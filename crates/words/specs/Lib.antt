@@ -1,0 +1,2 @@
+-- What the bench program prints for a line.
+pub mod Words
