@@ -1,2 +1,4 @@
 pub mod Feeds
 pub mod Tight
+pub mod Told
+pub mod Reading

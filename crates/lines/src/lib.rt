@@ -2,7 +2,8 @@
 //
 // A line is read byte by byte and may be of any length: the reader keeps the numbers read so far and the place where
 // it is, nothing else. specs/Line.antt says what document 01 reads in a line, specs/Reader.antt what a byte makes of
-// a reader, and each contract is one equation with the latter.
+// a reader, and each contract is one equation with the latter. That both say the same of every line is the theorem
+// `reader-reads` of proofs/Reading.antt.
 //
 // Nothing stands below.
 ghost use mathlib.Core.Path.{_≡_};
