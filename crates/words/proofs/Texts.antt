@@ -1,13 +1,13 @@
 -- Texts as their bytes: a byte pushed stands behind the others. Assumes nothing.
 use Prim.Native.Nat.{ℕ, zero, suc, _+_, _-_, _/_, _%_, _≤_, _<_}
 use native.Mathlib.Omega.{arith}
-use native.Mathlib.Numerals.{add-one}
 use mathlib.Core.Path.{_≡_, refl, sym, ap, _∙_}
 use mathlib.Core.Logic.{_≢_}
 use mathlib.Core.Bool.{Bool, true, false}
 use mathlib.Core.List.{List, [], _∷_, _++_, append-assoc, append-nil}
 use lib.Dec.{ltb}
-use lib.ListN.{length, getD, set, replicate, length-append, List·getD-eq-default}
+use lib.ListN.{length, take, set, replicate, length-append, List·getD-eq-default}
+use lib.Seq.{take-append-seam}
 use borrow.Author.Tests.{lt-ltb, le-ltb}
 use Rattle.words.specs.declared.Text.{Text}
 use Rattle.words.specs.declared.Reply.{Reply}
@@ -101,3 +101,17 @@ found-text x =
     ap (λ (t : Text). pushed t newline) (pushed-texts (done ++ (space ∷ [])) (digitsOf 10 x) (omega (arith, few-digits 10 x)))
     ∙ pushed-text ((done ++ (space ∷ [])) ++ digitsOf 10 x) newline
     (rw (length-append (done ++ (space ∷ [])) (digitsOf 10 x)) (omega (arith, few-digits 10 x)))
+
+-- ── What a text shows ───────────────────────────────────────────────────────────────────────────────────────────
+
+pub shown-text : (s : List ℕ) → take (textOf s .len) (textOf s .bytes) ≡ s
+unfolding textOf
+shown-text s = take-append-seam s (replicate (textSize - length s) 0)
+
+pub shown-within : (s : List ℕ) → textOf s .len ≤ length (textOf s .bytes)
+unfolding textOf
+shown-within s = omega (arith, length-append s (replicate (textSize - length s) 0))
+
+pub shown-length : (s : List ℕ) → textOf s .len ≡ length (take (textOf s .len) (textOf s .bytes))
+unfolding textOf
+shown-length s = sym (ap length (shown-text s))
