@@ -1,0 +1,57 @@
+-- What a line does to the store is one event of the rules' histories. So demand 3 holds of the bench program's store.
+-- Assumes nothing.
+use Prim.Native.Nat.{ℕ}
+use mathlib.Core.Path.{_≡_, refl}
+use mathlib.Core.List.{List, [], _∷_}
+use mathlib.Core.Option.{Option, some, none}
+use Rattle.rules.specs.Call.{Left}
+use Rattle.rules.specs.Lookup.{lookup}
+use Rattle.rules.specs.History.{Event, inserts, looks, syncs, crashes, State, step, afterInsert, afterSync, afterOpen, afterReading}
+use Rattle.rules.specs.History.{crashed as torn}
+use Rattle.rules.specs.declared.Session.{Session}
+use Rattle.rules.proofs.Refusals.{lookup-mends}
+use Rattle.lines.specs.declared.Line.{Line}
+use Rattle.words.specs.declared.Reply.{Reply}
+use Rattle.driver.specs.Acts.{crashed, acted}
+
+-- the event that a line stands for
+unfoldable pub eventOf : Line → Option Event
+eventOf (Line.Insert model serial issue x) = some (inserts model serial issue x)
+eventOf (Line.Find model serial issue) = some (looks model serial issue)
+eventOf Line.Sync = some syncs
+eventOf (Line.Crash a b c d e) = some (crashes (a ∷ b ∷ c ∷ d ∷ e ∷ []))
+eventOf Line.Other = none
+
+unfoldable pub happens : Option Event → State → State
+happens none m = m
+happens (some e) m = step e m
+
+-- the store itself, without what was answered and without its past
+pub record Store : Type 0 where
+  pub session : Session
+  pub working : List ℕ
+  pub stable : List ℕ
+
+abbrev store : Session → List ℕ → List ℕ → Store
+store session w s = record { session = session; working = w; stable = s }
+
+abbrev pub storeLeft : Left Reply → Store
+storeLeft r = store (r .session) (r .working) (r .stable)
+
+abbrev pub storeOf : State → Store
+storeOf m = store (m .session) (m .working) (m .stable)
+
+-- a reading call hands session and stable table back as they came
+same-store : (a b : Session) (w s t : List ℕ) → a ≡ b → s ≡ t → store a w s ≡ store b w t
+same-store a b w s t e f = rw (e, f)
+
+pub line-event : (line : Line) (m : State) → storeLeft (acted line (m .session) (m .working) (m .stable)) ≡ storeOf (happens (eventOf line) m)
+unfolding acted crashed eventOf happens step afterInsert afterSync afterOpen afterReading torn
+line-event (Line.Insert model serial issue x) m = refl
+line-event (Line.Find model serial issue) m =
+    let r = lookup (m .working) (m .stable) (m .session) model serial issue in
+    let only = lookup-mends (m .working) (m .stable) (m .session) model serial issue in
+    same-store (r .session) (m .session) (r .working) (r .stable) (m .stable) (only .session) (only .stable)
+line-event Line.Sync m = refl
+line-event (Line.Crash a b c d e) m = refl
+line-event Line.Other m = refl

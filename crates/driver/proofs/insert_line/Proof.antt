@@ -1,0 +1,23 @@
+-- `driver::insert_line` meets its contract. Assumes nothing.
+use mathlib.Core.Path.{ap}
+use Rattle.driver.specs.Acts.{acted, told, insertedReply}
+use borrow.Author.Needs.{needs}
+use Rattle.driver.proofs.insert_line.Statement.{statement}
+use Rattle.driver.proofs.insert_line.Tie as tie
+
+insert-requires : tie.Need-insert-requires
+insert-requires c κs = search needs
+
+inserted-number-requires : tie.Need-inserted-number-requires
+inserted-number-requires c κs = search needs
+
+same-length : tie.Need-same-length
+same-length c = search needs
+
+returns : tie.Need-returns
+unfolding acted
+returns c = rw (c .inserted-number .ensures) (ap (told insertedReply) (c .before .before .before .before .insert .ensures))
+
+pub insert-line-spec : {M : Type 1} → statement M
+insert-line-spec =
+    tie.close (tie.spec insert-requires inserted-number-requires same-length returns)
