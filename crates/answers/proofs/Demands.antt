@@ -24,6 +24,7 @@ use Rattle.answers.proofs.Looks.{lookup-given}
 use Rattle.answers.proofs.Inserts.{insert-given}
 use Rattle.answers.proofs.Ranges.{newest-given, list-given}
 use Rattle.answers.proofs.Refused.{insert-mended, lookup-mended}
+use Rattle.answers.proofs.Lefts.{newest-mended, list-mended}
 
 -- ── The numbers beside a refusal ────────────────────────────────────────────────────────────────────────────────
 
@@ -99,6 +100,8 @@ demand1 = record {
   sync-answers = λ w t s. given-number (syncCauses w t s) (syncedNo (sync w t s .answer)) (sync-given w t s);
   insert-refused = insert-mended;
   lookup-mends = lookup-mended;
+  newest-mends = newest-mended;
+  list-mends = list-mended;
   open-refused = λ w s h. rules.opening-refused w s (not-opened (opening w s .answer) h);
   sync-refused = λ w t s h. rules.sync-refused w t s (not-synced (sync w t s .answer) h);
   list-refused-keys = λ w t s start ks xs h.
@@ -109,10 +112,6 @@ demand1 = record {
   newest-issue-zero = issue-zero;
   newest-record-zero = record-of-newest-zero;
   count-zero = listed-zero;
-  newest-session = λ w t s model serial. rules.newest-mends w t s model serial .session;
-  list-session = λ w t s start ks xs. rules.list-mends s w t start ks xs .session;
   format-stable = λ w s h. rules.format-refused w s (not-formatted (format w s .answer) h);
   insert-stable = rules.insert-stable;
-  newest-stable = λ w t s model serial. rules.newest-mends w t s model serial .stable;
-  list-stable = λ w t s start ks xs. rules.list-mends s w t start ks xs .stable;
 }

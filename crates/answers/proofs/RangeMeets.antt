@@ -1,11 +1,11 @@
 -- The walk over a range is not whole exactly when it meets a damaged place. Assumes nothing.
 use Prim.Native.Nat.{ℕ, zero, suc, _+_}
-use native.Mathlib.Nat.{zero-add, suc-add, add-suc}
+use native.Mathlib.Nat.{suc-add, add-suc}
 use native.Mathlib.Omega.{arith}
-use mathlib.Core.Path.{_≡_, refl, sym, ap, subst, _∙_}
-use mathlib.Core.Logic.{_⊎_, inl, inr}
+use mathlib.Core.Path.{_≡_, refl, sym, ap, _∙_}
+use mathlib.Core.Logic.{inl}
 use mathlib.Core.Bool.{Bool, true, false}
-use mathlib.Core.List.{List, [], _∷_, _++_, append-assoc, List·Memᴰ, List·Memᴰ·head, List·Memᴰ·tail, List·Memᴰ·cases-cons, List·Memᴰ·not-nil}
+use mathlib.Core.List.{List, [], _∷_, _++_, append-assoc, List·Memᴰ}
 use mathlib.Core.Option.{Option, some, none}
 use Rattle.rules.specs.Layout.{topKind}
 use Rattle.rules.specs.Test.{every}
@@ -18,35 +18,7 @@ use Rattle.rules.specs.declared.Asked.{Asked}
 use Rattle.rules.proofs.Tests.{not-both}
 use Rattle.answers.specs.Range.{Turn, numbersOf, Comes, MeetsDamageIn}
 use Rattle.answers.proofs.Deep.{Deep, not-out, enter-shows, kid-deep}
-use Rattle.answers.proofs.Levels.{each-same, range-more}
-
--- ── Places of a list ────────────────────────────────────────────────────────────────────────────────────────────
-
-mem-here : (xs ys : List Place) (e : Place) → List·Memᴰ e (xs ++ (e ∷ ys))
-mem-here [] ys e = List·Memᴰ·head refl
-mem-here (x ∷ xs) ys e = List·Memᴰ·tail (mem-here xs ys e)
-
-mem-before : (xs ys : List Place) (d : Place) → List·Memᴰ d xs → List·Memᴰ d (xs ++ ys)
-mem-before [] ys d m = absurd (List·Memᴰ·not-nil m)
-mem-before (x ∷ xs) ys d m = go (List·Memᴰ·cases-cons m) (mem-before xs ys d)
-  where
-    go : (d ≡ x) ⊎ List·Memᴰ d xs → (List·Memᴰ d xs → List·Memᴰ d (xs ++ ys)) → List·Memᴰ d (x ∷ (xs ++ ys))
-    go (inl q) ih = List·Memᴰ·head q
-    go (inr m) ih = List·Memᴰ·tail (ih m)
-
-each-append : (f : Place → Walked → Walked) (xs ys : List Place) (w : Walked)
-    → walkEach f (xs ++ ys) w ≡ walkEach f ys (walkEach f xs w)
-unfolding walkEach
-each-append f [] ys w = refl
-each-append f (x ∷ xs) ys w = each-append f xs ys (f x w)
-
-none-walked : (f : Place → Walked → Walked) (w : Walked) → w ≡ walkEach f [] w
-unfolding walkEach
-none-walked f w = refl
-
-finds-whole : (a : Asked) (x : Page) (w : Walked) (t : List ℕ) → finds a (x .view) w t .whole ≡ true
-unfolding finds
-finds-whole a x w t = refl
+use Rattle.answers.proofs.RangeSteps.{mem-here, mem-before, each-append, none-walked, finds-whole, walk-passed, walk-damaged, walk-below, passed-same, turn, turn-comes, turn-deep, turn-next}
 
 -- ── What is not whole stays so ──────────────────────────────────────────────────────────────────────────────────
 
@@ -66,50 +38,6 @@ unfolding walkEach
 each-false level n c a above [] w h = h
 each-false level n c a above (e ∷ es) w h =
     each-false level n c a above es (walk level n c a above e w) (still-false level n c a above e w h)
-
--- ── Any level that reaches is as good as the top one ────────────────────────────────────────────────────────────
-
-deep-more : (j level : ℕ) (e : Place) → Deep level e → Deep (j + level) e
-deep-more j level e (inl d) = inl (d .0, omega (arith, d .1))
-deep-more j level e (inr d) = inr (d .0, omega (arith, d .1))
-
-walk-up : (j level n c : ℕ) (a : Asked) (above : List ℕ) (e : Place) (w : Walked) → Deep level e
-    → walk (j + level) n c a above e w ≡ walk level n c a above e w
-walk-up zero level n c a above e w deep = rw zero-add
-walk-up (suc j) level n c a above e w deep =
-    rw suc-add (range-more (j + level) n c a above e w (deep-more j level e deep) ∙ walk-up j level n c a above e w deep)
-
-walk-top : (j level n c : ℕ) (a : Asked) (above : List ℕ) (e : Place) (w : Walked) → j + level ≡ topKind → Deep level e
-    → walk topKind n c a above e w ≡ walk level n c a above e w
-walk-top j level n c a above e w q deep =
-    subst (λ (m : ℕ). walk m n c a above e w ≡ walk level n c a above e w) q (walk-up j level n c a above e w deep)
-
--- ── One page entered ────────────────────────────────────────────────────────────────────────────────────────────
-
-module _ (level n c : ℕ) (a : Asked) (above : List ℕ) (e : Place) (w : Walked) where
-  walk-passed : enters a e w ≡ false → walk (suc level) n c a above e w ≡ w
-  unfolding walk
-  walk-passed p = rw (walk, p)
-
-  walk-damaged : enters a e w ≡ true → enter n c above (w .table) e .page ≡ none
-      → walk (suc level) n c a above e w .whole ≡ false
-  unfolding walk stops
-  walk-damaged p h = rw (walk, p, h)
-
-  walk-below : enters a e w ≡ true → (x : Page) → enter n c above (w .table) e .page ≡ some x
-      → walk (suc level) n c a above e w
-      ≡ walkEach (walk level n c a (e .child ∷ above)) (kids e (x .view))
-      (finds a (x .view) w (enter n c above (w .table) e .table))
-  unfolding walk
-  walk-below p x h = rw (walk, p, h)
-
--- the places of a page, walked at the level below the page or at the top one
-passed-same : (j level n c : ℕ) (a : Asked) (above : List ℕ) (es : List Place) (w : Walked) → j + level ≡ topKind
-    → ((d : Place) → List·Memᴰ d es → Deep level d)
-    → walkEach (walk topKind n c a above) es w ≡ walkEach (walk level n c a above) es w
-passed-same j level n c a above es w q deep =
-    each-same (walk topKind n c a above) (walk level n c a above) es
-    (λ d m x. walk-top j level n c a above d x q (deep d m)) w
 
 -- ── Damage met: not whole ───────────────────────────────────────────────────────────────────────────────────────
 
@@ -203,49 +131,31 @@ module _ (n c : ℕ) (a : Asked) (t : List ℕ) where
   module _ (level over : ℕ) (sum : over + level ≡ topKind) (rest : Tells level) (above : List Turn) (w : Walked) (e : Place)
       (comes : Comes n c a t above w e) (deep : Deep (suc level) e) (p : enters a e w ≡ true)
       (x : Page) (h : enter n c (numbersOf above) (w .table) e .page ≡ some x) where
-    abbrev numbers : List ℕ
-    numbers = e .child ∷ numbersOf above
+    abbrev nums : List ℕ
+    nums = e .child ∷ numbersOf above
 
-    abbrev start : Walked
-    start = finds a (x .view) w (enter n c (numbersOf above) (w .table) e .table)
+    abbrev begun : Walked
+    begun = finds a (x .view) w (enter n c (numbersOf above) (w .table) e .table)
 
     each-tells : (later passed : List Place) → kids e (x .view) ≡ passed ++ later
-        → (y : Walked) → y ≡ walkEach (walk topKind n c a numbers) passed start → y .whole ≡ true
-        → walkEach (walk level n c a numbers) later y .whole ≡ false → MeetsDamageIn n c a t
+        → (y : Walked) → y ≡ walkEach (walk topKind n c a nums) passed begun → y .whole ≡ true
+        → walkEach (walk level n c a nums) later y .whole ≡ false → MeetsDamageIn n c a t
     unfolding walkEach
     each-tells [] passed q y k g f = absurd (not-both g f)
     each-tells (d ∷ later) passed q y k g f =
-        go (walk level n c a numbers d y .whole) refl
-        (each-tells later (passed ++ (d ∷ [])) (q ∙ sym (append-assoc passed (d ∷ []) later)) (walk level n c a numbers d y) next)
+        go (walk level n c a nums d y .whole) refl
+        (each-tells later (passed ++ (d ∷ [])) (q ∙ sym (append-assoc passed (d ∷ []) later)) (walk level n c a nums d y)
+        (turn-next n c a t level over sum above w e comes deep p x h passed later d q y k))
       where
-        low : Deep level d
-        low =
-            kid-deep n (w .table) level e (x .view) deep (enter-shows n c (numbersOf above) (w .table) e x h) d
-            (rw q (mem-here passed later d))
-
-        next : walk level n c a numbers d y ≡ walkEach (walk topKind n c a numbers) (passed ++ (d ∷ [])) start
-        next =
-            sym (walk-top over level n c a numbers d y sum low)
-            ∙ (ap (walk topKind n c a numbers d) k
-            ∙ sym (each-append (walk topKind n c a numbers) passed (d ∷ []) start))
-
-        go : (b : Bool) → walk level n c a numbers d y .whole ≡ b
-            → (walk level n c a numbers d y .whole ≡ true
-            → walkEach (walk level n c a numbers) later (walk level n c a numbers d y) .whole ≡ false → MeetsDamageIn n c a t)
+        go : (b : Bool) → walk level n c a nums d y .whole ≡ b
+            → (walk level n c a nums d y .whole ≡ true
+            → walkEach (walk level n c a nums) later (walk level n c a nums d y) .whole ≡ false → MeetsDamageIn n c a t)
             → MeetsDamageIn n c a t
         go true b ih = ih b f
         go false b ih =
-            rest
-            (record {
-              place = e;
-              page = x;
-              table = enter n c (numbersOf above) (w .table) e .table;
-              passed = passed;
-              later = later;
-            } ∷ above)
-            y d
-            (w, comes, p, (λ i. record { table = enter n c (numbersOf above) (w .table) e .table; page = h i }), q, k)
-            low g b
+            rest (turn n c a t level over sum above w e comes deep p x h passed later d q y k ∷ above) y d
+            (turn-comes n c a t level over sum above w e comes deep p x h passed later d q y k)
+            (turn-deep n c a t level over sum above w e comes deep p x h passed later d q y k) g b
 
   tells-more : (level over : ℕ) → over + level ≡ topKind → Tells level → Tells (suc level)
   tells-more level over sum rest above w e comes deep g f =

@@ -12,15 +12,17 @@ use Rattle.rules.specs.Format.{format}
 use Rattle.rules.specs.Open.{opening}
 use Rattle.rules.specs.Insert.{insert}
 use Rattle.rules.specs.Lookup.{lookup}
-use Rattle.rules.specs.Newest.{newest}
-use Rattle.rules.specs.List.{list}
+use Rattle.rules.specs.Newest.{newest, meter}
+use Rattle.rules.specs.List.{list, upFrom}
 use Rattle.rules.specs.Sync.{sync}
 use Rattle.rules.specs.declared.Session.{Session}
+use Rattle.rules.specs.declared.Asked.{Asked}
 use Rattle.rules.specs.declared.Looked.{Looked}
 use Rattle.rules.specs.declared.Newest.{Newest}
 use Rattle.rules.specs.declared.Listed.{Listed}
 use Rattle.rules.proofs.Refusals.{Unchanged}
 use Rattle.answers.specs.OneKey.{MendedBy}
+use Rattle.answers.specs.Range.{MendedIn}
 
 -- ── Words ───────────────────────────────────────────────────────────────────────────────────────────────────────
 
@@ -37,6 +39,12 @@ pub record WalkMended {A : Type 0} (k : ℕ) (w t : List ℕ) (s : Session) (r :
   pub working : MendedBy (s .n) (s .c) k w (r .working)
   pub stable : r .stable ≡ t
   pub session : r .session ≡ s
+
+-- the same of a walk over a range, told of what a call leaves
+pub record RangeMended (a : Asked) (w t : List ℕ) (s : Session) (w′ t′ : List ℕ) (s′ : Session) : Type 0 where
+  pub working : MendedIn (s .n) (s .c) a w w′
+  pub stable : t′ ≡ t
+  pub session : s′ ≡ s
 
 -- ── The demand ──────────────────────────────────────────────────────────────────────────────────────────────────
 
@@ -57,9 +65,15 @@ pub record Demand1 : Type 0 where
   pub insert-refused : (w t : List ℕ) (s : Session) (model serial issue x : ℕ)
       → Refused (insertedNo (insert w t s model serial issue x .answer))
       → WalkMended (keyOf model serial issue) w t s (insert w t s model serial issue x)
-  -- a lookup changes no more, whatever it answers
+  -- a call that reads changes no more, whatever it answers
   pub lookup-mends : (w t : List ℕ) (s : Session) (model serial issue : ℕ)
       → WalkMended (keyOf model serial issue) w t s (lookup w t s model serial issue)
+  pub newest-mends : (w t : List ℕ) (s : Session) (model serial : ℕ)
+      → let r = newest w t s model serial in
+      RangeMended (meter model serial) w t s (r .working) (r .stable) (r .session)
+  pub list-mends : (w t : List ℕ) (s : Session) (start : ℕ) (ks xs : List ℕ)
+      → let r = list w t s start ks xs in
+      RangeMended (upFrom start ks xs) w t s (r .working) (r .stable) (r .session)
   -- a refused opening or sync changes no byte; the one hands out nobody's session, the other the one that it got
   pub open-refused : (w s : List ℕ) → Refused (openedNo (opening w s .answer)) → Unchanged w s nobody (opening w s)
   pub sync-refused : (w t : List ℕ) (s : Session) → Refused (syncedNo (sync w t s .answer)) → Unchanged w t s (sync w t s)
@@ -73,12 +87,7 @@ pub record Demand1 : Type 0 where
   pub newest-issue-zero : (a : Newest) → Refused (newestNo a) → newestIssue a ≡ 0
   pub newest-record-zero : (a : Newest) → Refused (newestNo a) → newestRecord a ≡ 0
   pub count-zero : (a : Listed) → Refused (listedNo a) → listedCount a ≡ 0
-  -- newest and list return the session as it came; insert, sync and lookup, see above
-  pub newest-session : (w t : List ℕ) (s : Session) (model serial : ℕ) → newest w t s model serial .session ≡ s
-  pub list-session : (w t : List ℕ) (s : Session) (start : ℕ) (ks xs : List ℕ) → list w t s start ks xs .session ≡ s
-  -- stable bytes change only in format, open and sync that answer 0; open, sync and lookup, see above
+  -- stable bytes change only in format, open and sync that answer 0; of the other calls, see above
   pub format-stable : (w s : List ℕ) → Refused (formattedNo (format w s .answer)) → format w s .stable ≡ s
   pub insert-stable : (w t : List ℕ) (s : Session) (model serial issue x : ℕ)
       → insert w t s model serial issue x .stable ≡ t
-  pub newest-stable : (w t : List ℕ) (s : Session) (model serial : ℕ) → newest w t s model serial .stable ≡ t
-  pub list-stable : (w t : List ℕ) (s : Session) (start : ℕ) (ks xs : List ℕ) → list w t s start ks xs .stable ≡ t

@@ -1,12 +1,14 @@
--- The walk over a range, place by place: where it comes, and whether it meets damage.
+-- The walk over a range, place by place: where it comes, whether it meets damage, and what it may mend.
 use Prim.Native.Nat.{ℕ}
 use mathlib.Core.Path.{_≡_}
-use mathlib.Core.Bool.{true}
+use mathlib.Core.Bool.{true, false}
 use mathlib.Core.List.{List, [], _∷_, _++_}
 use mathlib.Core.Option.{some, none}
 use Rattle.rules.specs.Layout.{topKind}
+use Rattle.rules.specs.Test.{mem}
 use Rattle.rules.specs.Page.{Page}
-use Rattle.rules.specs.Place.{rootPlace, kids}
+use Rattle.rules.specs.Table.{read, build}
+use Rattle.rules.specs.Place.{rootPlace, kids, fits, mendable, mended}
 use Rattle.rules.specs.Enter.{enter}
 use Rattle.rules.specs.Walk.{Walked, enters, finds, walkEach, walk}
 use Rattle.rules.specs.declared.Place.{Place}
@@ -43,3 +45,14 @@ pub record MeetsDamageIn (n c : ℕ) (a : Asked) (t : List ℕ) : Type 0 where
   pub comes : Comes n c a t above found place
   pub entered : enters a place found ≡ true
   pub damaged : enter n c (numbersOf above) (found .table) place .page ≡ none
+
+-- a table that comes of t by what the walk mends: lost children of places that it comes to and enters, each by the
+-- mending rule
+pub data MendedIn (n c : ℕ) (a : Asked) (t : List ℕ) : List ℕ → Type 0 where
+  nothing : MendedIn n c a t t
+  also : (above : List Turn) (w : Walked) (e : Place) → MendedIn n c a t (w .table) → Comes n c a t above w e
+      → enters a e w ≡ true
+      → mem (e .child) (numbersOf above) ≡ false
+      → fits n e (read (w .table) (e .child)) ≡ false
+      → mendable n e (read (w .table) (e .previous)) ≡ true
+      → MendedIn n c a t (build (w .table) (e .child) (mended c e (read (w .table) (e .previous))))

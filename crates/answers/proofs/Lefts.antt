@@ -1,0 +1,74 @@
+-- What newest and list leave: what their walk has mended, and nothing else. Assumes nothing.
+use Prim.Native.Nat.{ℕ}
+use mathlib.Core.Path.{_≡_, refl}
+use mathlib.Core.Bool.{Bool, true, false, _&&_}
+use mathlib.Core.List.{List}
+use lib.Dec.{ltb}
+use Rattle.rules.specs.Table.{fit0}
+use Rattle.rules.specs.Walk.{walkOf}
+use Rattle.rules.specs.Call.{lengthsFor}
+use Rattle.rules.specs.Newest.{newest, newestMeter, newestLeft, meter}
+use Rattle.rules.specs.List.{list, listFrom, listDone, listRefused, upFrom}
+use Rattle.rules.specs.declared.Session.{Session}
+use Rattle.rules.specs.declared.Asked.{Asked}
+use Rattle.rules.proofs.Refusals as rules
+use Rattle.answers.specs.Range.{MendedIn, nothing}
+use Rattle.answers.specs.Demand1.{RangeMended}
+use Rattle.answers.proofs.RangeWalks.{range-mended}
+
+-- ── Newest ──────────────────────────────────────────────────────────────────────────────────────────────────────
+
+meter-left : (a : Asked) (s : Session) (w t : List ℕ) → MendedIn (s .n) (s .c) a w (newestMeter a s w t .working)
+unfolding newestMeter newestLeft
+meter-left a s w t = go (walkOf (s .n) (s .c) a w .whole) refl
+  where
+    go : (b : Bool) → walkOf (s .n) (s .c) a w .whole ≡ b → MendedIn (s .n) (s .c) a w (newestMeter a s w t .working)
+    go false p = rw (newestMeter, p) (range-mended (s .n) (s .c) a w)
+    go true p = rw (newestMeter, p) (range-mended (s .n) (s .c) a w)
+
+module _ (w t : List ℕ) (s : Session) (model serial : ℕ) where
+  newest-left : MendedIn (s .n) (s .c) (meter model serial) w (newest w t s model serial .working)
+  unfolding newest newestLeft
+  newest-left = go (lengthsFor s w t) refl (ltb 0 model && ltb 0 serial) refl (fit0 (s .n) w) refl
+    where
+      go : (a : Bool) → lengthsFor s w t ≡ a → (b : Bool) → (ltb 0 model && ltb 0 serial) ≡ b
+          → (c : Bool) → fit0 (s .n) w ≡ c
+          → MendedIn (s .n) (s .c) (meter model serial) w (newest w t s model serial .working)
+      go false p b q c o = rw (newest, p) nothing
+      go true p false q c o = rw (newest, p, q) nothing
+      go true p true q false o = rw (newest, p, q, o) nothing
+      go true p true q true o = rw (newest, p, q, o) (meter-left (meter model serial) s w t)
+
+  pub newest-mended : let r = newest w t s model serial in
+      RangeMended (meter model serial) w t s (r .working) (r .stable) (r .session)
+  newest-mended =
+      let r = rules.newest-mends w t s model serial in
+      record { working = newest-left; stable = r .stable; session = r .session }
+
+-- ── List ────────────────────────────────────────────────────────────────────────────────────────────────────────
+
+module _ (w t : List ℕ) (s : Session) (start : ℕ) (ks xs : List ℕ) where
+  from-left : MendedIn (s .n) (s .c) (upFrom start ks xs) w (listFrom s w t start ks xs .working)
+  unfolding listFrom listDone listRefused
+  from-left = go (walkOf (s .n) (s .c) (upFrom start ks xs) w .whole) refl
+    where
+      go : (b : Bool) → walkOf (s .n) (s .c) (upFrom start ks xs) w .whole ≡ b
+          → MendedIn (s .n) (s .c) (upFrom start ks xs) w (listFrom s w t start ks xs .working)
+      go false p = rw (listFrom, p) (range-mended (s .n) (s .c) (upFrom start ks xs) w)
+      go true p = rw (listFrom, p) (range-mended (s .n) (s .c) (upFrom start ks xs) w)
+
+  list-left : MendedIn (s .n) (s .c) (upFrom start ks xs) w (list w t s start ks xs .working)
+  unfolding list listRefused
+  list-left = go (lengthsFor s w t) refl (fit0 (s .n) w) refl
+    where
+      go : (a : Bool) → lengthsFor s w t ≡ a → (b : Bool) → fit0 (s .n) w ≡ b
+          → MendedIn (s .n) (s .c) (upFrom start ks xs) w (list w t s start ks xs .working)
+      go false p b q = rw (list, p) nothing
+      go true p false q = rw (list, p, q) nothing
+      go true p true q = rw (list, p, q) from-left
+
+  pub list-mended : let r = list w t s start ks xs in
+      RangeMended (upFrom start ks xs) w t s (r .working) (r .stable) (r .session)
+  list-mended =
+      let r = rules.list-mends s w t start ks xs in
+      record { working = list-left; stable = r .stable; session = r .session }

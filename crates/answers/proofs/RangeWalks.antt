@@ -1,0 +1,92 @@
+-- The walk over a range mends nothing but lost children of the places that it enters. Assumes nothing.
+use Prim.Native.Nat.{ℕ, zero, suc, _+_}
+use native.Mathlib.Nat.{suc-add, add-suc}
+use native.Mathlib.Omega.{arith}
+use mathlib.Core.Path.{_≡_, refl, sym, _∙_}
+use mathlib.Core.Logic.{inl}
+use mathlib.Core.Bool.{Bool, true, false}
+use mathlib.Core.List.{List, [], _∷_, _++_, append-assoc}
+use mathlib.Core.Option.{Option, some, none}
+use Rattle.rules.specs.Layout.{topKind}
+use Rattle.rules.specs.Test.{mem}
+use Rattle.rules.specs.Page.{Page}
+use Rattle.rules.specs.Table.{read}
+use Rattle.rules.specs.Place.{rootPlace, kids, fits, mendable}
+use Rattle.rules.specs.Enter.{mend, enter}
+use Rattle.rules.specs.Walk.{Walked, enters, finds, walkEach, walk, walkOf}
+use Rattle.rules.specs.declared.Place.{Place}
+use Rattle.rules.specs.declared.Asked.{Asked}
+use Rattle.answers.specs.Range.{Turn, numbersOf, Comes, MendedIn, nothing, also}
+use Rattle.answers.proofs.Deep.{Deep, not-out}
+use Rattle.answers.proofs.RangeSteps.{none-walked, finds-table, walk-passed, walk-stopped, walk-below, turn, turn-comes, turn-deep, turn-next}
+
+module _ (n c : ℕ) (a : Asked) (t : List ℕ) where
+  enter-mended : (above : List Turn) (w : Walked) (e : Place) → Comes n c a t above w e → enters a e w ≡ true
+      → MendedIn n c a t (w .table) → MendedIn n c a t (enter n c (numbersOf above) (w .table) e .table)
+  unfolding enter mend
+  enter-mended above w e comes s m =
+      go (mem (e .child) (numbersOf above)) refl (fits n e (read (w .table) (e .child))) refl
+      (mendable n e (read (w .table) (e .previous))) refl
+    where
+      go : (b : Bool) → mem (e .child) (numbersOf above) ≡ b → (f : Bool) → fits n e (read (w .table) (e .child)) ≡ f
+          → (g : Bool) → mendable n e (read (w .table) (e .previous)) ≡ g
+          → MendedIn n c a t (enter n c (numbersOf above) (w .table) e .table)
+      go true p f q g o = rw (p, enter) m
+      go false p true q g o = rw (p, enter, q) m
+      go false p false q true o = rw (p, enter, q, mend, o) (also above w e m comes s p q o)
+      go false p false q false o = rw (p, enter, q, mend, o) m
+
+  -- what walking one place at a level leaves
+  abbrev Leaves : ℕ → Type 0
+  Leaves level =
+      (above : List Turn) (w : Walked) (e : Place) → Comes n c a t above w e → Deep level e → MendedIn n c a t (w .table)
+      → MendedIn n c a t (walk level n c a (numbersOf above) e w .table)
+
+  module _ (level over : ℕ) (sum : over + level ≡ topKind) (rest : Leaves level) (above : List Turn) (w : Walked) (e : Place)
+      (comes : Comes n c a t above w e) (deep : Deep (suc level) e) (p : enters a e w ≡ true)
+      (x : Page) (h : enter n c (numbersOf above) (w .table) e .page ≡ some x) where
+    abbrev nums : List ℕ
+    nums = e .child ∷ numbersOf above
+
+    abbrev begun : Walked
+    begun = finds a (x .view) w (enter n c (numbersOf above) (w .table) e .table)
+
+    each-leaves : (later passed : List Place) → kids e (x .view) ≡ passed ++ later
+        → (y : Walked) → y ≡ walkEach (walk topKind n c a nums) passed begun → MendedIn n c a t (y .table)
+        → MendedIn n c a t (walkEach (walk level n c a nums) later y .table)
+    unfolding walkEach
+    each-leaves [] passed q y k m = m
+    each-leaves (d ∷ later) passed q y k m =
+        each-leaves later (passed ++ (d ∷ [])) (q ∙ sym (append-assoc passed (d ∷ []) later)) (walk level n c a nums d y)
+        (turn-next n c a t level over sum above w e comes deep p x h passed later d q y k)
+        (rest (turn n c a t level over sum above w e comes deep p x h passed later d q y k ∷ above) y d
+        (turn-comes n c a t level over sum above w e comes deep p x h passed later d q y k)
+        (turn-deep n c a t level over sum above w e comes deep p x h passed later d q y k) m)
+
+  leaves-more : (level over : ℕ) → over + level ≡ topKind → Leaves level → Leaves (suc level)
+  leaves-more level over sum rest above w e comes deep m =
+      go (enters a e w) refl (enter n c (numbersOf above) (w .table) e .page) refl
+    where
+      go : (b : Bool) → enters a e w ≡ b → (o : Option Page) → enter n c (numbersOf above) (w .table) e .page ≡ o
+          → MendedIn n c a t (walk (suc level) n c a (numbersOf above) e w .table)
+      go false p o h = rw (walk-passed level n c a (numbersOf above) e w p) m
+      go true p none h =
+          rw (walk-stopped level n c a (numbersOf above) e w p h) (enter-mended above w e comes p m)
+      go true p (some x) h =
+          let u = enter n c (numbersOf above) (w .table) e .table in
+          rw (walk-below level n c a (numbersOf above) e w p x h)
+          (each-leaves level over sum rest above w e comes deep p x h (kids e (x .view)) [] refl (finds a (x .view) w u)
+          (none-walked (walk topKind n c a (e .child ∷ numbersOf above)) (finds a (x .view) w u))
+          (rw (finds-table a x w u) (enter-mended above w e comes p m)))
+
+  leaves : (level over : ℕ) → over + level ≡ topKind → Leaves level
+  leaves zero over sum = λ above w e comes deep m. absurd (not-out e deep)
+  leaves (suc level) over sum =
+      let more : suc over + level ≡ topKind = suc-add over level ∙ (sym (add-suc over level) ∙ sum) in
+      leaves-more level (suc over) more (leaves level (suc over) more)
+
+  pub range-mended : MendedIn n c a t (walkOf n c a t .table)
+  unfolding walkOf rootPlace
+  range-mended =
+      leaves topKind 0 refl [] (record { table = t; whole = true; found = [] }) (rootPlace t) (refl, refl)
+      (inl (refl, omega arith)) nothing
