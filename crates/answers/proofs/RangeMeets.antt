@@ -16,9 +16,9 @@ use Rattle.rules.specs.Walk.{Walked, enters, finds, stops, walkEach, walk, walk
 use Rattle.rules.specs.declared.Place.{Place}
 use Rattle.rules.specs.declared.Asked.{Asked}
 use Rattle.rules.proofs.Tests.{not-both}
-use Rattle.answers.specs.Range.{Turn, numbersOf, Comes, MeetsDamageIn}
+use Rattle.answers.specs.Range.{Parent, numbersOf, Comes, MeetsDamageIn}
 use Rattle.answers.proofs.Deep.{Deep, not-out, enter-shows, kid-deep}
-use Rattle.answers.proofs.RangeSteps.{mem-here, mem-before, each-append, none-walked, finds-whole, walk-passed, walk-damaged, walk-below, passed-same, turn, turn-comes, turn-deep, turn-next}
+use Rattle.answers.proofs.RangeSteps.{mem-here, mem-before, each-append, none-walked, finds-whole, walk-passed, walk-damaged, walk-below, passed-same, parent, next-comes, next-deep, next-walked}
 
 -- ── What is not whole stays so ──────────────────────────────────────────────────────────────────────────────────
 
@@ -43,14 +43,14 @@ each-false level n c a above (e ∷ es) w h =
 
 module _ (n c : ℕ) (a : Asked) (t : List ℕ) where
   -- where the walk stands when it comes to a place
-  record Standing (above : List Turn) (w : Walked) (e : Place) : Type 0 where
+  record Standing (above : List Parent) (w : Walked) (e : Place) : Type 0 where
     level : ℕ
     over : ℕ
     sum : over + level ≡ topKind
     deep : Deep level e
     leads : walk level n c a (numbersOf above) e w .whole ≡ false → walkOf n c a t .whole ≡ false
 
-  standing-below : (s : Turn) (above : List Turn) (v w : Walked) (e : Place) → enters a (s .place) v ≡ true
+  standing-below : (s : Parent) (above : List Parent) (v w : Walked) (e : Place) → enters a (s .place) v ≡ true
       → enter n c (numbersOf above) (v .table) (s .place) ≡ record { table = s .table; page = some (s .page) }
       → kids (s .place) (s .page .view) ≡ s .passed ++ (e ∷ s .later)
       → w ≡ walkEach (walk topKind n c a (numbersOf (s ∷ above))) (s .passed) (finds a (s .page .view) v (s .table))
@@ -94,7 +94,7 @@ module _ (n c : ℕ) (a : Asked) (t : List ℕ) where
           ∙ (each-append (walk level n c a (numbersOf (s ∷ above))) (s .passed) (e ∷ s .later) start
           ∙ ap (λ (r : Walked). walkEach (walk level n c a (numbersOf (s ∷ above))) (e ∷ s .later) r) same)))
 
-  standing : (above : List Turn) (w : Walked) (e : Place) → Comes n c a t above w e → Standing above w e
+  standing : (above : List Parent) (w : Walked) (e : Place) → Comes n c a t above w e → Standing above w e
   unfolding walkOf rootPlace
   standing [] w e r = record {
     level = topKind;
@@ -125,10 +125,10 @@ module _ (n c : ℕ) (a : Asked) (t : List ℕ) where
   -- what walking one place at a level tells
   abbrev Tells : ℕ → Type 0
   Tells level =
-      (above : List Turn) (w : Walked) (e : Place) → Comes n c a t above w e → Deep level e → w .whole ≡ true
+      (above : List Parent) (w : Walked) (e : Place) → Comes n c a t above w e → Deep level e → w .whole ≡ true
       → walk level n c a (numbersOf above) e w .whole ≡ false → MeetsDamageIn n c a t
 
-  module _ (level over : ℕ) (sum : over + level ≡ topKind) (rest : Tells level) (above : List Turn) (w : Walked) (e : Place)
+  module _ (level over : ℕ) (sum : over + level ≡ topKind) (rest : Tells level) (above : List Parent) (w : Walked) (e : Place)
       (comes : Comes n c a t above w e) (deep : Deep (suc level) e) (p : enters a e w ≡ true)
       (x : Page) (h : enter n c (numbersOf above) (w .table) e .page ≡ some x) where
     abbrev nums : List ℕ
@@ -145,7 +145,7 @@ module _ (n c : ℕ) (a : Asked) (t : List ℕ) where
     each-tells (d ∷ later) passed q y k g f =
         go (walk level n c a nums d y .whole) refl
         (each-tells later (passed ++ (d ∷ [])) (q ∙ sym (append-assoc passed (d ∷ []) later)) (walk level n c a nums d y)
-        (turn-next n c a t level over sum above w e comes deep p x h passed later d q y k))
+        (next-walked n c a t level over sum above w e comes deep p x h passed later d q y k))
       where
         go : (b : Bool) → walk level n c a nums d y .whole ≡ b
             → (walk level n c a nums d y .whole ≡ true
@@ -153,9 +153,9 @@ module _ (n c : ℕ) (a : Asked) (t : List ℕ) where
             → MeetsDamageIn n c a t
         go true b ih = ih b f
         go false b ih =
-            rest (turn n c a t level over sum above w e comes deep p x h passed later d q y k ∷ above) y d
-            (turn-comes n c a t level over sum above w e comes deep p x h passed later d q y k)
-            (turn-deep n c a t level over sum above w e comes deep p x h passed later d q y k) g b
+            rest (parent n c a t level over sum above w e comes deep p x h passed later d q y k ∷ above) y d
+            (next-comes n c a t level over sum above w e comes deep p x h passed later d q y k)
+            (next-deep n c a t level over sum above w e comes deep p x h passed later d q y k) g b
 
   tells-more : (level over : ℕ) → over + level ≡ topKind → Tells level → Tells (suc level)
   tells-more level over sum rest above w e comes deep g f =

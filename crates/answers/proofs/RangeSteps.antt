@@ -14,7 +14,7 @@ use Rattle.rules.specs.Enter.{enter}
 use Rattle.rules.specs.Walk.{Walked, enters, finds, stops, walkEach, walk}
 use Rattle.rules.specs.declared.Place.{Place}
 use Rattle.rules.specs.declared.Asked.{Asked}
-use Rattle.answers.specs.Range.{Turn, numbersOf, Comes}
+use Rattle.answers.specs.Range.{Parent, numbersOf, Comes}
 use Rattle.answers.proofs.Deep.{Deep, enter-shows, kid-deep}
 use Rattle.answers.proofs.Levels.{each-same, range-more}
 
@@ -102,7 +102,7 @@ passed-same j level n c a above es w q deep =
 -- ── From one place of a page to the next ────────────────────────────────────────────────────────────────────────
 
 module _ (n c : ℕ) (a : Asked) (t : List ℕ) (level over : ℕ) (sum : over + level ≡ topKind)
-    (above : List Turn) (w : Walked) (e : Place) (comes : Comes n c a t above w e) (deep : Deep (suc level) e)
+    (above : List Parent) (w : Walked) (e : Place) (comes : Comes n c a t above w e) (deep : Deep (suc level) e)
     (p : enters a e w ≡ true) (x : Page) (h : enter n c (numbersOf above) (w .table) e .page ≡ some x) where
   abbrev pub numbers : List ℕ
   numbers = e .child ∷ numbersOf above
@@ -112,8 +112,8 @@ module _ (n c : ℕ) (a : Asked) (t : List ℕ) (level over : ℕ) (sum : over +
 
   module _ (passed later : List Place) (d : Place) (q : kids e (x .view) ≡ passed ++ (d ∷ later))
       (y : Walked) (k : y ≡ walkEach (walk topKind n c a numbers) passed start) where
-    abbrev pub turn : Turn
-    turn = record {
+    abbrev pub parent : Parent
+    parent = record {
       place = e;
       page = x;
       table = enter n c (numbersOf above) (w .table) e .table;
@@ -121,16 +121,16 @@ module _ (n c : ℕ) (a : Asked) (t : List ℕ) (level over : ℕ) (sum : over +
       later = later;
     }
 
-    pub turn-comes : Comes n c a t (turn ∷ above) y d
-    turn-comes = (w, comes, p, (λ i. record { table = enter n c (numbersOf above) (w .table) e .table; page = h i }), q, k)
+    pub next-comes : Comes n c a t (parent ∷ above) y d
+    next-comes = (w, comes, p, (λ i. record { table = enter n c (numbersOf above) (w .table) e .table; page = h i }), q, k)
 
-    pub turn-deep : Deep level d
-    turn-deep =
+    pub next-deep : Deep level d
+    next-deep =
         kid-deep n (w .table) level e (x .view) deep (enter-shows n c (numbersOf above) (w .table) e x h) d
         (rw q (mem-here passed later d))
 
-    pub turn-next : walk level n c a numbers d y ≡ walkEach (walk topKind n c a numbers) (passed ++ (d ∷ [])) start
+    pub next-walked : walk level n c a numbers d y ≡ walkEach (walk topKind n c a numbers) (passed ++ (d ∷ [])) start
     unfolding walkEach
-    turn-next =
-        sym (walk-top over level n c a numbers d y sum turn-deep)
+    next-walked =
+        sym (walk-top over level n c a numbers d y sum next-deep)
         ∙ (ap (walk topKind n c a numbers d) k ∙ sym (each-append (walk topKind n c a numbers) passed (d ∷ []) start))

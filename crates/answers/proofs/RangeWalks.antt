@@ -16,12 +16,12 @@ use Rattle.rules.specs.Enter.{mend, enter}
 use Rattle.rules.specs.Walk.{Walked, enters, finds, walkEach, walk, walkOf}
 use Rattle.rules.specs.declared.Place.{Place}
 use Rattle.rules.specs.declared.Asked.{Asked}
-use Rattle.answers.specs.Range.{Turn, numbersOf, Comes, MendedIn, nothing, also}
+use Rattle.answers.specs.Range.{Parent, numbersOf, Comes, MendedIn, nothing, also}
 use Rattle.answers.proofs.Deep.{Deep, not-out}
-use Rattle.answers.proofs.RangeSteps.{none-walked, finds-table, walk-passed, walk-stopped, walk-below, turn, turn-comes, turn-deep, turn-next}
+use Rattle.answers.proofs.RangeSteps.{none-walked, finds-table, walk-passed, walk-stopped, walk-below, parent, next-comes, next-deep, next-walked}
 
 module _ (n c : ℕ) (a : Asked) (t : List ℕ) where
-  enter-mended : (above : List Turn) (w : Walked) (e : Place) → Comes n c a t above w e → enters a e w ≡ true
+  enter-mended : (above : List Parent) (w : Walked) (e : Place) → Comes n c a t above w e → enters a e w ≡ true
       → MendedIn n c a t (w .table) → MendedIn n c a t (enter n c (numbersOf above) (w .table) e .table)
   unfolding enter mend
   enter-mended above w e comes s m =
@@ -39,10 +39,10 @@ module _ (n c : ℕ) (a : Asked) (t : List ℕ) where
   -- what walking one place at a level leaves
   abbrev Leaves : ℕ → Type 0
   Leaves level =
-      (above : List Turn) (w : Walked) (e : Place) → Comes n c a t above w e → Deep level e → MendedIn n c a t (w .table)
+      (above : List Parent) (w : Walked) (e : Place) → Comes n c a t above w e → Deep level e → MendedIn n c a t (w .table)
       → MendedIn n c a t (walk level n c a (numbersOf above) e w .table)
 
-  module _ (level over : ℕ) (sum : over + level ≡ topKind) (rest : Leaves level) (above : List Turn) (w : Walked) (e : Place)
+  module _ (level over : ℕ) (sum : over + level ≡ topKind) (rest : Leaves level) (above : List Parent) (w : Walked) (e : Place)
       (comes : Comes n c a t above w e) (deep : Deep (suc level) e) (p : enters a e w ≡ true)
       (x : Page) (h : enter n c (numbersOf above) (w .table) e .page ≡ some x) where
     abbrev nums : List ℕ
@@ -58,10 +58,10 @@ module _ (n c : ℕ) (a : Asked) (t : List ℕ) where
     each-leaves [] passed q y k m = m
     each-leaves (d ∷ later) passed q y k m =
         each-leaves later (passed ++ (d ∷ [])) (q ∙ sym (append-assoc passed (d ∷ []) later)) (walk level n c a nums d y)
-        (turn-next n c a t level over sum above w e comes deep p x h passed later d q y k)
-        (rest (turn n c a t level over sum above w e comes deep p x h passed later d q y k ∷ above) y d
-        (turn-comes n c a t level over sum above w e comes deep p x h passed later d q y k)
-        (turn-deep n c a t level over sum above w e comes deep p x h passed later d q y k) m)
+        (next-walked n c a t level over sum above w e comes deep p x h passed later d q y k)
+        (rest (parent n c a t level over sum above w e comes deep p x h passed later d q y k ∷ above) y d
+        (next-comes n c a t level over sum above w e comes deep p x h passed later d q y k)
+        (next-deep n c a t level over sum above w e comes deep p x h passed later d q y k) m)
 
   leaves-more : (level over : ℕ) → over + level ≡ topKind → Leaves level → Leaves (suc level)
   leaves-more level over sum rest above w e comes deep m =

@@ -14,21 +14,21 @@ use Rattle.rules.specs.Walk.{Walked, enters, finds, walkEach, walk}
 use Rattle.rules.specs.declared.Place.{Place}
 use Rattle.rules.specs.declared.Asked.{Asked}
 
--- a page that the walk is below: the table once it was entered, its places passed and those to come after this one
-pub record Turn : Type 0 where
+-- a page on the way down: the table once it was entered, its places passed, and those that come after this one
+pub record Parent : Type 0 where
   pub place : Place
   pub page : Page
   pub table : List ℕ
   pub passed : List Place
   pub later : List Place
 
-abbrev pub numbersOf : List Turn → List ℕ
+abbrev pub numbersOf : List Parent → List ℕ
 numbersOf [] = []
 numbersOf (s ∷ above) = s .place .child ∷ numbersOf above
 
 -- the walk of a range in table t comes to a place, with w found by now: first to the root's, then to each place of a
 -- page entered, once those before it are walked
-abbrev pub Comes : ℕ → ℕ → Asked → List ℕ → List Turn → Walked → Place → Type 0
+abbrev pub Comes : ℕ → ℕ → Asked → List ℕ → List Parent → Walked → Place → Type 0
 Comes n c a t [] w e = (w ≡ record { table = t; whole = true; found = [] }) × (e ≡ rootPlace t)
 Comes n c a t (s ∷ above) w e =
     (v : Walked) × Comes n c a t above v (s .place)
@@ -39,7 +39,7 @@ Comes n c a t (s ∷ above) w e =
 
 -- a place that the walk comes to and enters is damaged
 pub record MeetsDamageIn (n c : ℕ) (a : Asked) (t : List ℕ) : Type 0 where
-  pub above : List Turn
+  pub above : List Parent
   pub found : Walked
   pub place : Place
   pub comes : Comes n c a t above found place
@@ -50,7 +50,7 @@ pub record MeetsDamageIn (n c : ℕ) (a : Asked) (t : List ℕ) : Type 0 where
 -- mending rule
 pub data MendedIn (n c : ℕ) (a : Asked) (t : List ℕ) : List ℕ → Type 0 where
   nothing : MendedIn n c a t t
-  also : (above : List Turn) (w : Walked) (e : Place) → MendedIn n c a t (w .table) → Comes n c a t above w e
+  also : (above : List Parent) (w : Walked) (e : Place) → MendedIn n c a t (w .table) → Comes n c a t above w e
       → enters a e w ≡ true
       → mem (e .child) (numbersOf above) ≡ false
       → fits n e (read (w .table) (e .child)) ≡ false
