@@ -55,11 +55,11 @@ fn look(t: &mut [u8], n: usize, c: u32, key: u64) -> Looked
     requires { ⌜ (length (now t) ≡ n * pageSize) × (fit0 n (now t) ≡ true) ⌝ }
     ensures { λ r. ⌜ looked (now (t .exit)) r ≡ lookedAlong key (wayOf n c key (now (t .entry))) ⌝ }
 {
-    let way = way::way_of(t, n, c, key);
-    if way.len == 0 {
+    let end = way::leaf_of(t, n, c, key);
+    if end.len == 0 {
         return Looked::Damaged;
     }
-    find_at(t, way.leaf, key)
+    find_at(t, end.leaf, key)
 }
 
 pub fn lookup(

@@ -2,4 +2,5 @@ pub mod Inner
 pub mod Stood
 pub mod Linked
 pub mod Descent
+pub mod Ending
 pub mod Tight

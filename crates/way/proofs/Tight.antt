@@ -7,3 +7,8 @@ pub way-of-tight : Tight this.way_of.Kinds.ps this.way_of.Kinds.r this.way_of.Re
 way-of-tight κs a pre z z′ l l′ p q =
     let e = p ∙ sym q in
     ((λ i. e i .way), (λ i. (e i .table, l .1)))
+
+pub leaf-of-tight : Tight this.leaf_of.Kinds.ps this.leaf_of.Kinds.r this.leaf_of.Reads.Pre this.leaf_of.Reads.Post
+leaf-of-tight κs a pre z z′ l l′ p q =
+    let e = p ∙ sym q in
+    ((λ i. e i .end), (λ i. (e i .table, l .1)))

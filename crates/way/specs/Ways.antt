@@ -15,6 +15,7 @@ use Rattle.head.proofs.Headers.{headOf}
 use Rattle.enter.specs.declared.Above.{Above}
 use Rattle.way.specs.declared.Step.{Step}
 use Rattle.way.specs.declared.Way.{Way}
+use Rattle.way.specs.declared.End.{End}
 
 abbrev pub noStep : Step
 noStep = record {
@@ -61,6 +62,21 @@ wayOr (some ss) = wayFor ss
 
 unfoldable pub told : rules.Way → Walking
 told w = record { table = w .table; way = wayOr (w .steps) }
+
+-- ── The end of a way alone ──────────────────────────────────────────────────────────────────────────────────────
+
+abbrev pub noEnd : End
+noEnd = record { len = 0; leaf = noStep }
+
+pub record Ending : Type 0 where
+  pub table : List ℕ
+  pub end : End
+
+abbrev pub ending : List ℕ → End → Ending
+ending t e = record { table = t; end = e }
+
+abbrev pub endIn : Walking → Ending
+endIn w = ending (w .table) (record { len = w .way .len; leaf = w .way .leaf })
 
 -- ── An inner page that leads on ─────────────────────────────────────────────────────────────────────────────────
 

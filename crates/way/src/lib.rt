@@ -24,7 +24,7 @@ ghost use Rattle.rules.specs.Place.{placesIn, kids, pick};
 ghost use Rattle.rules.specs.Walk.{wayOf};
 ghost use Rattle.entries.specs.Spot.{keysIn, spotOf};
 ghost use Rattle.head.proofs.Headers.{headOf};
-ghost use Rattle.way.specs.Ways.{Leads, noStep, wayFor, thenOf, aboveIn, walking, told};
+ghost use Rattle.way.specs.Ways.{Leads, noStep, wayFor, thenOf, aboveIn, walking, told, noEnd, ending, endIn};
 
 // A page entered: the place that asked for it, and its header.
 pub struct Step {
@@ -39,6 +39,12 @@ pub struct Way {
     pub leaf: Step,
     pub parent: Step,
     pub top: Step,
+}
+
+// The end of a way: its leaf, and how many pages were entered; none of a way that met a damaged place.
+pub struct End {
+    pub len: usize,
+    pub leaf: Step,
 }
 
 fn no_step() -> Step
@@ -151,4 +157,46 @@ pub fn way_of(t: &mut [u8], n: usize, c: u32, key: u64) -> Way
         level -= 1;
     }
     no_way()
+}
+
+// An end of no pages.
+fn no_end() -> End
+    ensures { λ r. ⌜ r ≡ noEnd ⌝ }
+{
+    let leaf = no_step();
+    End { len: 0, leaf }
+}
+
+// The same way for those who want its leaf alone: of the pages above only the numbers are kept, since a way has 272
+// bytes, and a lookup would build and pass on all of them.
+pub fn leaf_of(t: &mut [u8], n: usize, c: u32, key: u64) -> End
+    requires { ⌜ (length (now t) ≡ n * pageSize) × (fit0 n (now t) ≡ true) ⌝ }
+    ensures { λ r. ⌜ ending (now (t .exit)) r ≡ endIn (told (wayOf n c key (now (t .entry)))) ⌝ }
+{
+    let mut above = Above { parent: 0, top: 0 };
+    let mut e = head::root_place(t);
+    let mut level = LEVELS;
+    while 0 < level {
+        let Entered::Page(page) = enter::enter(t, n, c, above, e) else {
+            return no_end();
+        };
+        if page.kind == LEAF {
+            let leaf = Step {
+                place: e,
+                head: page,
+            };
+            return End {
+                len: LEVELS - level + 1,
+                leaf,
+            };
+        }
+        let top = above.parent;
+        above = Above {
+            parent: e.child,
+            top,
+        };
+        e = place_below(t, e, page, key);
+        level -= 1;
+    }
+    no_end()
 }

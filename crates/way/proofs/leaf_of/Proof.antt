@@ -1,0 +1,100 @@
+-- `way::leaf_of`: beside the loop runs the whole way, of which it keeps the end.
+-- Assumes nothing.
+use Rattle.enter.specs.Entering.{entering}
+use mathlib.Core.Path.{sym, ap, _∙_}
+use Rattle.way.specs.Ways.{ending}
+use Rattle.way.proofs.Descent.{head-here, leads, has-zero}
+use Rattle.way.proofs.Ending.{Seeking, begins, runs-out, damaged, ends, goes-on}
+use borrow.Author.Needs.{needs}
+use native.Mathlib.Omega.{arith}
+use Rattle.way.proofs.leaf_of.Statement.{statement}
+use Rattle.way.proofs.leaf_of.Tie as tie
+
+abbrev Inv-loop : tie.InvT-loop
+Inv-loop t₀ n c key above₀ e₀ level₀ t above e level = Seeking n c key t₀ t above e level
+
+abbrev μ-loop : tie.MeasureT-loop
+μ-loop t₀ n c key above₀ e₀ level₀ t above e level = level
+
+root-place-requires : tie.Need-root-place-requires Inv-loop μ-loop
+root-place-requires c κs = has-zero (c .before .before .args .n) (c .before .before .args .t .now) (c .before .before .pre .0) (c .before .before .pre .1)
+
+loop-holds : tie.Need-loop-holds Inv-loop μ-loop
+loop-holds c = begins (c .before .before .before .args .n) (c .before .before .before .args .c) (c .before .before .before .args .key) (c .before .before .before .args .t .now) (c .root-place .result) (c .before .before .before .pre .0) (c .before .before .before .pre .1) (c .before .before .slice-known .given) (c .root-place .ensures) (omega (arith, c .before .before .before .fits .c)) (omega (arith, c .before .before .before .fits .key))
+
+enter-requires : tie.Need-enter-requires Inv-loop μ-loop
+enter-requires c κs = (c .before .before .loop .inv .descent .ready .long, c .before .before .loop .inv .descent .ready .child-below)
+
+enum-known-page : tie.Need-enum-known-page Inv-loop μ-loop
+enum-known-page c = search needs
+
+enum-told : tie.Need-enum-told Inv-loop μ-loop
+enum-told c = search needs
+
+no-end-requires : tie.Need-no-end-requires Inv-loop μ-loop
+no-end-requires c κs = search needs
+
+same-length : tie.Need-same-length Inv-loop μ-loop
+same-length c = omega (arith, c .before .before .before .before .before .enter .kept .0, c .before .before .before .before .before .before .before .before .loop .inv .descent .ready .long, c .before .before .before .before .before .before .before .before .before .before .before .before .pre .0)
+
+returns : tie.Need-returns Inv-loop μ-loop
+returns c = ap (ending (c .before .before .before .before .before .enter .last .0)) (c .no-end .ensures) ∙ damaged (c .before .before .before .before .before .before .before .before .loop .inv) (c .before .before .before .before .before .before .before .loop-test .taken) (c .before .before .before .before .before .enter .last .0) (ap (entering (c .before .before .before .before .before .enter .last .0)) (sym (c .before .enum-told .given .1)) ∙ c .before .before .before .before .before .enter .ensures)
+
+sub-t17 : tie.Need-sub-t17 Inv-loop μ-loop
+sub-t17 c = omega (arith, c .before .before .before .before .before .before .before .before .before .before .loop .inv .descent .deep)
+
+add-t18 : tie.Need-add-t18 Inv-loop μ-loop
+add-t18 c = omega (arith, c .before .before .before .before .before .before .before .before .before .before .loop .inv .descent .deep)
+
+same-length-2 : tie.Need-same-length-2 Inv-loop μ-loop
+same-length-2 c = omega (arith, c .before .before .before .before .before .before .before .enter .kept .0, c .before .before .before .before .before .before .before .before .before .before .loop .inv .descent .ready .long, c .before .before .before .before .before .before .before .before .before .before .before .before .before .before .pre .0)
+
+returns-2 : tie.Need-returns-2 Inv-loop μ-loop
+returns-2 c = ends (c .before .before .before .before .before .before .before .before .before .before .loop .inv) (c .before .before .before .before .before .before .before .before .before .loop-test .taken) (c .before .before .before .before .before .before .before .enter .last .0) (c .before .before .before .page .given .0 .0) (ap (entering (c .before .before .before .before .before .before .before .enter .last .0)) (sym (c .before .before .before .page .given .1)) ∙ c .before .before .before .before .before .before .before .enter .ensures) (c .if1 .taken)
+
+place-below-requires : tie.Need-place-below-requires Inv-loop μ-loop
+place-below-requires c κs = let f = ap (entering (c .before .before .before .before .before .before .before .before .enter .last .0)) (sym (c .before .before .before .before .page .given .1)) ∙ c .before .before .before .before .before .before .before .before .enter .ensures in (omega (arith, c .before .before .before .before .before .before .before .before .enter .kept .0, c .before .before .before .before .before .before .before .before .before .before .before .loop .inv .descent .ready .long, c .before .before .before .before .before .before .before .before .before .before .before .loop .inv .descent .ready .child-below), head-here (c .before .before .before .before .before .before .before .before .before .before .before .loop .inv .descent) (c .before .before .before .before .before .before .before .before .before .before .loop-test .taken) (c .before .before .before .before .before .before .before .before .before .before .before .loop .above) (c .before .before .before .before .before .before .before .before .before .before .before .loop .inv .above) (c .before .before .before .before .before .before .before .before .enter .last .0) (c .before .before .before .before .page .given .0 .0) f, leads (c .before .before .before .before .before .before .before .before .before .before .before .loop .inv .descent) (c .before .before .before .before .before .before .before .before .before .before .loop-test .taken) (c .before .before .before .before .before .before .before .before .before .before .before .loop .above) (c .before .before .before .before .before .before .before .before .before .before .before .loop .inv .above) (c .before .before .before .before .before .before .before .before .enter .last .0) (c .before .before .before .before .page .given .0 .0) f (c .before .if1 .left))
+
+sub-level : tie.Need-sub-level Inv-loop μ-loop
+sub-level c = omega (arith, c .before .before .before .before .before .before .before .before .before .before .before .loop-test .taken)
+
+loop-less : tie.Need-loop-less Inv-loop μ-loop
+loop-less c = omega (arith, c .before .before .before .before .before .before .before .before .before .before .before .loop-test .taken)
+
+loop-again : tie.Need-loop-again Inv-loop μ-loop
+loop-again c = let f = ap (entering (c .before .before .before .before .before .before .before .before .before .enter .last .0)) (sym (c .before .before .before .before .before .page .given .1)) ∙ c .before .before .before .before .before .before .before .before .before .enter .ensures in goes-on (c .before .before .before .before .before .before .before .before .before .before .before .before .loop .inv) (c .before .before .before .before .before .before .before .before .before .before .before .loop-test .taken) (c .before .before .before .before .before .before .before .before .before .enter .last .0) (c .before .before .before .before .before .page .given .0 .0) f (c .before .before .if1 .left) (c .place-below .result) (c .place-below .ensures)
+
+no-end-requires-2 : tie.Need-no-end-requires-2 Inv-loop μ-loop
+no-end-requires-2 c κs = search needs
+
+same-length-3 : tie.Need-same-length-3 Inv-loop μ-loop
+same-length-3 c = omega (arith, c .before .before .loop .inv .descent .ready .long, c .before .before .before .before .before .before .pre .0)
+
+returns-3 : tie.Need-returns-3 Inv-loop μ-loop
+returns-3 c = ap (ending (c .before .before .loop .t)) (c .no-end2 .ensures) ∙ runs-out (c .before .before .loop .inv) (omega (arith, c .before .loop-test .left))
+
+pub leaf-of-spec : {M : Type 1} → statement M
+leaf-of-spec =
+    tie.close
+    (tie.spec
+    Inv-loop
+    μ-loop
+    root-place-requires
+    loop-holds
+    enter-requires
+    enum-known-page
+    enum-told
+    no-end-requires
+    same-length
+    returns
+    sub-t17
+    add-t18
+    same-length-2
+    returns-2
+    place-below-requires
+    sub-level
+    loop-less
+    loop-again
+    no-end-requires-2
+    same-length-3
+    returns-3)
