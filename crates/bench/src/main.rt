@@ -11,7 +11,15 @@ ghost use lib.ListN.{length};
 ghost use Rattle.driver.specs.Acts.{benchBytes};
 ghost use Rattle.bench.specs.Runs.{run, stand};
 use driver::Bench;
+use libc::STDIN_FILENO;
+use libc::STDOUT_FILENO;
 use words::Reply;
+
+// Five pages.
+const BYTES: usize = 2560;
+
+// How much is read at once.
+const CHUNK: usize = 512;
 
 // What a chunk of input leaves; `on` says whether there may be more.
 struct Fed {
@@ -24,7 +32,7 @@ fn print(reply: Reply) -> bool {
     let text = words::spell(reply);
     let n = text.len;
     let bytes = text.bytes;
-    io::write_all(1, &bytes[..n])
+    io::write_all(STDOUT_FILENO, &bytes[..n])
 }
 
 // The bytes of a chunk, one after the other, up to one whose line can't be written.
@@ -55,8 +63,8 @@ fn feed(input: &[u8], working: &mut [u8], stable: &mut [u8], bench: Bench) -> Fe
 fn read_some(working: &mut [u8], stable: &mut [u8], bench: Bench) -> Fed
     requires { ⌜ (length (now working) ≡ benchBytes) × (length (now stable) ≡ benchBytes) ⌝ }
 {
-    let mut chunk = [0u8; 512];
-    let got = libc::read(0, &mut chunk);
+    let mut chunk = [0u8; CHUNK];
+    let got = libc::read(STDIN_FILENO, &mut chunk);
     if got < 0 {
         return Fed { bench, on: false };
     }
@@ -92,8 +100,8 @@ fn serve(working: &mut [u8], stable: &mut [u8], bench: Bench)
 }
 
 fn main() {
-    let mut working = [0u8; 2560];
-    let mut stable = [0u8; 2560];
+    let mut working = [0u8; BYTES];
+    let mut stable = [0u8; BYTES];
     format::format(&working, &mut stable);
     let opened = opening::open(&mut working, &mut stable);
     let session = opened.session;

@@ -1,3 +1,2 @@
--- What a line of the bench program does to its store, and what the program prints.
+-- What a line of the bench program does to its store, and what is to be printed for it.
 pub mod Acts
-pub mod Program

@@ -3,9 +3,7 @@
 // `act` does what a line asks for, by the call of that name; a crash writes the pages named into the stable table and
 // opens. `Bench` keeps what lasts from byte to byte: `step` takes one byte, `finish` the end of the input. Each contract
 // is one equation with specs/Acts.antt, which says a line's effect in the rules' words: what is to be printed, session
-// and every byte of both tables. specs/Program.antt has the program as one definition, from the bytes in to the bytes
-// out; `program-prints` (proofs/Printing.antt) says that byte by byte the same is printed, `transcript` that document
-// 01's own lines print what it says, `line-event` (proofs/Events.antt) that a line is an event of the rules' histories.
+// and every byte of both tables.
 //
 // Below stand `lines`, which reads, `words`, for what is to be printed, `tables` and the calls insert, lookup, sync and
 // open.

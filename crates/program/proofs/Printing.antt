@@ -11,9 +11,9 @@ use Rattle.lines.specs.Reader.{startOf, fedOf}
 use Rattle.lines.specs.Line.{lineOf}
 use Rattle.lines.proofs.Reading.{reader-reads}
 use Rattle.words.specs.Words.{newline, answerLine}
 use Rattle.driver.specs.declared.Bench.{Bench}
 use Rattle.driver.specs.Acts.{Stepped, acted, fresh, fed, silent, answered, closed, stepped, finished}
-use Rattle.driver.specs.Program.{some-byte, linesFrom, linesOf, printed, shown}
+use Rattle.program.specs.Program.{some-byte, linesFrom, linesOf, printed, shown}
 
 -- where the bench is when these bytes of a line are read
 abbrev reading : List ℕ → Session → Bench

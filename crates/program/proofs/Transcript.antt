@@ -6,8 +6,8 @@ use mathlib.Core.List.{List, [], _∷_}
 use Rattle.rules.proofs.Computing.{rules}
 use Rattle.lines.specs.Line.{onto, words, isDigit, digits, value, numberIn, number, end, insertOf, findOf, crashOf, letterOf, asked, lineOf}
 use Rattle.words.specs.Words.{nine, wordOf, digitsOf, decimal, answerLine}
 use Rattle.driver.specs.Acts.{lookedReply, crashed, acted}
-use Rattle.driver.specs.Program.{some-byte, linesFrom, linesOf, printed, started, program}
+use Rattle.program.specs.Program.{some-byte, linesFrom, linesOf, printed, started, program}
 
 -- i 7 1 1 900 / f 7 1 1 / f 7 2 1 / s / c / f 7 1 1 / f 0 1 1
 abbrev pub input : List ℕ
