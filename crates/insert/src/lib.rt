@@ -16,13 +16,11 @@ use rules::Session;
 use way::Step;
 use way::Way;
 ghost use mathlib.Core.Path.{_≡_};
-ghost use mathlib.Core.Bool.{true};
-ghost use mathlib.Core.List.{List};
-ghost use Prim.Native.Nat.{ℕ, _+_, _*_, _≤_};
+ghost use Prim.Native.Nat.{_+_, _*_, _≤_};
 ghost use lib.ListN.{length};
-ghost use Rattle.rules.specs.Layout.{pageSize, mostPages};
+ghost use Rattle.rules.specs.Layout.{pageSize};
 ghost use Rattle.rules.specs.Entry.{find};
-ghost use Rattle.rules.specs.Table.{read, fit0};
+ghost use Rattle.rules.specs.Table.{read};
 ghost use Rattle.rules.specs.Insert;
 ghost use Rattle.rules.specs.declared.Session.{Session};
 ghost use Rattle.head.proofs.Headers.{headOf};
@@ -65,25 +63,6 @@ fn decided(t: &[u8], c: u32, key: u64, way: Way, chosen: Chosen) -> Inserted
     answer_of(plan::plan(c, way, present, chosen))
 }
 
-// An insert of a good key into a table whose page 0 is fit.
-fn insert_key(t: &mut [u8], session: Session, key: u64, value: u32) -> Inserting
-    requires { ⌜ (length (now t) ≡ session .n * pageSize) × (session .n ≤ mostPages) × (fit0 (session .n) (now t) ≡ true) ⌝ }
-    ensures { λ r. ⌜ ((stable : List ℕ) → leaving r (now (t .exit)) stable
-        ≡ Insert.insertKey key value session (now (t .entry)) stable) ⌝ }
-{
-    let way = way::way_of(t, session.n as usize, session.c, key);
-    let chosen = plan::choose(session, way);
-    let answer = decided(t, session.c, key, way, chosen);
-    let Inserted::Done = answer else {
-        return Inserting { answer, session };
-    };
-    let left = apply::apply(t, session, key, value, way, chosen);
-    Inserting {
-        answer,
-        session: left,
-    }
-}
-
 // The answer of the tests that come before the walk: done where all pass.
 fn tested(working: &[u8], stable: &[u8], n: u16, model: u16, serial: u32, issue: u16) -> Inserted
     ensures { λ r. ⌜ ((s : Session) → s .n ≡ n
@@ -120,5 +99,16 @@ pub fn insert(
             session,
         };
     };
-    insert_key(working, session, keys::key_of(model, serial, issue), value)
+    let key = keys::key_of(model, serial, issue);
+    let way = way::way_of(working, session.n as usize, session.c, key);
+    let chosen = plan::choose(session, way);
+    let answer = decided(working, session.c, key, way, chosen);
+    let Inserted::Done = answer else {
+        return Inserting { answer, session };
+    };
+    let left = apply::apply(working, session, key, value, way, chosen);
+    Inserting {
+        answer,
+        session: left,
+    }
 }
