@@ -30,8 +30,8 @@
 // crash. Pages reach the stable table in `sync`, in `format`, in one page write of `open`, and at a crash.
 //
 // Each contract is one equation with the rule of that name: answer, session and every byte lent are the rule's. What
-// the rules promise of crashes is the theorem `demand3` of `rules`. Stack: `tools/frames` reads off the object code what
-// each function takes, at most 2,304 bytes; arrays are less than 2 KiB of it.
+// the rules promise of crashes is the theorem `demand3` of `rules`. Stack: no call holds more
+// than 2 KiB of local arrays; `tools/frames` reads off the object code what each function takes.
 //
 // Below stand the calls, a crate each.
 ghost use mathlib.Core.Path.{_≡_};
