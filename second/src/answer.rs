@@ -22,3 +22,14 @@ pub const WORDS: [&str; 9] = [
     "full",
     "spent",
 ];
+
+/// Each call with the answers that the table of document 01 has for it.
+pub const ANSWERS: [(&str, &[usize]); 7] = [
+    ("format", &[0, 1]),
+    ("open", &[0, 1, 3, 8]),
+    ("insert", &[0, 1, 2, 3, 5, 6, 7]),
+    ("lookup", &[0, 1, 2, 3, 4]),
+    ("newest", &[0, 1, 2, 3, 4]),
+    ("list", &[0, 1, 3]),
+    ("sync", &[0, 1, 8]),
+];

@@ -27,6 +27,7 @@ pub mod broken;
 pub mod bytes;
 #[cfg(store)]
 pub mod compare;
+pub mod driver;
 pub mod histories;
 pub mod invariant;
 pub mod lines;

@@ -11,15 +11,11 @@ fn main() -> ExitCode {
 #[cfg(store)]
 fn main() -> ExitCode {
     use second::compare::{notice, rising, run, Counters};
-    use second::rng::seed;
+    use second::driver::{ended, seed_and_seconds};
     use std::time::Duration;
 
     let words: Vec<String> = std::env::args().skip(1).collect();
-    let numbers = match words.as_slice() {
-        [first, second] => seed(first).zip(second.parse().ok()),
-        _ => None,
-    };
-    let Some((seed, seconds)) = numbers else {
+    let Some((seed, seconds)) = seed_and_seconds(&words) else {
         eprintln!("usage: compare SEED|fresh SECONDS");
         return ExitCode::from(2);
     };
@@ -33,9 +29,5 @@ fn main() -> ExitCode {
         println!("{what}");
         return ExitCode::FAILURE;
     }
-    let missing = counters.missing();
-    for name in &missing {
-        println!("never answered: {name}");
-    }
-    ExitCode::from(u8::from(!missing.is_empty()))
+    ended(&counters.missing())
 }

@@ -1,7 +1,7 @@
 //! `histories SEED SECONDS`: random histories with crashes, held against demand 3.
 
+use second::driver::{ended, seed_and_seconds};
 use second::histories::{run, Counters, Watch};
-use second::rng::seed;
 use std::process::ExitCode;
 use std::time::Duration;
 
@@ -23,10 +23,7 @@ fn break_rule(_: &str) -> bool {
 
 fn main() -> ExitCode {
     let words: Vec<String> = std::env::args().skip(1).collect();
-    let numbers = match words.as_slice() {
-        [first, second, ..] => seed(first).zip(second.parse().ok()),
-        _ => None,
-    };
+    let numbers = words.get(..2).and_then(seed_and_seconds);
     let Some((seed, seconds)) = numbers else {
         eprintln!("{USAGE}");
         return ExitCode::from(2);
@@ -48,9 +45,5 @@ fn main() -> ExitCode {
         println!("{failure}");
         return ExitCode::FAILURE;
     }
-    let missing = counters.missing();
-    for name in &missing {
-        println!("never reached: {name}");
-    }
-    ExitCode::from(u8::from(!missing.is_empty()))
+    ended(&counters.missing())
 }

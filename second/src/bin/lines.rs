@@ -1,17 +1,15 @@
 //! `lines PROGRAM SEED SECONDS`: random lines for a bench program, whose answers must be those of this one, byte for byte.
 
+use second::driver::seed_and_seconds;
 use second::lines::{answered, random_lines};
-use second::rng::{seed, Rng};
+use second::rng::Rng;
 use std::io::{Read, Write};
 use std::process::{Command, ExitCode, Stdio};
 use std::time::{Duration, Instant};
 
 fn main() -> ExitCode {
     let words: Vec<String> = std::env::args().skip(1).collect();
-    let numbers = match words.as_slice() {
-        [_, first, second] => seed(first).zip(second.parse().ok()),
-        _ => None,
-    };
+    let numbers = words.get(1..).and_then(seed_and_seconds);
     let Some((seed, seconds)) = numbers else {
         eprintln!("usage: lines PROGRAM SEED|fresh SECONDS");
         return ExitCode::from(2);

@@ -46,7 +46,10 @@ fn random(n: usize, seed: u64) -> usize {
 }
 
 fn main() {
-    println!("{:>5} {:>8} {:>14} {:>13}", "pages", "rising", "random, least", "random, mean");
+    println!(
+        "{:>5} {:>8} {:>14} {:>13}",
+        "pages", "rising", "random, least", "random, mean"
+    );
     for n in SIZES {
         let counts: Vec<usize> = (1..=SEEDS).map(|seed| random(n, seed)).collect();
         let least = counts.iter().min().expect("there are seeds");

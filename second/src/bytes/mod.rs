@@ -4,7 +4,7 @@ mod other_ways;
 mod promises;
 pub mod tables;
 
-use crate::answer::WORDS;
+use crate::answer::{ANSWERS, WORDS};
 use crate::key::{key, parts};
 use crate::layout::{KIND_LEAF, PAGE};
 use crate::page;
@@ -15,17 +15,6 @@ use std::collections::BTreeMap;
 use std::fmt;
 use std::panic::{catch_unwind, AssertUnwindSafe};
 use std::time::{Duration, Instant};
-
-/// Each call with the answers that the table of document 01 has for it.
-const ANSWERS: [(&str, &[usize]); 7] = [
-    ("format", &[0, 1]),
-    ("open", &[0, 1, 3, 8]),
-    ("insert", &[0, 1, 2, 3, 5, 6, 7]),
-    ("lookup", &[0, 1, 2, 3, 4]),
-    ("newest", &[0, 1, 2, 3, 4]),
-    ("list", &[0, 1, 3]),
-    ("sync", &[0, 1, 8]),
-];
 
 const NAMED: [&str; 6] = [
     "tables",

@@ -1,6 +1,6 @@
 //! One call on both stores, and all that it leaves compared.
 
-use crate::answer::WORDS;
+use crate::answer::{ANSWERS, WORDS};
 use crate::layout::{LAST_NUMBER, PAGE, PAGES_MOST};
 use crate::proved::Proved;
 use crate::session::Session;
@@ -9,17 +9,6 @@ use crate::{crash, format, number_ahead};
 use std::fmt;
 
 use super::Alike;
-
-/// The calls with the answers that each can give.
-const ANSWERS: [(&str, &[usize]); 7] = [
-    ("format", &[0, 1]),
-    ("open", &[0, 1, 3, 8]),
-    ("insert", &[0, 1, 2, 3, 5, 6, 7]),
-    ("lookup", &[0, 1, 2, 3, 4]),
-    ("newest", &[0, 1, 2, 3, 4]),
-    ("list", &[0, 1, 3]),
-    ("sync", &[0, 1, 8]),
-];
 
 /// How often each answer was given, and both agreed.
 #[derive(Default)]
