@@ -10,8 +10,8 @@ use lib.Seq.{drop-drop}
 use borrow.Author.Tests.{eq-eqb, ne-eqb}
 use Rattle.fields.specs.Field.{leAt}
 use Rattle.rules.specs.Layout.{headerSize, certSize, childSize, leafKind}
-use Rattle.rules.specs.Entry.{Entry, Cert, Child, Below}
-use Rattle.rules.specs.Page.{View, Page, count, readEach, certIn, childIn, viewIn, pageIn}
+use Rattle.rules.specs.Entry.{Cert, Child}
+use Rattle.rules.specs.Page.{Page, count, readEach, certIn, childIn, viewIn, pageIn}
 use Rattle.rules.proofs.Each.{length-readEach, readEach-at}
 use Rattle.head.specs.declared.Head.{Head}
 use Rattle.head.specs.Head.{headIn, certAt, childAt}

@@ -8,8 +8,8 @@ use lib.ListN.{length, getD, drop, drop-of-length-le}
 use lib.Seq.{drop-cons, drop-drop}
 use Rattle.fields.specs.Field.{leAt}
 use Rattle.rules.specs.Layout.{headerSize, childSize, leafKind}
-use Rattle.rules.specs.Entry.{Entry, Child, Below}
-use Rattle.rules.specs.Page.{View, readEach, childIn, viewIn}
+use Rattle.rules.specs.Entry.{Child}
+use Rattle.rules.specs.Page.{readEach, childIn, viewIn}
 use Rattle.rules.specs.Place.{highBefore, placeOf, placesIn, kids}
 use Rattle.rules.specs.declared.Place.{Place}
 use Rattle.rules.proofs.Each.{length-readEach, readEach-at}

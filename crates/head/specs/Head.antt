@@ -5,7 +5,7 @@ use mathlib.Core.List.{List}
 use lib.ListN.{drop}
 use Rattle.fields.specs.Field.{leAt}
 use Rattle.rules.specs.Layout.{headerSize, certSize, childSize}
-use Rattle.rules.specs.Entry.{Entry, Cert, Child, Below}
+use Rattle.rules.specs.Entry.{Cert, Child}
 use Rattle.rules.specs.Page.{certIn, childIn}
 use Rattle.rules.specs.Table.{kind0, n0, number0, root0, previous0, birth0}
 use Rattle.rules.specs.declared.Place.{Place}
