@@ -2,15 +2,15 @@
 -- out. Assumes nothing.
 use Prim.Native.Nat.{ℕ, _≤_, _<_}
 use native.Mathlib.Omega.{arith}
-use mathlib.Core.Path.{_≡_, refl, sym, ap, _∙_}
+use mathlib.Core.Path.{_≡_, refl}
 use mathlib.Core.Bool.{Bool, true, false, _&&_}
-use lib.Dec.{leb, eqb}
+use lib.Dec.{leb}
 use borrow.Author.Tests.{eq-eqb, ne-eqb, leb-true, le-leb, lt-leb}
 use Rattle.lines.specs.declared.Grown.{Grown}
 use Rattle.lines.specs.declared.Reader.{Reader}
 use Rattle.lines.specs.declared.Reader.the-variants.{Other}
 use Rattle.lines.specs.Line.{space, isDigit, grown}
-use Rattle.lines.specs.Reader.{grownOf, grownTo, numberFed, spaceFed}
+use Rattle.lines.specs.Reader.{grownOf, grownTo, numberFed}
 
 module _ (limit : ℕ) (here next : ℕ → Reader) (begun : Bool) (v b : ℕ) where
   -- a space ends a number that has begun
