@@ -1,7 +1,6 @@
 -- `words::put_digits`: the digits in front first, by a call with one place less, then the last one. Assumes nothing.
 use mathlib.Core.Path.{ap, sym, _∙_}
 use mathlib.Core.List.{[], _∷_}
-use lib.ListN.{length}
 use Rattle.words.specs.declared.Text.{Text}
 use Rattle.words.specs.Words.{digit, digitsOf, pushed, pushedAll}
 use Rattle.words.proofs.Texts.{pushed-append, pushed-length, few-digits, no-places, one-digit, more-digits}
