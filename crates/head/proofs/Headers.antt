@@ -1,20 +1,18 @@
 -- What is read at one look is what the rules read of the whole page. Assumes nothing.
-use Prim.Native.Nat.{ℕ, _<_}
+use Prim.Native.Nat.{ℕ}
 use mathlib.Core.Path.{_≡_, refl}
 use mathlib.Core.Bool.{Bool, true, false}
 use mathlib.Core.List.{List, []}
 use native.Mathlib.Nat.{add-zero, zero-add}
 use lib.Dec.{eqb}
-use lib.ListN.{getD, drop}
-use lib.Seq.{drop-drop}
+use lib.ListN.{drop}
 use borrow.Author.Tests.{eq-eqb, ne-eqb}
 use Rattle.fields.specs.Field.{leAt}
 use Rattle.rules.specs.Layout.{headerSize, certSize, childSize, leafKind}
-use Rattle.rules.specs.Entry.{Cert, Child}
 use Rattle.rules.specs.Page.{Page, count, readEach, certIn, childIn, viewIn, pageIn}
-use Rattle.rules.proofs.Each.{length-readEach, readEach-at}
+use Rattle.rules.proofs.Each.{length-readEach}
 use Rattle.head.specs.declared.Head.{Head}
-use Rattle.head.specs.Head.{headIn, certAt, childAt}
+use Rattle.head.specs.Head.{headIn}
 
 -- a page's header
 unfoldable pub headOf : Page → Head
@@ -60,12 +58,3 @@ module _ (b : List ℕ) where
   pub headIn-page : headIn b ≡ headOf (pageIn b)
   unfolding headIn headOf pageIn
   headIn-page = cc (kind-view, count-view)
-
-  -- the entry at an index below the count is that of the list
-  pub certs-at : (j : ℕ) (d : Cert) → leAt b 0 2 ≡ leafKind → j < leAt b 2 2 → getD (viewIn b .certs) j d ≡ certAt b j
-  unfolding certAt
-  certs-at j d h l = rw (view-leaf h, readEach-at, drop-drop)
-
-  pub children-at : (j : ℕ) (d : Child) → (leAt b 0 2 ≡ leafKind → ⊥) → j < leAt b 2 2 → getD (viewIn b .children) j d ≡ childAt b j
-  unfolding childAt
-  children-at j d h l = rw (view-inner h, readEach-at, drop-drop)
