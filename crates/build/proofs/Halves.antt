@@ -1,35 +1,25 @@
 -- The halves of a page, as ranges of its entries by index, and the key that divides them.
 -- Assumes nothing.
-use mathlib.Core.Path.{_≡_, refl, _∙_}
+use mathlib.Core.Path.{_≡_, refl}
 use mathlib.Core.Bool.{Bool, true, false}
 use mathlib.Core.List.{List, append-nil}
 use Prim.Native.Nat.{ℕ, _+_, _-_, _*_, _≤_, _<_}
-use native.Mathlib.Nat.{add-zero}
 use native.Mathlib.Omega.{arith}
 use lib.Dec.{eqb}
-use lib.ListN.{length, take, drop, getD, length-drop}
+use lib.ListN.{length, take, drop, length-drop}
 use lib.Seq.{take-all, take-nil}
 use Rattle.fields.specs.Field.{leAt}
-use Rattle.fields.proofs.Field.{leAt-drop}
 use Rattle.rules.specs.Layout.{pageSize, headerSize, leafKind, leafHalf, innerHalf, certSize, childSize}
 use Rattle.rules.specs.Entry.{keys}
 use Rattle.rules.specs.Page.{viewIn, isLeaf, readEach, certIn, childIn}
 use Rattle.rules.specs.Insert.{divide, lowerHalf, upperHalf}
-use Rattle.rules.proofs.Each.{readEach-at, length-readEach}
+use Rattle.rules.proofs.Each.{length-readEach}
 use Rattle.rules.proofs.Pages.{viewIn-leaf, viewIn-inner, kind-viewIn, count-viewIn}
-use Rattle.entries.specs.Spot.{sizeOf, keyIn, keysIn}
-use Rattle.entries.proofs.KeysIn.{keys-certs, keys-children}
+use Rattle.entries.specs.Spot.{sizeOf}
+use Rattle.entries.proofs.KeysIn.{keys-certs, keys-children, key-at}
 use Rattle.entries.proofs.Passed.{within}
 use Rattle.build.proofs.Built.{entries-fit}
 use Rattle.build.specs.Range.{rangeView, halfOf, Divides}
-
-key-at : (size k j : ℕ) (b : List ℕ) → j < k → getD (keysIn size k b) j 0 ≡ leAt b (headerSize + size * j) 8
-unfolding keysIn keyIn
-key-at size k j b h =
-    readEach-at keyIn size k (drop headerSize b) j 0 h
-    ∙ leAt-drop (drop headerSize b) (size * j) 0 8
-    ∙ leAt-drop b headerSize (size * j + 0) 8
-    ∙ rw add-zero
 
 module _ (b : List ℕ) (h : halfOf (leAt b 0 2) < leAt b 2 2) where
   -- where the key that divides a page stands

@@ -15,7 +15,7 @@ use Rattle.rules.proofs.Tests.{between-of, between-above, between-below}
 use Rattle.rules.proofs.Rises.{rises-head, rises-tail, rising-from, rising-of-rises}
 use Rattle.entries.specs.Spot.{spotOf, startOf}
 
--- ---- a key passed, or not
+-- ── A key passed, or not ────────────────────────────────────────────────────────────────────────────────────────
 
 pub spot-cons : (k x : ℕ) (xs : List ℕ) → x ≤ k → spotOf k (x ∷ xs) ≡ suc (spotOf k xs)
 unfolding spotOf
@@ -50,7 +50,7 @@ start-above : (low k : ℕ) (xs : List ℕ) → low ≤ k → risesFrom k xs ≡
 start-above low k [] h r = start-nil low
 start-above low k (x ∷ xs) h r = start-first low x xs (omega (arith, rises-head k x xs r))
 
--- ---- an entry in the range, or not
+-- ── An entry in the range, or not ───────────────────────────────────────────────────────────────────────────────
 
 module _ {B : Type 0} where
   cut-above : (low high k : ℕ) (xs : List (Entry B)) → high ≤ k → risesFrom k (keys xs) ≡ true → cut low high xs ≡ []

@@ -1,16 +1,20 @@
--- The keys of a page's entries, and how far a spot among them goes.
+-- The keys of a page's entries, where each lies, and how far a spot among them goes.
 -- Assumes nothing.
-use mathlib.Core.Path.{_≡_, refl}
+use mathlib.Core.Path.{_≡_, refl, ap, _∙_}
 use mathlib.Core.Bool.{Bool, true, false}
 use mathlib.Core.List.{List, [], _∷_}
-use Prim.Native.Nat.{ℕ, zero, suc, _+_, _≤_}
+use Prim.Native.Nat.{ℕ, zero, suc, _+_, _*_, _≤_, _<_}
+use native.Mathlib.Nat.{add-zero}
 use native.Mathlib.Omega.{arith}
 use lib.Dec.{leb}
-use lib.ListN.{length, drop}
+use lib.ListN.{length, drop, getD}
+use lib.Seq.{drop-drop}
+use Rattle.fields.specs.Field.{leAt}
+use Rattle.fields.proofs.Field.{leAt-drop}
 use Rattle.rules.specs.Layout.{headerSize, certSize, childSize}
 use Rattle.rules.specs.Entry.{Entry, keys}
 use Rattle.rules.specs.Page.{readEach, certIn, childIn}
-use Rattle.rules.proofs.Each.{length-readEach}
+use Rattle.rules.proofs.Each.{length-readEach, readEach-at}
 use Rattle.entries.specs.Spot.{keyIn, keysIn, spotOf, startOf}
 
 keys-readEach : {B : Type 0} (read : List ℕ → Entry B) (size k : ℕ) (b : List ℕ) → ((l : List ℕ) → read l .key ≡ keyIn l)
@@ -30,6 +34,13 @@ keys-children k b = keys-readEach childIn childSize k (drop headerSize b) (λ l.
 pub length-keysIn : (size k : ℕ) (b : List ℕ) → length (keysIn size k b) ≡ k
 unfolding keysIn
 length-keysIn size k b = length-readEach keyIn size k (drop headerSize b)
+
+-- the key at an index, read where it lies
+pub key-at : (size count j : ℕ) (b : List ℕ) → j < count → getD (keysIn size count b) j 0 ≡ leAt b (headerSize + size * j) 8
+unfolding keysIn keyIn
+key-at size count j b h =
+    rw (readEach-at keyIn size count (drop headerSize b) j 0 h, drop-drop)
+    (leAt-drop b (headerSize + size * j) 0 8 ∙ ap (λ (n : ℕ). leAt b n 8) (add-zero (headerSize + size * j)))
 
 pub spot-bound : (k : ℕ) (ks : List ℕ) → spotOf k ks ≤ length ks
 unfolding spotOf

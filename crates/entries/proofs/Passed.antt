@@ -17,23 +17,24 @@ use Rattle.entries.specs.Spot.{keyIn, spotOf}
 pub within : (size j n : ℕ) → j < n → size * j + size ≤ size * n
 within size j n h = rw mul-suc at (mul-le-mul-left size h)
 
-key-at : (b : List ℕ) (at : ℕ) → keyIn (drop at b) ≡ leAt b at 8
+-- the key of the entry that starts at an offset
+key-here : (b : List ℕ) (at : ℕ) → keyIn (drop at b) ≡ leAt b at 8
 unfolding keyIn
-key-at b at = leAt-drop b at 0 8 ∙ ap (λ (n : ℕ). leAt b n 8) (add-zero at)
+key-here b at = leAt-drop b at 0 8 ∙ ap (λ (n : ℕ). leAt b n 8) (add-zero at)
 
 pub spot-pass : (k size n j at : ℕ) (b : List ℕ) → j < n → leAt b at 8 ≤ k
     → spotOf k (readEach keyIn size (n - j) (drop at b)) ≡ 1 + spotOf k (readEach keyIn size (n - (j + 1)) (drop (at + size) b))
 unfolding spotOf readEach
 spot-pass k size n j at b h l =
     let e : n - j ≡ suc (n - (j + 1)) = omega arith in
-    rw (e, readEach, spotOf, key-at, le-leb (leAt b at 8) k l, drop-drop)
+    rw (e, readEach, spotOf, key-here, le-leb (leAt b at 8) k l, drop-drop)
 
 pub spot-stop : (k size n j at : ℕ) (b : List ℕ) → j < n → k < leAt b at 8
     → spotOf k (readEach keyIn size (n - j) (drop at b)) ≡ 0
 unfolding spotOf readEach
 spot-stop k size n j at b h l =
     let e : n - j ≡ suc (n - (j + 1)) = omega arith in
-    rw (e, readEach, spotOf, key-at, lt-leb (leAt b at 8) k l)
+    rw (e, readEach, spotOf, key-here, lt-leb (leAt b at 8) k l)
 
 pub spot-end : (k size n j : ℕ) (b : List ℕ) → n ≤ j → spotOf k (readEach keyIn size (n - j) b) ≡ 0
 unfolding spotOf readEach

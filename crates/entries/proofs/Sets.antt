@@ -13,7 +13,7 @@ use Rattle.fields.proofs.Field.{le-leAt}
 use Rattle.fields.proofs.Run.{sets-append, length-part}
 use Rattle.rules.specs.Page.{over}
 
--- ---- what a run leaves alone
+-- ── What a run leaves alone ─────────────────────────────────────────────────────────────────────────────────────
 
 pub set-sets : (vs b : List ℕ) (i j v : ℕ) → j < i → set (sets b i vs) j v ≡ sets (set b j v) i vs
 set-sets [] b i j v h = refl
@@ -51,7 +51,7 @@ pub over-sets : (xs b : List ℕ) → length xs ≤ length b → over xs b ≡ s
 unfolding over
 over-sets xs b h = sym (sets-eq xs b 0 (rw zero-add h) ∙ rw zero-add)
 
--- ---- a turn of a loop that copies a run, and of one that moves it up
+-- ── A turn of a loop that copies a run, and of one that moves it up ─────────────────────────────────────────────
 
 pub copied-more : (b l xs : List ℕ) (at start k : ℕ) → start + k < length xs → l ≡ sets b at (take k (drop start xs))
     → set l (at + k) (getD xs (start + k) 0) ≡ sets b at (take (k + 1) (drop start xs))

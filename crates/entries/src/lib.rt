@@ -10,7 +10,6 @@ use rules::CERT;
 use rules::CHILD;
 use rules::HEADER;
 use rules::LEAF;
-use rules::PAGE;
 ghost use mathlib.Core.Path.{_≡_};
 ghost use Prim.Native.Nat.{_+_, _*_, _-_, _≤_};
 ghost use lib.ListN.{length, take, drop};

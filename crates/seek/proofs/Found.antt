@@ -4,13 +4,13 @@ use mathlib.Core.Path.{_≡_, refl, sym, ap, _∙_}
 use mathlib.Core.Bool.{Bool, true, false}
 use mathlib.Core.List.{List, [], _∷_}
 use mathlib.Core.Option.{some, none}
-use Prim.Native.Nat.{ℕ, zero, suc, _+_, _-_, _≤_, _<_}
+use Prim.Native.Nat.{ℕ, zero, suc, _-_, _≤_, _<_}
 use native.Mathlib.Omega.{arith}
 use borrow.Author.Tests.{leb-true, leb-false}
 use lib.Dec.{leb}
-use lib.ListN.{length, getD}
+use lib.ListN.{getD}
 use Rattle.rules.specs.Test.{between}
-use Rattle.rules.specs.Entry.{Entry, Child, Below, keys, find, rising}
+use Rattle.rules.specs.Entry.{Entry, Child, keys, find, rising}
 use Rattle.rules.specs.Place.{highBefore, placeOf, placesIn, pick}
 use Rattle.rules.specs.declared.Place.{Place}
 use Rattle.rules.proofs.Rises.{rises-head, rising-from, rising-tail, length-keys}

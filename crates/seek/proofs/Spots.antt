@@ -1,24 +1,20 @@
 -- One comparison with a key bounds the spot: from below where keys rise, from above always. Assumes nothing.
-use mathlib.Core.Path.{_≡_, refl, sym, ap, _∙_}
+use mathlib.Core.Path.{_≡_, refl, sym, _∙_}
 use mathlib.Core.Bool.{Bool, true, false}
 use mathlib.Core.List.{List, [], _∷_}
 use Prim.Native.Nat.{ℕ, zero, suc, _+_, _*_, _-_, _/_, _%_, _^_, _≤_, _<_}
-use native.Mathlib.Nat.{add-zero}
 use native.Mathlib.Omega.{arith}
 use borrow.Author.Tests.{leb-true, leb-false}
 use mir.Val.{boolByte}
 use lib.Dec.{leb}
-use lib.ListN.{length, drop, getD}
-use lib.Seq.{drop-drop}
+use lib.ListN.{length, getD}
 use Rattle.fields.specs.Field.{leAt}
-use Rattle.fields.proofs.Field.{leAt-drop}
 use Rattle.rules.specs.Layout.{headerSize, pageSize}
 use Rattle.rules.specs.Entry.{rising}
-use Rattle.rules.proofs.Each.{readEach-at}
 use Rattle.rules.proofs.Rises.{rising-tail, rising-at-le}
-use Rattle.entries.specs.Spot.{keyIn, keysIn, spotOf}
+use Rattle.entries.specs.Spot.{keysIn, spotOf}
 use Rattle.entries.proofs.Cut.{spot-cons, spot-first}
-use Rattle.entries.proofs.KeysIn.{length-keysIn, spot-bound}
+use Rattle.entries.proofs.KeysIn.{length-keysIn, key-at, spot-bound}
 
 -- a key that is not above k, with all before it
 pub spot-above : (k j : ℕ) (ks : List ℕ) → rising ks ≡ true → j < length ks → getD ks j 0 ≤ k → j < spotOf k ks
@@ -58,13 +54,6 @@ among-step k low left x ks r o a e = go (leb x k) refl
     go false q =
         let down = spot-below k (low + (left - left / 2) - 1) ks (omega (arith, a .inside)) (omega (arith, e, leb-false x k q)) in
         record { inside = omega (arith, a .inside); least = omega (arith, a .least); most = omega (arith, down) }
-
--- the key at an index, read where it lies
-pub key-at : (size count j : ℕ) (b : List ℕ) → j < count → getD (keysIn size count b) j 0 ≡ leAt b (headerSize + size * j) 8
-unfolding keysIn keyIn
-key-at size count j b h =
-    rw (readEach-at keyIn size count (drop headerSize b) j 0 h, drop-drop)
-    (leAt-drop b (headerSize + size * j) 0 8 ∙ ap (λ (n : ℕ). leAt b n 8) (add-zero (headerSize + size * j)))
 
 -- ── Halving over the bytes of a page ────────────────────────────────────────────────────────────────────────────
 
