@@ -14,8 +14,6 @@ use Rattle.rules.specs.Layout.{pageSize, headerSize, leafKind, certSize, childS
 use Rattle.rules.specs.Table.{setPage}
 use Rattle.rules.specs.Page.{View, Page, viewIn, count, fresh, headerBytes, pageBytes, buildBytes, blank, over, writeEach, certIn, certBytes, childIn, childBytes, readEach}
 use Rattle.rules.specs.Entry.{Child}
-use Rattle.rules.specs.Walk.{Step}
-use Rattle.rules.specs.Insert.{rootOver, newChild}
 use Rattle.rules.proofs.EntryBytes.{length-childBytes}
 use Rattle.rules.proofs.Each.{length-readEach}
 use Rattle.rules.proofs.Pages.{viewIn-leaf, viewIn-inner, kind-viewIn, count-viewIn, length-headerBytes, length-blank}
@@ -117,15 +115,10 @@ store-page t i q e h =
     let all : take pageSize q ≡ q = take-all pageSize q (omega arith) in
     rw all (sets-eq q t (i * pageSize) (rw e (omega arith)) ∙ rw (append-assoc, e, drop-drop))
 
--- ---- a new root, and an empty leaf
+-- ── A new root ──────────────────────────────────────────────────────────────────────────────────────────────────
 
 pub root-bytes : (kind c : ℕ) (x : Child)
     → buildBytes (fresh c c 0 lastKey (rootView kind x)) ≡ sets (sets blank 0 (headerOf kind 1 c c 0 lastKey)) headerSize (childBytes x)
 unfolding rootView writeEach count
 root-bytes kind c x =
     build-bytes kind c c 0 lastKey (rootView kind x) (childBytes x) refl (append-nil (childBytes x)) (rw (length-childBytes x) (omega arith))
-
--- the root that insert grows is one of these
-pub root-over : (s : Step) → rootOver s ≡ rootView (s .page .view .kind + 1) (newChild (s .place .birth) (s .place .low) (s .place .child) (s .place .previous))
-unfolding rootOver rootView
-root-over s = refl

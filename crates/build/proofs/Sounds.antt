@@ -42,7 +42,7 @@ mendable-ordered n e q h =
     let s = simp and-eq-true-iff at h in
     sound-ordered n q (s .1 .1 .0)
 
--- ---- a full page
+-- ── A full page ─────────────────────────────────────────────────────────────────────────────────────────────────
 
 or-false : (t : Bool) → t || false ≡ true → t ≡ true
 or-false true h = refl
