@@ -1,6 +1,6 @@
 -- What a caller that goes by the rules knows of a page, in the words of what these functions ask for.
 -- Assumes nothing.
-use mathlib.Core.Path.{_≡_, refl}
+use mathlib.Core.Path.{_≡_}
 use mathlib.Core.Bool.{true, false}
 use mathlib.Core.Option.{none}
 use Prim.Native.Nat.{ℕ, _<_}
@@ -10,11 +10,10 @@ use lib.ListN.{length}
 use Rattle.rules.specs.Layout.{leafRoom, innerRoom}
 use Rattle.rules.specs.Entry.{find}
 use Rattle.rules.specs.Page.{View, isLeaf}
-use Rattle.rules.specs.Walk.{Step}
-use Rattle.rules.specs.Insert.{full, divide, previousOf, twins}
+use Rattle.rules.specs.Insert.{full}
 use Rattle.rules.proofs.Entries.{absent}
 use Rattle.edit.proofs.Put.{or-none}
-use Rattle.edit.specs.Takes.{TakesCert, twinsOf}
+use Rattle.edit.specs.Takes.{TakesCert}
 
 -- a page that is not full has room
 pub room-left : (v : View) → full v ≡ false → (length (v .certs) < leafRoom) × (length (v .children) < innerRoom)
@@ -26,9 +25,3 @@ room-left v h =
 -- a leaf that is not full and where nothing is found under a key takes it
 pub takes-cert : (k : ℕ) (v : View) → isLeaf v ≡ true → full v ≡ false → find k (v .certs) ≡ none → TakesCert k v
 takes-cert k v e f n = record { leaf = e; room = room-left v f .0; absent = absent k (v .certs) n }
-
--- the entry that the rules make two
-pub twins-of : (c : ℕ) (s : Step) (lower upper : ℕ)
-    → twins c s lower upper ≡ twinsOf c (s .page .low) lower (divide (s .page .view)) upper (previousOf c s)
-unfolding twins twinsOf
-twins-of c s lower upper = refl

@@ -57,8 +57,9 @@ change-bytes b es v c h k l e f =
     ∙ rw (length-headerBytes p) (sets-comm (headerBytes p) es b 0 headerSize (rw (length-headerBytes p) (omega arith)))
     ∙ stamp-header b es v c (bytes-sets es b headerSize h k) (omega arith) e
 
--- ---- entries written over a page's old ones: those before and behind a new one are read off the page itself
+-- ── Entries written over a page's old ones ──────────────────────────────────────────────────────────────────────
 
+-- those before and behind a new one are read off the page itself
 module _ {A : Type 0} (read : List ℕ → A) (write : A → List ℕ) (size : ℕ) (sized : (x : A) → length (write x) ≡ size) (forth : (b : List ℕ) → Bytes b → size ≤ length b → write (read b) ≡ take size b) where
   -- the bytes of the first j entries, and of those from j on
   write-before : (b : List ℕ) (off k j : ℕ) → Bytes b → off + size * k ≤ length b → j ≤ k

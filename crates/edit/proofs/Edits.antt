@@ -26,7 +26,7 @@ use Rattle.edit.specs.Takes.{TakesCert, TakesChild, HasChild}
 pub spot-below : (size k key j : ℕ) (b : List ℕ) → j ≡ spotOf key (keysIn size k b) → j ≤ k
 spot-below size k key j b e = omega (arith, spot-bound key (keysIn size k b), length-keysIn size k b)
 
--- ---- entries of either size
+-- ── Entries of either size ──────────────────────────────────────────────────────────────────────────────────────
 
 module _ {B : Type 0} (read : List ℕ → Entry B) (write : Entry B → List ℕ) (size : ℕ) (sized : (x : Entry B) → length (write x) ≡ size) (forth : (b : List ℕ) → Bytes b → size ≤ length b → write (read b) ≡ take size b) (keyed : (k : ℕ) (b : List ℕ) → keys (readEach read size k (drop headerSize b)) ≡ keysIn size k b) (b : List ℕ) (k : ℕ) (h : Bytes b) (x : Entry B) (j : ℕ) (e : j ≡ spotOf (x .key) (keysIn size k b)) where
   abbrev old : List (Entry B)
@@ -65,7 +65,7 @@ module _ {B : Type 0} (read : List ℕ → Entry B) (write : Entry B → List �
     bytes-other l =
         rw other-at (write-other read write size sized forth b headerSize k (j - 1) x h l (omega (arith, spot-other, spot-below size k (x .key) j b e)))
 
--- ---- a leaf
+-- ── A leaf ──────────────────────────────────────────────────────────────────────────────────────────────────────
 
 pub leaf-room : (b : List ℕ) (key : ℕ) → TakesCert key (viewIn b) → leAt b 2 2 < leafRoom
 leaf-room b key t = rw (viewIn-leaf b (sym (isLeaf-viewIn b) ∙ t .leaf), length-readEach) at (t .room)
@@ -89,7 +89,7 @@ cert-bytes b x c j h l t e =
     change-bytes b (writeEach certBytes xs) v c h (bytes-writeCerts xs) (rw (length-writeCerts xs, n) (omega arith)) (rw leaf) w
     ∙ rw (counted, bytes-more certIn certBytes certSize length-certBytes certBytes-certIn keys-certs b k h x j e absent (omega arith), d)
 
--- ---- an inner page
+-- ── An inner page ───────────────────────────────────────────────────────────────────────────────────────────────
 
 pub inner-room : (b : List ℕ) → isLeaf (viewIn b) ≡ false → length (viewIn b .children) < innerRoom → leAt b 2 2 < innerRoom
 inner-room b e h = rw (viewIn-inner b (sym (isLeaf-viewIn b) ∙ e), length-readEach) at h
