@@ -11,8 +11,8 @@ use borrow.Author.Tests.{ne-eqb, eqb-true, eqb-false, leb-true, le-leb, lt-leb}
 use Rattle.fields.specs.Field.{leAt}
 use Rattle.rules.specs.Layout.{headerSize, certSize, childSize, leafKind, topKind, leafRoom, innerRoom}
 use Rattle.rules.specs.Test.{between, every, all}
-use Rattle.rules.specs.Entry.{Entry, Cert, Child, Below, keys, rising}
-use Rattle.rules.specs.Page.{View, Page, isLeaf, readEach, certIn, childIn, pageIn}
+use Rattle.rules.specs.Entry.{Cert, Child, keys, rising}
+use Rattle.rules.specs.Page.{Page, isLeaf, readEach, certIn, childIn, pageIn}
 use Rattle.rules.specs.Sound.{startsAt, inOrder, sound}
 use Rattle.rules.proofs.Each.{length-readEach}
 use Rattle.rules.proofs.Tests.{between-of, between-below, between-above, every-true}

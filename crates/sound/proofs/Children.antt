@@ -2,13 +2,13 @@
 use Prim.Native.Nat.{ℕ, _-_, _≤_, _<_}
 use mathlib.Core.Path.{_≡_, refl, sym}
 use mathlib.Core.Bool.{Bool, true, false, not, and-false}
-use mathlib.Core.List.{List, []}
+use mathlib.Core.List.{List}
 use native.Mathlib.Omega.{arith}
 use lib.Dec.{eqb, ltb}
 use lib.ListN.{drop}
 use borrow.Author.Tests.{eq-eqb, ne-eqb}
 use Rattle.rules.specs.Layout.{headerSize, childSize}
-use Rattle.rules.specs.Entry.{Entry, Child, Below}
+use Rattle.rules.specs.Entry.{Child}
 use Rattle.rules.specs.Page.{readEach, childIn}
 use Rattle.rules.specs.Sound.{startsAt, namesPages}
 use Rattle.rules.proofs.Tests.{between-of, between-below, between-above}

@@ -10,7 +10,7 @@ use borrow.Author.Tests.{eq-eqb}
 use Rattle.fields.specs.Field.{number, leAt}
 use Rattle.rules.specs.Layout.{pageSize}
 use Rattle.rules.specs.Test.{every}
-use Rattle.rules.specs.Page.{View, Page, pageIn}
+use Rattle.rules.specs.Page.{pageIn}
 use Rattle.rules.specs.Table.{pageAt, read}
 use Rattle.rules.specs.Sound.{sound}
 use Rattle.rules.specs.Place.{kindAsked, fits}

@@ -10,8 +10,8 @@ use borrow.Author.Tests.{eq-eqb, ne-eqb, le-leb, not-true, not-false}
 use Rattle.fields.specs.Field.{leAt}
 use Rattle.rules.specs.Layout.{headerSize, childSize, leafKind}
 use Rattle.rules.specs.Test.{between, every, mem}
-use Rattle.rules.specs.Entry.{Entry, Child, Below, keys}
-use Rattle.rules.specs.Page.{View, Page, isLeaf, readEach, childIn, viewIn, pageIn}
+use Rattle.rules.specs.Entry.{keys}
+use Rattle.rules.specs.Page.{Page, isLeaf, readEach, childIn, viewIn, pageIn}
 use Rattle.rules.specs.Sound.{sound}
 use Rattle.rules.specs.Place.{kindAsked, mendable}
 use Rattle.rules.specs.declared.Place.{Place}

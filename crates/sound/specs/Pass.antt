@@ -5,9 +5,9 @@ use mathlib.Core.List.{List, [], _∷_}
 use lib.Dec.{leb, eqb}
 use Rattle.rules.specs.Test.{between, every, all, mem}
 use Rattle.rules.specs.Key.{goodKey}
-use Rattle.rules.specs.Entry.{Entry, Cert, Child, Below, keys}
+use Rattle.rules.specs.Entry.{Cert, Child, keys}
 use Rattle.rules.specs.Sound.{startsAt, namesPages, inOrder, sound}
-use Rattle.rules.specs.Page.{View, Page, isLeaf}
+use Rattle.rules.specs.Page.{Page, isLeaf}
 use Rattle.rules.specs.Place.{kindAsked}
 use Rattle.rules.specs.declared.Place.{Place}
 

@@ -8,7 +8,7 @@ use borrow.Author.Needs.{needs}
 use lib.ListN.{drop}
 use Rattle.rules.specs.Layout.{headerSize, certSize}
 use Rattle.rules.specs.Key.{goodKey}
-use Rattle.rules.specs.Entry.{Entry, Cert}
+use Rattle.rules.specs.Entry.{Cert}
 use Rattle.rules.specs.Page.{readEach, certIn}
 use Rattle.head.specs.Head.{certAt}
 use Rattle.sound.specs.Pass.{certsPass}
