@@ -1,20 +1,16 @@
 -- The page that was entered stands in the table that entering leaves: a mended page is read as it was built.
 -- Assumes nothing.
-use mathlib.Core.Path.{_≡_, refl, sym, ap, _∙_}
-use mathlib.Core.Bool.{Bool, true, false}
+use mathlib.Core.Path.{_≡_, ap, _∙_}
+use mathlib.Core.Bool.{true}
 use mathlib.Core.List.{List}
-use mathlib.Core.Option.{Option, some, none, Option·some-injective, Option·none-ne-some}
-use mathlib.Core.Logic.{_≢_}
-use Prim.Native.Nat.{ℕ, _+_, _*_, _^_, _≤_, _<_}
+use Prim.Native.Nat.{ℕ, _*_, _^_, _<_}
 use native.Mathlib.Omega.{arith}
 use lib.ListN.{length}
 use Rattle.fields.specs.Field.{Bytes}
-use Rattle.rules.specs.Layout.{pageSize, leafRoom, innerRoom}
-use Rattle.rules.specs.Test.{mem}
-use Rattle.rules.specs.Entry.{cut}
-use Rattle.rules.specs.Page.{View, Page, isLeaf, count, fresh, pageBytes}
+use Rattle.rules.specs.Layout.{pageSize}
+use Rattle.rules.specs.Page.{Page, fresh}
 use Rattle.rules.specs.Table.{pageAt, read, build}
-use Rattle.rules.specs.Place.{fits, mendable, mended, cutView}
+use Rattle.rules.specs.Place.{mendable, mended, cutView}
 use Rattle.rules.specs.Enter as rules
 use Rattle.rules.specs.declared.Place.{Place}
 use Rattle.head.specs.Head.{headIn}
@@ -24,10 +20,10 @@ use Rattle.rules.proofs.Entries.{length-cut}
 use Rattle.rules.proofs.Pages.{Wide, room-pageBytes}
 use Rattle.rules.proofs.Tables.{has-page, Room, wide-read, read-build-same}
 use Rattle.rules.proofs.Widths.{wide-mended}
-use Rattle.rules.proofs.Places.{Mendable, mendable-true}
+use Rattle.rules.proofs.Places.{mendable-true}
 use Rattle.enter.specs.Entering.{entering, told}
 use Rattle.enter.specs.declared.Entered.{Entered}
-use Rattle.enter.proofs.Told.{mend-page, enter-fits}
+use Rattle.enter.proofs.Told.{mend-page}
 
 -- every number of a place, and the counter, fits its field
 pub record Narrow (c : ℕ) (e : Place) : Type 0 where

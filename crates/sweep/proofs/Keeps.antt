@@ -2,16 +2,13 @@
 use mathlib.Core.Path.{_≡_, refl, sym, ap, _∙_, subst}
 use mathlib.Core.Bool.{Bool, true, false}
 use mathlib.Core.List.{List, [], _∷_, List·Memᴰ, List·Memᴰ·head, List·Memᴰ·tail}
-use mathlib.Core.Option.{Option, some, none, Option·some-injective, Option·none-ne-some}
+use mathlib.Core.Option.{Option, some, none}
 use Prim.Native.Nat.{ℕ, zero, suc, _*_}
 use native.Mathlib.Omega.{arith}
-use borrow.Author.Tests.{eqb-true, eqb-false}
-use lib.Dec.{eqb}
 use lib.ListN.{length}
 use Rattle.fields.specs.Field.{Bytes}
 use Rattle.rules.specs.Layout.{pageSize}
 use Rattle.rules.specs.Test.{mem}
-use Rattle.rules.specs.Entry.{Entry, Child, Below, find}
 use Rattle.rules.specs.Page.{Page}
 use Rattle.rules.specs.Table.{pageAt, read}
 use Rattle.rules.specs.Place.{kids, mended}
@@ -20,15 +17,14 @@ use Rattle.rules.specs.Walk.{Walked, enters, finds, stops, walkEach, walk}
 use Rattle.rules.specs.declared.Asked.{Asked}
 use Rattle.rules.specs.declared.Place.{Place}
 use Rattle.rules.proofs.All.{All, nil, cons}
-use Rattle.rules.proofs.EntryBytes.{WideChild}
 use Rattle.rules.proofs.Pages.{Wide}
 use Rattle.rules.proofs.Tables.{has-page, wide-read, pageAt-build-other}
-use Rattle.rules.proofs.Entries.{find-head, find-tail}
 use Rattle.rules.proofs.Tests.{mem-tail, not-both}
 use Rattle.rules.proofs.Places.{Fits}
 use Rattle.rules.proofs.Picks.{belowOf}
 use Rattle.rules.proofs.Asks.{kids-mem, kids-names}
-use Rattle.enter.proofs.Mended.{Narrow, room-mended}
+use Rattle.enter.proofs.Mended.{room-mended}
+use Rattle.enter.proofs.Finds.{wide-find}
 use Rattle.enter.proofs.Stands.{Comes, stood, mends, comes, stands, stays-long, stays-bytes, found-fits}
 use Rattle.sweep.specs.Sweeps.{Ready}
 
@@ -53,22 +49,6 @@ keeps-fewer i {above} k = record { long = k .long; bytes = k .bytes; same = λ j
 each-mem : {A : Type 0} {P : A → Type 0} (xs : List A) → ((x : A) → List·Memᴰ x xs → P x) → All P xs
 each-mem [] f = nil
 each-mem (x ∷ xs) f = cons (f x (List·Memᴰ·head refl)) (each-mem xs (λ y m. f y (List·Memᴰ·tail m)))
-
-same-entry : {j k : ℕ} {a b : Below} → j ≡ k → a ≡ b → _≡_ {A = Child} (record { key = j; value = a }) (record { key = k; value = b })
-same-entry p q = cc
-
--- what is found among entries that fit their fields fits
-wide-find : {xs : List Child} (k : ℕ) (v : Below) → All WideChild xs → find k xs ≡ some v → WideChild (record { key = k; value = v })
-unfolding find
-wide-find k v nil h = absurd (Option·none-ne-some v h)
-wide-find k v (cons {x = x} {xs} w m) h = go (eqb k (x .key)) refl (wide-find k v m)
-  where
-    go : (t : Bool) → eqb k (x .key) ≡ t → (find k xs ≡ some v → WideChild (record { key = k; value = v }))
-        → WideChild (record { key = k; value = v })
-    go true e ih =
-        let q = Option·some-injective (x .value) v (sym (find-head k x xs (eqb-true k (x .key) e)) ∙ h) in
-        subst WideChild (same-entry (sym (eqb-true k (x .key) e)) q) w
-    go false e ih = ih (sym (find-tail k x xs (eqb-false k (x .key) e)) ∙ h)
 
 module _ {n c : ℕ} (t : List ℕ) {e : Place} (r : Ready n c e) (l : length t ≡ n * pageSize) (b : Bytes t) (above : List ℕ) where
   enter-same-pages : (x : entry.Entered) → Comes n c above t e x → (j : ℕ) → mem j above ≡ true → pageAt (x .table) j ≡ pageAt t j
