@@ -11,8 +11,8 @@ use borrow.Author.Tests.{ltb-true, ltb-false}
 use Rattle.fields.specs.Field.{leAt}
 use Rattle.rules.specs.Layout.{headerSize, certSize, leafKind}
 use Rattle.rules.specs.Test.{between}
-use Rattle.rules.specs.Entry.{Entry, Cert, cut}
-use Rattle.rules.specs.Page.{View, Page, readEach, certIn, pageIn}
+use Rattle.rules.specs.Entry.{Cert, cut}
+use Rattle.rules.specs.Page.{View, readEach, certIn, pageIn}
 use Rattle.rules.specs.Table.{pageAt, read}
 use Rattle.rules.specs.Walk.{Walked, finds}
 use Rattle.rules.specs.declared.Asked.{Asked}

@@ -13,7 +13,7 @@ use Rattle.fields.specs.Field.{Bytes, leAt}
 use Rattle.rules.specs.Layout.{pageSize, headerSize, childSize, leafKind, leafRoom, innerRoom}
 use Rattle.rules.specs.Test.{mem}
 use Rattle.rules.specs.Entry.{Child}
-use Rattle.rules.specs.Page.{View, Page, readEach, childIn, pageIn}
+use Rattle.rules.specs.Page.{Page, readEach, childIn, pageIn}
 use Rattle.rules.specs.Table.{pageAt, read}
 use Rattle.rules.specs.Place.{placesIn, kids}
 use Rattle.rules.specs.Enter as entry
@@ -37,7 +37,7 @@ use Rattle.sweep.specs.declared.Sofar.{Sofar}
 use Rattle.sweep.specs.declared.Run.{Run}
 use Rattle.sweep.proofs.Tests.{run-leaf, run-inner}
 use Rattle.sweep.proofs.Notes.{finds-noted, known-told, kind-here, count-here}
-use Rattle.sweep.proofs.Keeps.{Keeps, page-here, page-fits, kids-ready, walk-keeps}
+use Rattle.sweep.proofs.Keeps.{page-here, page-fits, kids-ready, walk-keeps}
 
 -- ── The state, read ─────────────────────────────────────────────────────────────────────────────────────────────
 

@@ -7,13 +7,12 @@ use borrow.Author.Tests.{lt-ltb, le-ltb, le-leb, lt-leb, eq-eqb, ne-eqb}
 use lib.Dec.{ltb}
 use Rattle.rules.specs.Layout.{leafKind}
 use Rattle.rules.specs.Test.{between, every}
-use Rattle.rules.specs.Entry.{Entry, Cert}
+use Rattle.rules.specs.Entry.{Cert}
 use Rattle.rules.specs.declared.Asked.{Asked}
 use Rattle.rules.specs.declared.Place.{Place}
 use Rattle.head.specs.declared.Head.{Head}
 use Rattle.sweep.specs.Sweeps.{noted, runOf}
 use Rattle.sweep.specs.declared.Sofar.{Sofar}
-use Rattle.sweep.specs.declared.Run.{Run}
 
 -- ── Four tests ──────────────────────────────────────────────────────────────────────────────────────────────────
 

@@ -7,7 +7,7 @@ use lib.Dec.{leb, ltb, eqb}
 use lib.ListN.{length, drop, getD}
 use Rattle.rules.specs.Layout.{headerSize, childSize, leafKind, innerRoom}
 use Rattle.rules.specs.Test.{between, every}
-use Rattle.rules.specs.Entry.{Entry, Cert}
+use Rattle.rules.specs.Entry.{Cert}
 use Rattle.rules.specs.Page.{readEach, childIn}
 use Rattle.rules.specs.Table.{pageAt}
 use Rattle.rules.specs.Place.{placesIn}

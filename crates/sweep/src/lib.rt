@@ -22,7 +22,6 @@ ghost use Rattle.rules.specs.Layout.{pageSize, headerSize, certSize, leafRoom, 
 ghost use Rattle.rules.specs.Page.{readEach, certIn};
 ghost use Rattle.rules.specs.Table.{pageAt, read, fit0};
 ghost use Rattle.rules.specs.Walk.{Walked, walk, walkEach, walkOf};
-ghost use Rattle.rules.specs.Entry.{Entry};
 ghost use Rattle.head.proofs.Headers.{headOf};
 ghost use Rattle.sweep.specs.Sweeps.{sweeping, told, entersBy, stopped, noted, noteEach, aboveAt, Deep, Ready, placesLeft, runOf, firstOf, restOf, skipOf, Lies, Known};
 

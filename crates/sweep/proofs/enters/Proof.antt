@@ -1,3 +1,4 @@
+-- `sweep::enters`: the tests one after the other; the last decides. Assumes nothing.
 use borrow.Author.Tests.{not-true, not-false, lt-ltb, le-ltb, le-leb, lt-leb}
 use Rattle.sweep.specs.Sweeps.{entersBy}
 use Rattle.sweep.proofs.Tests.{first-fails, second-fails, third-fails, fourth-decides}

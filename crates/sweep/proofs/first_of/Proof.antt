@@ -1,3 +1,4 @@
+-- `sweep::first_of`: the entry read is that of the run's first place. Assumes nothing.
 use Rattle.sweep.specs.Sweeps.{firstOf, places}
 use borrow.Author.Needs.{needs}
 use Rattle.sweep.proofs.first_of.Statement.{statement}

@@ -1,3 +1,4 @@
+-- `sweep::note`: nothing is noted out of the range or without room, else one certificate more. Assumes nothing.
 use Rattle.sweep.proofs.Tests.{noted-low, noted-high, noted-full, noted-more}
 use native.Mathlib.Omega.{arith}
 use borrow.Author.Needs.{needs}

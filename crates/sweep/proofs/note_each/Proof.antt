@@ -1,3 +1,4 @@
+-- `sweep::note_each`: at each turn what was noted and the certificates left come to what all come to. Assumes nothing.
 use Prim.Native.Nat.{_-_, _≤_}
 use mathlib.Core.Path.{_≡_, refl, sym, _∙_}
 use Rattle.rules.specs.Table.{pageAt}

@@ -1,3 +1,4 @@
+-- `sweep::note_page`: an inner page has no certificates; a leaf's are those that its header counts. Assumes nothing.
 use mathlib.Core.Path.{ap, _∙_}
 use lib.ListN.{length, drop}
 use Rattle.rules.specs.Layout.{headerSize, certSize}

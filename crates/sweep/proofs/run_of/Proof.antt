@@ -1,3 +1,4 @@
+-- `sweep::run_of`: a leaf has nothing to walk; an inner page's entries ask for the kind below its own. Assumes nothing.
 use Rattle.sweep.proofs.Tests.{run-leaf, run-inner}
 use borrow.Author.Needs.{needs}
 use Rattle.sweep.proofs.run_of.Statement.{statement}

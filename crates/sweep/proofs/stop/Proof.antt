@@ -1,3 +1,4 @@
+-- `sweep::stop`: by computing. Assumes nothing.
 use mathlib.Core.Path.{refl}
 use Rattle.sweep.proofs.stop.Statement.{statement}
 use Rattle.sweep.proofs.stop.Tie as tie

@@ -1,3 +1,4 @@
+-- `sweep::sweep`: the page walk from the root, with nothing above and nothing found. Assumes nothing.
 use Rattle.sweep.proofs.Roots.{has-zero, no-above, ready-root, known-nothing, whole-walk}
 use native.Mathlib.Omega.{arith}
 use borrow.Author.Needs.{needs}
