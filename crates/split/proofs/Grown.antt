@@ -1,9 +1,9 @@
 -- A new root: what the calls leave together. Assumes nothing.
-use Prim.Native.Nat.{ℕ, _+_, _≤_, _<_}
-use mathlib.Core.Path.{_≡_, refl, ap}
+use Prim.Native.Nat.{ℕ, _+_}
+use mathlib.Core.Path.{_≡_}
 use mathlib.Core.List.{List}
 use Rattle.rules.specs.Layout.{lastKey}
-use Rattle.rules.specs.Page.{Page, fresh}
+use Rattle.rules.specs.Page.{fresh}
 use Rattle.rules.specs.Table.{read, build, setRoot}
 use Rattle.rules.specs.Marks.{taken}
 use Rattle.rules.specs.Insert.{newChild, rootOver, making, grow}

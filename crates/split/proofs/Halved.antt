@@ -1,17 +1,17 @@
 -- A page halved: what the calls one after the other ask for, and what they leave together. Assumes nothing.
-use Prim.Native.Nat.{ℕ, _+_, _*_, _≤_, _<_}
+use Prim.Native.Nat.{ℕ}
 use native.Mathlib.Omega.{arith}
-use mathlib.Core.Path.{_≡_, refl, sym, ap, _∙_, subst}
+use mathlib.Core.Path.{_≡_, sym, ap, _∙_, subst}
 use mathlib.Core.List.{List}
 use lib.ListN.{length, length-take, length-drop}
-use Rattle.rules.specs.Layout.{pageSize, mostPages, leafRoom, innerRoom, leafHalf, innerHalf}
-use Rattle.rules.specs.Page.{View, Page, fresh}
+use Rattle.rules.specs.Layout.{leafHalf, innerHalf}
+use Rattle.rules.specs.Page.{Page, fresh}
 use Rattle.rules.specs.Table.{read, build}
 use Rattle.rules.specs.Marks.{taken}
-use Rattle.rules.specs.Insert.{divide, lowerHalf, upperHalf, lowerPage, upperPage, previousOf, twins, changed, making, halve, retire}
+use Rattle.rules.specs.Insert.{divide, lowerHalf, upperHalf, lowerPage, upperPage, twins, changed, making, halve}
 use Rattle.rules.specs.declared.Place.{Place}
 use Rattle.rules.specs.declared.Session.{Session}
-use Rattle.rules.proofs.Views.{Shaped, shaped-read, shaped-lower, shaped-upper}
+use Rattle.rules.proofs.Views.{shaped-read, shaped-lower, shaped-upper}
 use Rattle.rules.proofs.Pages.{room-pageBytes}
 use Rattle.rules.proofs.Tables.{Room, read-build-other}
 use Rattle.head.specs.declared.Head.{Head}

@@ -8,7 +8,7 @@ use lib.Dec.{eqb, ltb}
 use lib.ListN.{length}
 use Rattle.rules.specs.Layout.{pageSize, mostPages, leafKind}
 use Rattle.rules.specs.Table.{read}
-use Rattle.rules.specs.Marks.{taken, freed, waits}
+use Rattle.rules.specs.Marks.{freed, waits}
 use Rattle.rules.specs.Walk as rules
 use Rattle.rules.specs.Insert.{divide}
 use Rattle.rules.specs.declared.Place.{Place}

@@ -1,3 +1,4 @@
+-- `split::frees`: where the halves inherit, the split page's birth decides. Assumes nothing.
 use mathlib.Core.Path.{sym, _∙_}
 use Rattle.split.proofs.ByHead.{frees-heir, frees-none}
 use borrow.Author.Needs.{needs}

@@ -1,3 +1,4 @@
+-- `split::grow`: the root built, named in page 0 and taken are what the rules grow. Assumes nothing.
 use Rattle.split.proofs.Grown.{grown}
 use borrow.Author.Needs.{needs}
 use Rattle.split.proofs.grow.Statement.{statement}

@@ -1,3 +1,5 @@
+-- `split::halve`: what is built first leaves the split page and the page above as they were, so each step finds what it asks for.
+-- Assumes nothing.
 use Rattle.split.proofs.Halved.{divides-still, takes-still, halved}
 use native.Mathlib.Omega.{arith}
 use borrow.Author.Needs.{needs}

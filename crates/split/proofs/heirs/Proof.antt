@@ -1,3 +1,4 @@
+-- `split::heirs`: of a leaf its built decides; the halves of an inner page never inherit. Assumes nothing.
 use Rattle.split.proofs.ByHead.{heirs-leaf, heirs-inner}
 use Rattle.split.proofs.heirs.Statement.{statement}
 use Rattle.split.proofs.heirs.Tie as tie

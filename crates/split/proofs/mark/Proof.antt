@@ -1,3 +1,4 @@
+-- `split::mark`: the three moves one after the other. Assumes nothing.
 use borrow.Author.Needs.{needs}
 use Rattle.split.proofs.mark.Statement.{statement}
 use Rattle.split.proofs.mark.Tie as tie

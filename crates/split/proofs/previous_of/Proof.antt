@@ -1,3 +1,4 @@
+-- `split::previous_of`: the halves inherit the entry's previous page, or the split page is theirs. Assumes nothing.
 use mathlib.Core.Path.{sym, _∙_}
 use Rattle.split.proofs.ByHead.{previous-heir, previous-self}
 use borrow.Author.Needs.{needs}

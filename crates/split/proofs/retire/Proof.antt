@@ -1,3 +1,4 @@
+-- `split::retire`: the session is the one that releases the page, or the one where it waits. Assumes nothing.
 use mathlib.Core.Path.{sym, _∙_}
 use Rattle.split.proofs.ByHead.{retire-free, retire-wait}
 use borrow.Author.Needs.{needs}

@@ -1,3 +1,4 @@
+-- `split::root_previous`: the old root's built decides. Assumes nothing.
 use Rattle.split.proofs.ByHead.{root-built, root-older}
 use Rattle.split.proofs.root_previous.Statement.{statement}
 use Rattle.split.proofs.root_previous.Tie as tie

@@ -1,3 +1,4 @@
+-- `split::side`: one comparison with the key that divides the page. Assumes nothing.
 use Rattle.split.proofs.ByHead.{side-lower, side-upper}
 use Rattle.split.proofs.side.Statement.{statement}
 use Rattle.split.proofs.side.Tie as tie
