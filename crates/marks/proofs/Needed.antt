@@ -8,10 +8,7 @@ use borrow.Author.Tests.{lt-ltb, le-ltb, ltb-true, ltb-false}
 use lib.Dec.{ltb}
 use lib.ListN.{length, getD, take, drop, replicate, length-take, getD-replicate, List·getD-append, List·getD-eq-default}
 use lib.Seq.{take-all, length-take-le, getD-take, getD-drop, getD-append-add}
-use Rattle.rules.specs.Test.{mem}
 use Rattle.rules.specs.Page.{over}
-use Rattle.rules.specs.Marks.{freePages}
-use Rattle.rules.specs.declared.Session.{Session}
 use Rattle.marks.specs.Lowest.{lowestOf}
 
 module _ (need : ℕ) (free : List ℕ) where
@@ -48,8 +45,3 @@ module _ (need : ℕ) (free : List ℕ) where
           ∙ (getD-append-add free (drop (length free) (replicate 7 0)) (j - length free) 0
           ∙ (getD-drop (length free) (replicate 7 0) (j - length free) 0
           ∙ (ap (λ (i : ℕ). getD (replicate 7 0) i 0) (sym s) ∙ getD-replicate 7 j 0 0 (omega arith)))))
-
--- the free pages go by what was entered, not by its order
-pub freePages-same : (s : Session) (a b : List ℕ) → ((i : ℕ) → mem i a ≡ mem i b) → freePages s a ≡ freePages s b
-unfolding freePages
-freePages-same s a b h = simp h
