@@ -116,7 +116,8 @@ apart-of (x ∷ xs) (y ∷ ys) f = and-of (ap not (f zero)) (apart-of xs ys (λ 
 
 -- ── From no marks on ────────────────────────────────────────────────────────────────────────────────────────────
 
-none-at : (size i : ℕ) → getD (replicate size false) i false ≡ false
+-- fresh marks mark nothing
+pub none-at : (size i : ℕ) → getD (replicate size false) i false ≡ false
 none-at zero i = refl
 none-at (suc k) zero = refl
 none-at (suc k) (suc i) = none-at k i

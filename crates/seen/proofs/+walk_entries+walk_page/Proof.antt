@@ -1,5 +1,7 @@
+-- `seen::walk_page` and `seen::walk_entries`, which call each other: the level falls, and within a level the entries left.
+-- Assumes nothing.
 use mathlib.Core.Path.{ap, sym, _∙_}
-use Rattle.rules.specs.Tree.{tree, treeEach}
+use Rattle.rules.specs.Tree.{tree}
 use Rattle.seen.specs.declared.Run.{Run}
 use Rattle.seen.specs.Note.{seenOf, note}
 use Rattle.seen.proofs.Noting.{note-broken}
@@ -7,7 +9,7 @@ use Rattle.seen.proofs.Shows.{showing}
 use Rattle.seen.proofs.Trees.{run-none, run-step, lies-rest, page-deep, page-damaged, page-walk}
 use borrow.Author.Needs.{needs}
 use native.Mathlib.Omega.{arith}
-use Prim.Native.Nat.{ℕ, _<_, _+_, _*_, _-_}
+use Prim.Native.Nat.{ℕ, _<_, _+_, _*_}
 use borrow.Fn.Kinds.{In}
 use borrow.Fn.PlainCycle.{Measures, is, falls, and}
 use Rattle.seen.proofs.walk_entries.Reads as walk-entries

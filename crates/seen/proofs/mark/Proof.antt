@@ -1,3 +1,4 @@
+-- `seen::mark`: beyond the marks nothing changes. Assumes nothing.
 use Rattle.seen.proofs.Beyond.{mark-beyond}
 use borrow.Author.Needs.{needs}
 use Rattle.seen.proofs.mark.Statement.{statement}

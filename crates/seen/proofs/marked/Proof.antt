@@ -1,3 +1,4 @@
+-- `seen::marked`: beyond the marks nothing is marked. Assumes nothing.
 use Rattle.seen.proofs.Beyond.{marked-beyond}
 use borrow.Author.Needs.{needs}
 use Rattle.seen.proofs.marked.Statement.{statement}

@@ -1,6 +1,6 @@
+-- `seen::name_place`: the child is named; of a lost one the page that shows it is spared. Assumes nothing.
 use Rattle.seen.proofs.Noting.{note-child, note-lost}
 use Rattle.seen.specs.Note.{seenOf}
-use mathlib.Core.Path.{_≡_, refl}
 use borrow.Author.Needs.{needs}
 use Rattle.seen.proofs.name_place.Statement.{statement}
 use Rattle.seen.proofs.name_place.Tie as tie

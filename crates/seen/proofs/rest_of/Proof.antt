@@ -1,3 +1,4 @@
+-- `seen::rest_of`: by computing. Assumes nothing.
 use mathlib.Core.Path.{refl}
 use borrow.Author.Needs.{needs}
 use Rattle.seen.proofs.rest_of.Statement.{statement}

@@ -1,3 +1,4 @@
+-- `seen::walk`: the page walk from the root, with nothing noted. Assumes nothing.
 use mathlib.Core.Path.{ap, _∙_}
 use Rattle.rules.specs.Tree.{tree, treeOf}
 use Rattle.rules.specs.declared.Place.{Place}
