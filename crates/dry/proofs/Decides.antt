@@ -8,10 +8,9 @@ use mathlib.Core.Path.{_≡_, refl, sym, ap, _∙_}
 use mathlib.Core.Logic.{_⊎_, inl, inr, _≢_}
 use mathlib.Core.Bool.{Bool, true, false, _||_}
 use mathlib.Core.List.{List, [], _∷_}
-use mathlib.Core.Option.{none}
 use lib.Dec.{eqb, lit<}
 use borrow.Author.Tests.{ne-eqb}
-use lib.ListN.{length, getD, replicate, length-append, length-replicate}
+use lib.ListN.{length, length-append, length-replicate}
 use Rattle.fields.specs.Field.{Bytes}
 use Rattle.rules.specs.Layout.{pageSize, topKind, mostPages}
 use Rattle.rules.specs.Test.{mem}
@@ -25,6 +24,7 @@ use Rattle.fields.proofs.Field.{leAt-bound}
 use Rattle.rules.specs.Table.{root0, birth0}
 use Rattle.rules.proofs.Tests.{not-both}
 use Rattle.rules.proofs.Views.{inner-kind}
+use Rattle.seen.proofs.Members.{none-at}
 use Rattle.dry.specs.Walk.{marked, meetsWith, meets, counts, breaks, dryEach, dry, untouched, dryOf}
 use Rattle.dry.specs.declared.Dry.{Dry}
 use Rattle.dry.proofs.Chains.{Chain, link, chain-sound}
@@ -182,11 +182,6 @@ module _ (n c : ℕ) (a : Asked) (t : List ℕ) (hn : n ≤ mostPages) (hc : c <
 
 -- ── From the root ───────────────────────────────────────────────────────────────────────────────────────────────
 
-unmarked : (k i : ℕ) → getD (replicate k false) i false ≡ false
-unmarked zero i = refl
-unmarked (suc k) zero = refl
-unmarked (suc k) (suc i) = unmarked k i
-
 module _ (n c : ℕ) (a : Asked) (t : List ℕ) (hn : n ≤ mostPages) (hc : c < 256 ^ 4) (size : length t ≡ n * pageSize) (bytes : Bytes t)
     (from : 1 ≤ root0 t) (root : root0 t < n) where
   asks-root : Asks n topKind (rootPlace t)
@@ -202,7 +197,7 @@ module _ (n c : ℕ) (a : Asked) (t : List ℕ) (hn : n ≤ mostPages) (hc : c <
 
   none-marked : (i : ℕ) → marked (untouched .mended) i ≡ false
   unfolding marked untouched
-  none-marked i = unmarked mostPages i
+  none-marked i = none-at mostPages i
 
   start : Twin n t (record { table = t; whole = true; found = [] }) untouched
   unfolding untouched

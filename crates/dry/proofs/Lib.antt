@@ -4,7 +4,6 @@ pub mod Passed
 pub mod Sights
 pub mod Decides
 pub mod Answers
-pub mod Lists
 pub mod Marks
 pub mod Sources
 pub mod Meets

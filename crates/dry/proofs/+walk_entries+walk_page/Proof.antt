@@ -1,3 +1,5 @@
+-- `dry::walk_page` and `dry::walk_entries`, which call each other: the level falls, and within a level the entries left.
+-- Assumes nothing.
 use borrow.Author.Tests.{not-true, not-false}
 use mathlib.Core.Path.{ap, sym, _∙_}
 use mathlib.Core.List.{[], _∷_}
@@ -9,7 +11,7 @@ use Rattle.dry.proofs.Steps.{step-deep, step-passes, step-damaged}
 use Rattle.dry.proofs.Goes.{sourced, source-counts, source-runs, source-lies, page-goes, run-none, run-step, stop-breaks}
 use borrow.Author.Needs.{needs}
 use native.Mathlib.Omega.{arith}
-use Prim.Native.Nat.{ℕ, _<_, _+_, _*_, _-_}
+use Prim.Native.Nat.{ℕ, _<_, _+_, _*_}
 use borrow.Fn.Kinds.{In}
 use borrow.Fn.PlainCycle.{Measures, is, falls, and}
 use Rattle.dry.proofs.walk_entries.Reads as walk-entries

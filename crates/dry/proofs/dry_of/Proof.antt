@@ -1,3 +1,4 @@
+-- `dry::dry_of`: the page walk from the root, with nothing above and no number marked. Assumes nothing.
 use mathlib.Core.Path.{ap, _∙_}
 use Rattle.rules.specs.declared.Place.{Place}
 use Rattle.dry.specs.Walk.{dry, untouched, dryOf}

@@ -1,3 +1,4 @@
+-- `dry::helps_child`: a marked previous page is no help, of any other the page decides. Assumes nothing.
 use mathlib.Core.Path.{sym, _∙_}
 use Rattle.dry.proofs.Marks.{helps-marked, helps-lies}
 use Rattle.dry.specs.Walk.{marked}

@@ -1,3 +1,4 @@
+-- `dry::keeps_child`: a marked child is lost, of any other the page decides. Assumes nothing.
 use mathlib.Core.Path.{sym, _∙_}
 use Rattle.dry.proofs.Marks.{keeps-marked, keeps-lies}
 use Rattle.dry.specs.Walk.{marked}

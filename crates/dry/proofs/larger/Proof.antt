@@ -1,3 +1,4 @@
+-- `dry::larger`: one comparison. Assumes nothing.
 use Rattle.dry.proofs.Tallies.{larger-right, larger-left}
 use native.Mathlib.Omega.{arith}
 use Rattle.dry.proofs.larger.Statement.{statement}

@@ -1,3 +1,4 @@
+-- `dry::lies_in`: low first, then high. Assumes nothing.
 use Rattle.dry.proofs.Tallies.{lies-below, lies-up-to}
 use native.Mathlib.Omega.{arith}
 use Rattle.dry.proofs.lies_in.Statement.{statement}

@@ -1,3 +1,4 @@
+-- `dry::mark_by`: a child that is its own source leaves the marks alone, any other is marked. Assumes nothing.
 use mathlib.Core.Path.{_∙_}
 use Rattle.dry.proofs.Sources.{marked-own, marked-other}
 use borrow.Author.Needs.{needs}

@@ -1,3 +1,4 @@
+-- `dry::meets_place`: the tests one after the other; the last decides. Assumes nothing.
 use borrow.Author.Tests.{not-true, not-false}
 use Rattle.dry.proofs.Meets.{meets-broken, meets-full, meets-behind, meets-last}
 use native.Mathlib.Omega.{arith}

@@ -1,3 +1,4 @@
+-- `dry::smaller`: one comparison. Assumes nothing.
 use Rattle.dry.proofs.Tallies.{smaller-left, smaller-right}
 use native.Mathlib.Omega.{arith}
 use Rattle.dry.proofs.smaller.Statement.{statement}

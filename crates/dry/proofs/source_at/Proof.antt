@@ -1,3 +1,4 @@
+-- `dry::source_at`: above, kept, helped, or damaged. Assumes nothing.
 use mathlib.Core.Path.{sym, _∙_}
 use Rattle.dry.proofs.Sources.{source-above, source-child, source-previous, source-none}
 use borrow.Author.Needs.{needs}

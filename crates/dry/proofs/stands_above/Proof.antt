@@ -1,3 +1,4 @@
+-- `dry::stands_above`: the parent first, then the page above it. Assumes nothing.
 use Rattle.dry.proofs.Sources.{above-parent, above-top}
 use Rattle.dry.proofs.stands_above.Statement.{statement}
 use Rattle.dry.proofs.stands_above.Tie as tie

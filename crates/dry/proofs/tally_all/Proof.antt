@@ -1,3 +1,4 @@
+-- `dry::tally_all`: no room, room for all, or as many as there is room for. Assumes nothing.
 use Rattle.dry.proofs.Tallies.{all-none, all-fit, all-full}
 use native.Mathlib.Omega.{arith}
 use borrow.Author.Needs.{needs}

@@ -1,3 +1,4 @@
+-- `dry::tally_each`: at each turn the count and the certificates left come to what all come to. Assumes nothing.
 use Prim.Native.Nat.{_-_, _≤_}
 use mathlib.Core.Path.{_≡_, refl, sym, _∙_}
 use Rattle.rules.specs.Table.{pageAt}

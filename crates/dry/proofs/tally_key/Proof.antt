@@ -1,3 +1,4 @@
+-- `dry::tally_key`: a key out of the range or without room is not counted. Assumes nothing.
 use Rattle.dry.proofs.Tallies.{tallied-low, tallied-high, tallied-full, tallied-more}
 use native.Mathlib.Omega.{arith}
 use borrow.Author.Needs.{needs}

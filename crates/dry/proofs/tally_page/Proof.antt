@@ -1,3 +1,5 @@
+-- `dry::tally_page`: an inner page has none; a leaf within the range counts whole, any other key by key.
+-- Assumes nothing.
 use mathlib.Core.Path.{sym, _∙_}
 use Rattle.dry.proofs.Tallies.{leaf-room, tally-inner, tally-leaf, tally-whole}
 use borrow.Author.Needs.{needs}
