@@ -6,7 +6,7 @@ use Prim.Native.Nat.{ℕ, _%_}
 use native.Mathlib.Omega.{arith}
 use lib.ListN.{length}
 use Rattle.rules.specs.Key.{issueOf}
-use Rattle.rules.specs.Entry.{Entry, Cert}
+use Rattle.rules.specs.Entry.{Cert}
 use Rattle.rules.specs.Walk.{Walked}
 use Rattle.rules.specs.Newest.{newestIn}
 use Rattle.rules.specs.declared.Newest.{Newest}

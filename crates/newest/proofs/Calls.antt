@@ -7,7 +7,7 @@ use native.Mathlib.Omega.{arith}
 use lib.Dec.{ltb}
 use borrow.Author.Tests.{lt-ltb, le-ltb}
 use Rattle.rules.specs.Table.{fit0}
-use Rattle.rules.specs.Walk.{Walked, walkOf}
+use Rattle.rules.specs.Walk.{walkOf}
 use Rattle.rules.specs.Call.{Left, lengthsFor}
 use Rattle.rules.specs.Newest as rules
 use Rattle.rules.specs.declared.Session.{Session}

@@ -7,7 +7,6 @@ use Rattle.rules.specs.Call.{Left}
 use Rattle.rules.specs.Newest.{newestIn}
 use Rattle.rules.specs.declared.Newest.{Newest}
 use Rattle.rules.specs.declared.NewestOf.{NewestOf}
-use Rattle.sweep.specs.declared.Sofar.{Sofar}
 
 -- the whole of it
 abbrev pub leaving : NewestOf → List ℕ → List ℕ → Left Newest

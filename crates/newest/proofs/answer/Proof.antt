@@ -1,3 +1,4 @@
+-- `newest::answer`: damaged, nothing found, or the last certificate that was found. Assumes nothing.
 use borrow.Author.Tests.{not-true, not-false}
 use Rattle.newest.proofs.Answers.{met-damage, found-none, found-last}
 use borrow.Author.Needs.{needs}

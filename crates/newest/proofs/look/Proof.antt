@@ -1,3 +1,4 @@
+-- `newest::look`: the answer to what the walk has come to. Assumes nothing.
 use Rattle.rules.specs.Walk.{walkOf}
 use Rattle.newest.proofs.Answers.{seen-told}
 use borrow.Author.Needs.{needs}

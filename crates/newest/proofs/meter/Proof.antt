@@ -1,3 +1,4 @@
+-- `newest::meter`: both ends of the range are keys of the meter. Assumes nothing.
 use Rattle.rules.specs.Newest.{meter}
 use borrow.Author.Needs.{needs}
 use Rattle.newest.proofs.meter.Statement.{statement}

@@ -1,3 +1,4 @@
+-- `newest::newest`: each return is one of the ways that the rules name. Assumes nothing.
 use mathlib.Core.Path.{refl, sym, _∙_}
 use borrow.Author.Tests.{not-true, not-false}
 use Rattle.rules.proofs.Lengths.{lengthsFor-true}
