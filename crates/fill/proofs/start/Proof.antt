@@ -1,3 +1,4 @@
+-- `fill::start`: no key is below 0; otherwise those below are those not above the number before. Assumes nothing.
 use mathlib.Core.Path.{sym, _∙_}
 use Rattle.entries.specs.Spot.{keysIn, startOf}
 use Rattle.rules.specs.Layout.{certSize}

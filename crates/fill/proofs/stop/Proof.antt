@@ -1,3 +1,4 @@
+-- `fill::stop`: by computing. Assumes nothing.
 use mathlib.Core.Path.{refl}
 use Rattle.fill.proofs.stop.Statement.{statement}
 use Rattle.fill.proofs.stop.Tie as tie
