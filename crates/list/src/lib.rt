@@ -18,7 +18,7 @@ ghost use Prim.Native.Nat.{ℕ, min, _*_, _^_, _≤_, _<_};
 ghost use lib.ListN.{length};
 ghost use Rattle.rules.specs.Layout.{pageSize, mostPages, lastKey};
 ghost use Rattle.rules.specs.Table.{fit0};
-ghost use Rattle.rules.specs.Walk.{Walked, walkOf};
+ghost use Rattle.rules.specs.Walk.{walkOf};
 ghost use Rattle.rules.specs.List as rules;
 ghost use Rattle.fill.specs.Fills.{Roomy};
 ghost use Rattle.list.specs.Lists.{leaving, telling, told};

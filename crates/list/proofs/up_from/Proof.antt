@@ -1,3 +1,4 @@
+-- `list::up_from`: the shorter of the two lists is the room. Assumes nothing.
 use Rattle.list.proofs.Tells.{keys-shorter, records-shorter}
 use Rattle.list.proofs.up_from.Statement.{statement}
 use Rattle.list.proofs.up_from.Tie as tie
