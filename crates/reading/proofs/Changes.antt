@@ -3,7 +3,7 @@ use Prim.Native.Nat.{ℕ, _*_, _^_, _≤_, _<_}
 use native.Mathlib.Omega.{arith}
 use mathlib.Core.Path.{_≡_, refl, sym, ap, _∙_, subst}
 use mathlib.Core.Logic.{_⊎_, inl, inr, _≢_}
-use mathlib.Core.Bool.{Bool, true, false, _&&_, _||_}
+use mathlib.Core.Bool.{Bool, true, false, _&&_}
 use mathlib.Core.List.{List, [], _∷_}
 use mathlib.Core.Option.{Option, some, none}
 use lib.Dec.{ltb}
@@ -33,6 +33,7 @@ use Rattle.rules.proofs.Pages.{room-pageBytes}
 use Rattle.rules.proofs.Tables.{Has, Room, has-page, length-change, pageAt-change-other}
 use Rattle.rules.proofs.Lengths.{Tables, lengthsFor-true}
 use Rattle.way.proofs.Stood.{way-stands}
+use Rattle.edit.proofs.Put.{or-none}
 use Rattle.apply.specs.Leads.{Whole, Leads, Fresh, Chosen}
 use Rattle.apply.proofs.Going.{Gone, apart-by}
 use Rattle.apply.proofs.Whole.{split-gone}
@@ -92,10 +93,6 @@ insert-done w t s model serial issue x h = go (lengthsFor s w t) refl (goodParts
     go true p true q true o = rw (insert, p, q, o) (key-done (keyOf model serial issue) x s w t p o (rw (insert, p, q, o) at h))
 
 -- ── The numbers taken ───────────────────────────────────────────────────────────────────────────────────────────
-
-or-none : (a b : Bool) → (a || b) ≡ false → (a ≡ false) × (b ≡ false)
-or-none true b h = absurd (not-both refl h)
-or-none false b h = (refl, h)
 
 and-none : (a b : Bool) → (a && b) ≡ false → a ≡ true → b ≡ false
 and-none true b h p = h

@@ -18,7 +18,7 @@ use Rattle.rules.specs.Page.{View, Page}
 use Rattle.rules.specs.Place.{rootPlace, kids, show}
 use Rattle.rules.specs.Enter.{enter}
 use Rattle.rules.specs.Walk.{Walked, enters, finds, walkEach, walk, walkOf}
-use Rattle.rules.specs.Tree.{Tree, empty, join, here, treeEach, tree, treeOf}
+use Rattle.rules.specs.Tree.{empty, join, treeEach, tree, treeOf}
 use Rattle.rules.specs.declared.Asked.{Asked}
 use Rattle.rules.specs.declared.Place.{Place}
 use Rattle.rules.proofs.Tests.{not-both, fails, all-mem, between-low, between-high, between-below, between-above}
@@ -26,10 +26,10 @@ use Rattle.rules.proofs.Entries.{cut-nil, cut-none, cut-append}
 use Rattle.rules.proofs.Ways.{Node}
 use Rattle.rules.proofs.Kids.{shown-kind}
 use Rattle.rules.proofs.Nodes.{node-root, kid-kind}
-use Rattle.rules.proofs.Opens.{tree-shown, kid-node}
+use Rattle.rules.proofs.Opens.{kid-node}
 use Rattle.rules.proofs.Enters.{Higher, AllHigher, none-higher, more-higher}
 use Rattle.reading.proofs.Soundly.{Passing, Shows, shows-itself, Seen, enter-seen}
-use Rattle.reading.proofs.TreeCerts.{orders}
+use Rattle.reading.proofs.TreeCerts.{certs-here, orders}
 
 -- ── Lists filled until there is no room ─────────────────────────────────────────────────────────────────────────
 
@@ -163,11 +163,6 @@ module _ {n c : ℕ} {t : List ℕ} (p : Passing n c t) (a : Asked) where
       ih (d .low) d (z .view) (e .child ∷ above) (y .1) (z .shows) (omega (arith, l))
       (more-higher above v (z .view .kind) node shows (omega (arith, l)) higher)
 
-  certs-here : (level : ℕ) (e : Place) (v : View) → show n t e ≡ some v
-      → tree (suc level) n t e .certs ≡ v .certs ++ treeEach (tree level n t) (kids e v) .certs
-  unfolding join here
-  certs-here level e v s = ap (λ (y : Tree). y .certs) (tree-shown level n t e v s)
-
   gathers : (level k : ℕ) (e : Place) (v : View) (above : List ℕ) → Node n t k e → show n t e ≡ some v
       → v .kind ≤ level → AllHigher n t (v .kind) above → Gathers level above e
   gathers zero k e v above node shows low higher xs w h = absurd (omega (arith, shown-kind n t e v shows .0))
@@ -193,7 +188,7 @@ module _ {n c : ℕ} {t : List ℕ} (p : Passing n c t) (a : Asked) where
       go true q ih =
           subst (λ (ys : List Cert). Walking ys (walk (suc level) n c a above e w))
           (gather-append a xs (v .certs) (treeEach (tree level n t) (kids e v) .certs)
-          ∙ ap (gather a xs) (sym (certs-here level e v shows)))
+          ∙ ap (gather a xs) (sym (certs-here (p .good) level e v shows)))
           (subst (Walking (gather a (gather a xs (v .certs)) (treeEach (tree level n t) (kids e v) .certs)))
           (sym (walk-here level n c a above e w (r .page) q (r .given)))
           (subst (λ (u : View). Walking (gather a (gather a xs (v .certs)) (treeEach (tree level n t) (kids e v) .certs))

@@ -148,7 +148,7 @@ module _ (f : Place → Tree) where
 -- ── A place and all below it ────────────────────────────────────────────────────────────────────────────────────
 
 module _ {n : ℕ} {t : List ℕ} (g : Good n t) where
-  certs-here : (level : ℕ) (e : Place) (v : View) → show n t e ≡ some v
+  pub certs-here : (level : ℕ) (e : Place) (v : View) → show n t e ≡ some v
       → tree (suc level) n t e .certs ≡ v .certs ++ treeEach (tree level n t) (kids e v) .certs
   unfolding join here
   certs-here level e v s = ap (λ (y : Tree). y .certs) (tree-shown level n t e v s)
