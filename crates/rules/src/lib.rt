@@ -3,8 +3,8 @@
 // specs/ is what a reader has to believe. It says in short definitions that compute what every page byte means,
 // when a page is sound, what mending makes, which pages a call enters, and what each of the seven calls answers and
 // leaves. proofs/ holds laws about those definitions, the bench cases and the theorem about crashes.
-// This file declares the numbers of document 01, a place, what a walk is asked for, the session with its moves, and one enum of answers for each
-// call.
+// This file declares the numbers of document 01, a place, what a walk is asked for, the session with its moves, and one
+// enum of answers for each call.
 //
 // Below stands `fields`: numbers in bytes.
 ghost use mathlib.Core.Path.{_≡_};
