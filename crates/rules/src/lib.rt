@@ -11,8 +11,8 @@ ghost use mathlib.Core.Path.{_≡_};
 ghost use Prim.Native.Nat.{_<_};
 ghost use Rattle.rules.specs.Marks.{taken, freed, waits, raised};
 
-// The numbers of document 01 that code needs, named here once. specs/Layout.antt has them too, for the rules; a number
-// that differs from its twin there breaks the proof of whoever uses it.
+// The numbers of document 01 that code needs, named here once. specs/ has them too, for the rules: sizes in Layout, where
+// fields stand in Page and Table. A number that differs from its twin there breaks the proof of whoever uses it.
 
 // A page, its header, and an entry of a leaf and of an inner page, in bytes.
 pub const PAGE: usize = 512;
@@ -22,6 +22,41 @@ pub const HEADER: usize = 32;
 pub const CERT: usize = 12;
 
 pub const CHILD: usize = 16;
+
+// Where a header's fields start: kind (2 bytes), count (2), birth (4), built (4), touched (4), low (8), high (8).
+pub const AT_KIND: usize = 0;
+
+pub const AT_COUNT: usize = 2;
+
+pub const AT_BIRTH: usize = 4;
+
+pub const AT_BUILT: usize = 8;
+
+pub const AT_TOUCHED: usize = 12;
+
+pub const AT_LOW: usize = 16;
+
+pub const AT_HIGH: usize = 24;
+
+// Where those of page 0 start, behind its kind: n (2), number (4), root (2), the root's previous (2) and birth (4).
+pub const AT_N: usize = 2;
+
+pub const AT_NUMBER: usize = 4;
+
+pub const AT_ROOT: usize = 8;
+
+pub const AT_ROOT_PREVIOUS: usize = 10;
+
+pub const AT_ROOT_BIRTH: usize = 12;
+
+// Where those of an entry start, behind its key (8): a record (4); or a child (2), its previous (2) and birth (4).
+pub const AT_RECORD: usize = 8;
+
+pub const AT_CHILD: usize = 8;
+
+pub const AT_CHILD_PREVIOUS: usize = 10;
+
+pub const AT_CHILD_BIRTH: usize = 12;
 
 // The kinds: a leaf, the highest inner page, page 0. The root is walked at the level of the highest kind.
 pub const LEAF: u16 = 1;
