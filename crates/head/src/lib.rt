@@ -10,6 +10,22 @@ use fields::get32;
 use fields::get64;
 use fields::put16;
 use fields::put32;
+use rules::AT_BIRTH;
+use rules::AT_BUILT;
+use rules::AT_CHILD;
+use rules::AT_CHILD_BIRTH;
+use rules::AT_CHILD_PREVIOUS;
+use rules::AT_COUNT;
+use rules::AT_HIGH;
+use rules::AT_KIND;
+use rules::AT_LOW;
+use rules::AT_N;
+use rules::AT_NUMBER;
+use rules::AT_RECORD;
+use rules::AT_ROOT;
+use rules::AT_ROOT_BIRTH;
+use rules::AT_ROOT_PREVIOUS;
+use rules::AT_TOUCHED;
 use rules::CERT;
 use rules::CHILD;
 use rules::HEADER;
@@ -60,13 +76,13 @@ pub fn read_head(page: &[u8]) -> Head
     ensures { λ r. ⌜ r ≡ headIn (now (page .entry)) ⌝ }
 {
     Head {
-        kind: get16(page, 0),
-        count: get16(page, 2),
-        birth: get32(page, 4),
-        built: get32(page, 8),
-        touched: get32(page, 12),
-        low: get64(page, 16),
-        high: get64(page, 24),
+        kind: get16(page, AT_KIND),
+        count: get16(page, AT_COUNT),
+        birth: get32(page, AT_BIRTH),
+        built: get32(page, AT_BUILT),
+        touched: get32(page, AT_TOUCHED),
+        low: get64(page, AT_LOW),
+        high: get64(page, AT_HIGH),
     }
 }
 
@@ -90,7 +106,7 @@ pub fn cert_record(page: &[u8], j: usize) -> u32
     requires { ⌜ headerSize + certSize * (j + 1) ≤ length (now page) ⌝ }
     ensures { λ r. ⌜ r ≡ certAt (now (page .entry)) j .value ⌝ }
 {
-    get32(page, HEADER + CERT * j + 8)
+    get32(page, HEADER + CERT * j + AT_RECORD)
 }
 
 pub fn child_key(page: &[u8], j: usize) -> u64
@@ -104,21 +120,21 @@ pub fn child_number(page: &[u8], j: usize) -> u16
     requires { ⌜ headerSize + childSize * (j + 1) ≤ length (now page) ⌝ }
     ensures { λ r. ⌜ r ≡ childAt (now (page .entry)) j .value .child ⌝ }
 {
-    get16(page, HEADER + CHILD * j + 8)
+    get16(page, HEADER + CHILD * j + AT_CHILD)
 }
 
 pub fn child_previous(page: &[u8], j: usize) -> u16
     requires { ⌜ headerSize + childSize * (j + 1) ≤ length (now page) ⌝ }
     ensures { λ r. ⌜ r ≡ childAt (now (page .entry)) j .value .previous ⌝ }
 {
-    get16(page, HEADER + CHILD * j + 10)
+    get16(page, HEADER + CHILD * j + AT_CHILD_PREVIOUS)
 }
 
 pub fn child_birth(page: &[u8], j: usize) -> u32
     requires { ⌜ headerSize + childSize * (j + 1) ≤ length (now page) ⌝ }
     ensures { λ r. ⌜ r ≡ childAt (now (page .entry)) j .value .birth ⌝ }
 {
-    get32(page, HEADER + CHILD * j + 12)
+    get32(page, HEADER + CHILD * j + AT_CHILD_BIRTH)
 }
 
 pub fn child_entry(page: &[u8], j: usize) -> ChildEntry
@@ -210,12 +226,12 @@ pub fn read_zero(table: &[u8]) -> Zero
     ensures { λ r. ⌜ r ≡ zeroIn (now (table .entry)) ⌝ }
 {
     Zero {
-        kind: get16(table, 0),
-        n: get16(table, 2),
-        number: get32(table, 4),
-        root: get16(table, 8),
-        previous: get16(table, 10),
-        birth: get32(table, 12),
+        kind: get16(table, AT_KIND),
+        n: get16(table, AT_N),
+        number: get32(table, AT_NUMBER),
+        root: get16(table, AT_ROOT),
+        previous: get16(table, AT_ROOT_PREVIOUS),
+        birth: get32(table, AT_ROOT_BIRTH),
     }
 }
 
@@ -260,21 +276,21 @@ pub fn number(table: &[u8]) -> u32
     requires { ⌜ pageSize ≤ length (now table) ⌝ }
     ensures { λ r. ⌜ r ≡ number0 (now (table .entry)) ⌝ }
 {
-    get32(table, 4)
+    get32(table, AT_NUMBER)
 }
 
 pub fn set_number(table: &mut [u8], number: u32)
     requires { ⌜ pageSize ≤ length (now table) ⌝ }
     ensures { λ r. ⌜ now (table .exit) ≡ setNumber (now (table .entry)) number ⌝ }
 {
-    put32(table, 4, number);
+    put32(table, AT_NUMBER, number);
 }
 
 pub fn set_root(table: &mut [u8], root: u16, previous: u16, birth: u32)
     requires { ⌜ pageSize ≤ length (now table) ⌝ }
     ensures { λ r. ⌜ now (table .exit) ≡ setRoot (now (table .entry)) root previous birth ⌝ }
 {
-    put16(table, 8, root);
-    put16(table, 10, previous);
-    put32(table, 12, birth);
+    put16(table, AT_ROOT, root);
+    put16(table, AT_ROOT_PREVIOUS, previous);
+    put32(table, AT_ROOT_BIRTH, birth);
 }
