@@ -7,13 +7,13 @@
 // Below stand `fields`, numbers in bytes; `entries`, entries as runs of bytes; and `rules`, whose `buildBytes` and
 // `build` every contract here is an equation with.
 
-use entries::BIRTH;
-use entries::BUILT;
-use entries::COUNT;
-use entries::HIGH;
-use entries::KIND;
-use entries::LOW;
-use entries::TOUCHED;
+use rules::AT_BIRTH;
+use rules::AT_BUILT;
+use rules::AT_COUNT;
+use rules::AT_HIGH;
+use rules::AT_KIND;
+use rules::AT_LOW;
+use rules::AT_TOUCHED;
 use rules::HEADER;
 use rules::INNER_HALF;
 use rules::LAST_KEY;
@@ -51,13 +51,13 @@ fn header(page: &mut [u8], kind: u16, count: u16, birth: u32, c: u32, low: u64, 
     requires { ⌜ headerSize ≤ length (now page) ⌝ }
     ensures { λ r. ⌜ now (page .exit) ≡ sets (now (page .entry)) 0 (headerOf kind count birth c low high) ⌝ }
 {
-    fields::put16(page, KIND, kind);
-    fields::put16(page, COUNT, count);
-    fields::put32(page, BIRTH, birth);
-    fields::put32(page, BUILT, c);
-    fields::put32(page, TOUCHED, c);
-    fields::put64(page, LOW, low);
-    fields::put64(page, HIGH, high);
+    fields::put16(page, AT_KIND, kind);
+    fields::put16(page, AT_COUNT, count);
+    fields::put32(page, AT_BIRTH, birth);
+    fields::put32(page, AT_BUILT, c);
+    fields::put32(page, AT_TOUCHED, c);
+    fields::put64(page, AT_LOW, low);
+    fields::put64(page, AT_HIGH, high);
 }
 
 // The page with a range of another page's entries.
@@ -74,7 +74,7 @@ fn range_page(
     requires { ⌜ (first ≤ count (viewIn (now from))) × (past ≤ count (viewIn (now from))) ⌝ }
     ensures { λ r. ⌜ r ≡ buildBytes (fresh c birth low high (rangeView first past (viewIn (now (from .entry))))) ⌝ }
 {
-    let kind = fields::get16(from, KIND);
+    let kind = fields::get16(from, AT_KIND);
     let size = entries::size_of(kind);
     let many = span(first, past);
     let mut page = zeros();
@@ -89,8 +89,8 @@ fn cut_page(from: &[u8], birth: u32, c: u32, low: u64, high: u64) -> [u8; PAGE]
     requires { ⌜ Ordered (viewIn (now from)) ⌝ }
     ensures { λ r. ⌜ r ≡ buildBytes (fresh c birth low high (cutView low high (viewIn (now (from .entry))))) ⌝ }
 {
-    let size = entries::size_of(fields::get16(from, KIND));
-    let count = fields::get16(from, COUNT) as usize;
+    let size = entries::size_of(fields::get16(from, AT_KIND));
+    let count = fields::get16(from, AT_COUNT) as usize;
     let first = entries::start(from, size, count, low);
     let past = entries::spot(from, size, count, high);
     range_page(from, first, past, birth, c, low, high)
@@ -109,7 +109,7 @@ fn middle(page: &[u8]) -> u64
     requires { ⌜ Divides (viewIn (now page)) ⌝ }
     ensures { λ r. ⌜ r ≡ divide (viewIn (now (page .entry))) ⌝ }
 {
-    let kind = fields::get16(page, KIND);
+    let kind = fields::get16(page, AT_KIND);
     fields::get64(page, HEADER + entries::size_of(kind) * half_of(kind))
 }
 
@@ -118,8 +118,8 @@ fn lower_page(from: &[u8], c: u32) -> [u8; PAGE]
     requires { ⌜ Divides (viewIn (now from)) ⌝ }
     ensures { λ r. ⌜ r ≡ buildBytes (lowerPage c (pageIn (now (from .entry)))) ⌝ }
 {
-    let half = half_of(fields::get16(from, KIND));
-    let low = fields::get64(from, LOW);
+    let half = half_of(fields::get16(from, AT_KIND));
+    let low = fields::get64(from, AT_LOW);
     range_page(from, 0, half, c, c, low, middle(from) - 1)
 }
 
@@ -128,9 +128,9 @@ fn upper_page(from: &[u8], c: u32) -> [u8; PAGE]
     requires { ⌜ Divides (viewIn (now from)) ⌝ }
     ensures { λ r. ⌜ r ≡ buildBytes (upperPage c (pageIn (now (from .entry)))) ⌝ }
 {
-    let half = half_of(fields::get16(from, KIND));
-    let count = fields::get16(from, COUNT) as usize;
-    let high = fields::get64(from, HIGH);
+    let half = half_of(fields::get16(from, AT_KIND));
+    let count = fields::get16(from, AT_COUNT) as usize;
+    let high = fields::get64(from, AT_HIGH);
     range_page(from, half, count, c, c, middle(from), high)
 }
 

@@ -6,8 +6,8 @@
 // Below stand `fields`, numbers in bytes; `entries`, entries as runs of bytes; and `rules`, whose `changed` every
 // contract here is an equation with.
 
-use entries::COUNT;
-use entries::TOUCHED;
+use rules::AT_COUNT;
+use rules::AT_TOUCHED;
 use rules::CERT;
 use rules::CHILD;
 use rules::HEADER;
@@ -28,8 +28,8 @@ fn stamp(page: &mut [u8], count: u16, c: u32)
     requires { ⌜ headerSize ≤ length (now page) ⌝ }
     ensures { λ r. ⌜ now (page .exit) ≡ putAt (putAt (now (page .entry)) 2 2 count) 12 4 c ⌝ }
 {
-    fields::put16(page, COUNT, count);
-    fields::put32(page, TOUCHED, c);
+    fields::put16(page, AT_COUNT, count);
+    fields::put32(page, AT_TOUCHED, c);
 }
 
 fn put_cert_in(page: &mut [u8], key: u64, value: u32, c: u32)
@@ -37,7 +37,7 @@ fn put_cert_in(page: &mut [u8], key: u64, value: u32, c: u32)
     requires { ⌜ TakesCert key (viewIn (now page)) ⌝ }
     ensures { λ r. ⌜ now (page .exit) ≡ changeBytes (touch c (putCert (newCert key value) (viewIn (now (page .entry)))) (pageIn (now (page .entry)))) (now (page .entry)) ⌝ }
 {
-    let count = fields::get16(page, COUNT);
+    let count = fields::get16(page, AT_COUNT);
     let at = HEADER + CERT * entries::spot(page, CERT, count as usize, key);
     entries::move_up(page, at, HEADER + CERT * (count as usize), CERT);
     entries::write_cert(page, at, key, value);
@@ -49,7 +49,7 @@ fn put_child_in(page: &mut [u8], key: u64, child: u16, previous: u16, c: u32)
     requires { ⌜ TakesChild key (viewIn (now page)) ⌝ }
     ensures { λ r. ⌜ now (page .exit) ≡ changeBytes (touch c (putChild (newChild c key child previous) (viewIn (now (page .entry)))) (pageIn (now (page .entry)))) (now (page .entry)) ⌝ }
 {
-    let count = fields::get16(page, COUNT);
+    let count = fields::get16(page, AT_COUNT);
     let at = HEADER + CHILD * entries::spot(page, CHILD, count as usize, key);
     entries::move_up(page, at, HEADER + CHILD * (count as usize), CHILD);
     entries::write_child(page, at, key, child, previous, c);
@@ -62,7 +62,7 @@ fn set_child_in(page: &mut [u8], key: u64, child: u16, previous: u16, c: u32)
     requires { ⌜ HasChild key (viewIn (now page)) ⌝ }
     ensures { λ r. ⌜ now (page .exit) ≡ changeBytes (touch c (putChild (newChild c key child previous) (viewIn (now (page .entry)))) (pageIn (now (page .entry)))) (now (page .entry)) ⌝ }
 {
-    let count = fields::get16(page, COUNT);
+    let count = fields::get16(page, AT_COUNT);
     let past = entries::spot(page, CHILD, count as usize, key);
     entries::write_child(page, HEADER + CHILD * (past - 1), key, child, previous, c);
     stamp(page, count, c);

@@ -6,6 +6,10 @@
 //
 // Below stand `fields`, numbers in bytes, and `rules`, which says what the bytes of a page mean.
 
+use rules::AT_CHILD;
+use rules::AT_CHILD_BIRTH;
+use rules::AT_CHILD_PREVIOUS;
+use rules::AT_RECORD;
 use rules::CERT;
 use rules::CHILD;
 use rules::HEADER;
@@ -18,21 +22,6 @@ ghost use Rattle.rules.specs.Layout.{headerSize, certSize, childSize};
 ghost use Rattle.rules.specs.Page.{certBytes, childBytes};
 ghost use Rattle.rules.specs.Insert.{newChild};
 ghost use Rattle.entries.specs.Spot.{sizeOf, keysIn, spotOf, startOf, newCert};
-
-// Where the fields of a page's header stand.
-pub const KIND: usize = 0;
-
-pub const COUNT: usize = 2;
-
-pub const BIRTH: usize = 4;
-
-pub const BUILT: usize = 8;
-
-pub const TOUCHED: usize = 12;
-
-pub const LOW: usize = 16;
-
-pub const HIGH: usize = 24;
 
 // How many bytes an entry of a page of this kind takes.
 pub fn size_of(kind: u16) -> usize
@@ -90,7 +79,7 @@ pub fn write_cert(page: &mut [u8], at: usize, key: u64, value: u32)
     ensures { λ r. ⌜ now (page .exit) ≡ sets (now (page .entry)) at (certBytes (newCert key value)) ⌝ }
 {
     fields::put64(page, at, key);
-    fields::put32(page, at + 8, value);
+    fields::put32(page, at + AT_RECORD, value);
 }
 
 // An entry of an inner page.
@@ -99,9 +88,9 @@ pub fn write_child(page: &mut [u8], at: usize, key: u64, child: u16, previous: u
     ensures { λ r. ⌜ now (page .exit) ≡ sets (now (page .entry)) at (childBytes (newChild birth key child previous)) ⌝ }
 {
     fields::put64(page, at, key);
-    fields::put16(page, at + 8, child);
-    fields::put16(page, at + 10, previous);
-    fields::put32(page, at + 12, birth);
+    fields::put16(page, at + AT_CHILD, child);
+    fields::put16(page, at + AT_CHILD_PREVIOUS, previous);
+    fields::put32(page, at + AT_CHILD_BIRTH, birth);
 }
 
 // Bytes from `at` up to `end`, moved up by some places, the last one first.
