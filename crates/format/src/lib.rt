@@ -10,6 +10,16 @@ ghost use lib.ListN.{length};
 ghost use Rattle.rules.specs.Format;
 ghost use Rattle.rules.specs.Page.{blank, buildBytes};
 ghost use Rattle.format.specs.Formats.{formatting, named, firstLeaf};
+use rules::AT_BIRTH;
+use rules::AT_BUILT;
+use rules::AT_HIGH;
+use rules::AT_KIND;
+use rules::AT_N;
+use rules::AT_NUMBER;
+use rules::AT_ROOT;
+use rules::AT_ROOT_BIRTH;
+use rules::AT_ROOT_PREVIOUS;
+use rules::AT_TOUCHED;
 use rules::Formatted;
 use rules::LAST_KEY;
 use rules::LEAF;
@@ -29,12 +39,12 @@ fn name_root(stable: &mut [u8], n: u16)
     requires { ⌜ 16 ≤ length (now stable) ⌝ }
     ensures { λ r. ⌜ now (stable .exit) ≡ named n (now (stable .entry)) ⌝ }
 {
-    fields::put16(stable, 0, ZERO);
-    fields::put16(stable, 2, n);
-    fields::put32(stable, 4, NUMBER);
-    fields::put16(stable, 8, 1);
-    fields::put16(stable, 10, 0);
-    fields::put32(stable, 12, FIRST);
+    fields::put16(stable, AT_KIND, ZERO);
+    fields::put16(stable, AT_N, n);
+    fields::put32(stable, AT_NUMBER, NUMBER);
+    fields::put16(stable, AT_ROOT, 1);
+    fields::put16(stable, AT_ROOT_PREVIOUS, 0);
+    fields::put32(stable, AT_ROOT_BIRTH, FIRST);
 }
 
 // A page of zeros becomes an empty leaf over every key: no entry, low 0, birth, built and touched 1.
@@ -42,11 +52,11 @@ fn empty_leaf(page: &mut [u8])
     requires { ⌜ now page ≡ blank ⌝ }
     ensures { λ r. ⌜ now (page .exit) ≡ buildBytes firstLeaf ⌝ }
 {
-    fields::put16(page, 0, LEAF);
-    fields::put32(page, 4, FIRST);
-    fields::put32(page, 8, FIRST);
-    fields::put32(page, 12, FIRST);
-    fields::put64(page, 24, LAST_KEY);
+    fields::put16(page, AT_KIND, LEAF);
+    fields::put32(page, AT_BIRTH, FIRST);
+    fields::put32(page, AT_BUILT, FIRST);
+    fields::put32(page, AT_TOUCHED, FIRST);
+    fields::put64(page, AT_HIGH, LAST_KEY);
 }
 
 pub fn format(working: &[u8], stable: &mut [u8]) -> Formatted

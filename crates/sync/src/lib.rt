@@ -7,13 +7,11 @@
 ghost use mathlib.Core.Path.{_≡_};
 ghost use Rattle.rules.specs.Sync;
 ghost use Rattle.sync.specs.Syncs.{left};
+use rules::AT_NUMBER;
 use rules::LAST_NUMBER;
 use rules::Session;
 use rules::Synced;
 use rules::Syncing;
-
-// Where page 0 keeps the number.
-const NUMBER_AT: usize = 4;
 
 pub fn sync(working: &mut [u8], stable: &mut [u8], session: Session) -> Syncing
     ensures { λ r. ⌜ left r (now (working .exit)) (now (stable .exit)) ≡ Sync.sync (now (working .entry)) (now (stable .entry)) session ⌝ }
@@ -31,7 +29,7 @@ pub fn sync(working: &mut [u8], stable: &mut [u8], session: Session) -> Syncing
             session,
         };
     }
-    fields::put32(working, NUMBER_AT, c + 2);
+    fields::put32(working, AT_NUMBER, c + 2);
     tables::copy(stable, working);
     Syncing {
         answer: Synced::Done,
