@@ -86,6 +86,10 @@ answerLine Reply.Line = line ++ (newline ∷ [])
 abbrev pub textSize : ℕ
 textSize = 16
 
+-- the first so many of some bytes
+abbrev pub textIn : List ℕ → ℕ → Text
+textIn bytes len = record { bytes = bytes; len = len }
+
 -- the bytes, and zeros behind them
 unfoldable pub textOf : List ℕ → Text
 textOf s = record { bytes = s ++ replicate (textSize - length s) 0; len = length s }

@@ -6,7 +6,7 @@
 // Nothing stands below.
 ghost use mathlib.Core.Path.{_≡_};
 ghost use Prim.Native.Nat.{_+_, _≤_, _<_};
-ghost use Rattle.words.specs.Words.{textSize, answerLine, digitsOf, textOf, pushed, pushedAll};
+ghost use Rattle.words.specs.Words.{textSize, answerLine, digitsOf, textIn, textOf, pushed, pushedAll};
 
 // The decimal digits of a 32-bit number are ten at most.
 const PLACES: usize = 10;
@@ -26,6 +26,13 @@ pub struct Text {
 }
 
 impl Text {
+    // A text of these bytes, of which the first `len` are the line.
+    fn of(bytes: [u8; 16], len: usize) -> Self
+        ensures { λ r. ⌜ r ≡ textIn bytes len ⌝ }
+    {
+        Text { bytes, len }
+    }
+
     fn push(mut self, b: u8) -> Self
         requires { ⌜ self .len < textSize ⌝ }
         ensures { λ r. ⌜ r ≡ pushed self b ⌝ }
@@ -41,46 +48,16 @@ fn word(number: u8) -> Text
     ensures { λ r. ⌜ r ≡ textOf (answerLine (Reply.Answer number)) ⌝ }
 {
     match number {
-        0 => Text {
-            bytes: *b"done\n\0\0\0\0\0\0\0\0\0\0\0",
-            len: 5,
-        },
-        1 => Text {
-            bytes: *b"length\n\0\0\0\0\0\0\0\0\0",
-            len: 7,
-        },
-        2 => Text {
-            bytes: *b"badkey\n\0\0\0\0\0\0\0\0\0",
-            len: 7,
-        },
-        3 => Text {
-            bytes: *b"damaged\n\0\0\0\0\0\0\0\0",
-            len: 8,
-        },
-        4 => Text {
-            bytes: *b"none\n\0\0\0\0\0\0\0\0\0\0\0",
-            len: 5,
-        },
-        5 => Text {
-            bytes: *b"present\n\0\0\0\0\0\0\0\0",
-            len: 8,
-        },
-        6 => Text {
-            bytes: *b"syncfirst\n\0\0\0\0\0\0",
-            len: 10,
-        },
-        7 => Text {
-            bytes: *b"full\n\0\0\0\0\0\0\0\0\0\0\0",
-            len: 5,
-        },
-        8 => Text {
-            bytes: *b"spent\n\0\0\0\0\0\0\0\0\0\0",
-            len: 6,
-        },
-        _ => Text {
-            bytes: *b"\n\0\0\0\0\0\0\0\0\0\0\0\0\0\0\0",
-            len: 1,
-        },
+        0 => Text::of(*b"done\n\0\0\0\0\0\0\0\0\0\0\0", 5),
+        1 => Text::of(*b"length\n\0\0\0\0\0\0\0\0\0", 7),
+        2 => Text::of(*b"badkey\n\0\0\0\0\0\0\0\0\0", 7),
+        3 => Text::of(*b"damaged\n\0\0\0\0\0\0\0\0", 8),
+        4 => Text::of(*b"none\n\0\0\0\0\0\0\0\0\0\0\0", 5),
+        5 => Text::of(*b"present\n\0\0\0\0\0\0\0\0", 8),
+        6 => Text::of(*b"syncfirst\n\0\0\0\0\0\0", 10),
+        7 => Text::of(*b"full\n\0\0\0\0\0\0\0\0\0\0\0", 5),
+        8 => Text::of(*b"spent\n\0\0\0\0\0\0\0\0\0\0", 6),
+        _ => Text::of(*b"\n\0\0\0\0\0\0\0\0\0\0\0\0\0\0\0", 1),
     }
 }
 
@@ -102,10 +79,7 @@ fn put_digits(t: Text, places: usize, n: u32) -> Text
 fn found(x: u32) -> Text
     ensures { λ r. ⌜ r ≡ textOf (answerLine (Reply.Record x)) ⌝ }
 {
-    let done = Text {
-        bytes: *b"done \0\0\0\0\0\0\0\0\0\0\0",
-        len: 5,
-    };
+    let done = Text::of(*b"done \0\0\0\0\0\0\0\0\0\0\0", 5);
     put_digits(done, PLACES, x).push(b'\n')
 }
 
@@ -113,15 +87,9 @@ pub fn spell(reply: Reply) -> Text
     ensures { λ r. ⌜ r ≡ textOf (answerLine reply) ⌝ }
 {
     match reply {
-        Reply::Silent => Text {
-            bytes: [0; 16],
-            len: 0,
-        },
+        Reply::Silent => Text::of([0; 16], 0),
         Reply::Answer(number) => word(number),
         Reply::Record(x) => found(x),
-        Reply::Line => Text {
-            bytes: *b"line\n\0\0\0\0\0\0\0\0\0\0\0",
-            len: 5,
-        },
+        Reply::Line => Text::of(*b"line\n\0\0\0\0\0\0\0\0\0\0\0", 5),
     }
 }

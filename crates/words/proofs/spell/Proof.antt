@@ -7,6 +7,9 @@ use Rattle.words.proofs.spell.Tie as tie
 enum-told : tie.Need-enum-told
 enum-told c = search needs
 
+of-requires : tie.Need-of-requires
+of-requires c κs = search needs
+
 enum-known-reply : tie.Need-enum-known-reply
 enum-known-reply c = search needs
 
@@ -22,9 +25,12 @@ found-requires c κs = search needs
 enum-told-2 : tie.Need-enum-told-2
 enum-told-2 c = search needs
 
+of-requires-2 : tie.Need-of-requires-2
+of-requires-2 c κs = search needs
+
 returns : tie.Need-returns
 unfolding answerLine textOf
-returns c = rw (c .enum-told .given .1)
+returns c = rw (c .before .enum-told .given .1) (c .of .ensures)
 
 returns-2 : tie.Need-returns-2
 returns-2 c = rw (c .before .before .reply .given .1) (c .word .ensures)
@@ -34,18 +40,20 @@ returns-3 c = rw (c .before .before .reply2 .given .1) (c .found .ensures)
 
 returns-4 : tie.Need-returns-4
 unfolding answerLine textOf
-returns-4 c = rw (c .before .before .enum-told2 .given .1)
+returns-4 c = rw (c .before .before .before .enum-told2 .given .1) (c .of2 .ensures)
 
 pub spell-spec : {M : Type 1} → statement M
 spell-spec =
     tie.close
     (tie.spec
     enum-told
+    of-requires
     enum-known-reply
     word-requires
     enum-known-reply-2
     found-requires
     enum-told-2
+    of-requires-2
     returns
     returns-2
     returns-3
