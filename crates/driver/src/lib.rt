@@ -5,25 +5,21 @@
 // is one equation with specs/Acts.antt, which says a line's effect in the rules' words: what is to be printed, session
 // and every byte of both tables.
 //
-// Below stand `lines`, which reads, `words`, for what is to be printed, `tables` and the calls insert, lookup, sync and
-// open.
+// Below stand `lines`, which reads, `words`, for what is to be printed, `numbers`, for the number of an answer, `tables`
+// and the calls insert, lookup, sync and open.
 ghost use mathlib.Core.Path.{_≡_};
 ghost use Prim.Native.Nat.{_<_};
 ghost use lib.ListN.{length};
 ghost use Rattle.rules.specs.Table.{pageAt, setPage};
-ghost use Rattle.rules.specs.Call.{openedNo, insertedNo, syncedNo};
 ghost use Rattle.rules.specs.Crash.{mix};
 ghost use Rattle.rules.proofs.Mixes.{chosen};
 ghost use Rattle.lines.specs.declared.Line.{Line};
 ghost use Rattle.driver.specs.Acts.{benchPages, benchBytes, lookedReply, crashed, acted, turnLeft, fresh, closed, stepped, finished, stepLeft};
 use lines::Line;
 use lines::Reader;
-use rules::Inserted;
 use rules::Looked;
-use rules::Opened;
 use rules::PAGE;
 use rules::Session;
-use rules::Synced;
 use words::Reply;
 
 // The bench program's store has five pages.
@@ -50,53 +46,14 @@ pub struct Step {
     pub bench: Bench,
 }
 
-// The paper's number for each answer; after a successful find the record.
-
+// After a successful find the record is printed behind the word.
 fn looked_reply(answer: Looked) -> Reply
     ensures { λ r. ⌜ r ≡ lookedReply answer ⌝ }
 {
-    match answer {
-        Looked::Found(x) => Reply::Record(x),
-        Looked::Length => Reply::Answer(1),
-        Looked::BadKey => Reply::Answer(2),
-        Looked::Damaged => Reply::Answer(3),
-        Looked::Missing => Reply::Answer(4),
+    if let Looked::Found(x) = answer {
+        return Reply::Record(x);
     }
-}
-
-fn inserted_number(answer: Inserted) -> u8
-    ensures { λ r. ⌜ r ≡ insertedNo answer ⌝ }
-{
-    match answer {
-        Inserted::Done => 0,
-        Inserted::Length => 1,
-        Inserted::BadKey => 2,
-        Inserted::Damaged => 3,
-        Inserted::Present => 5,
-        Inserted::SyncFirst => 6,
-        Inserted::Full => 7,
-    }
-}
-
-fn synced_number(answer: Synced) -> u8
-    ensures { λ r. ⌜ r ≡ syncedNo answer ⌝ }
-{
-    match answer {
-        Synced::Done => 0,
-        Synced::Length => 1,
-        Synced::Spent => 8,
-    }
-}
-
-fn opened_number(answer: Opened) -> u8
-    ensures { λ r. ⌜ r ≡ openedNo answer ⌝ }
-{
-    match answer {
-        Opened::Done => 0,
-        Opened::Length => 1,
-        Opened::Damaged => 3,
-        Opened::Spent => 8,
-    }
+    Reply::Answer(numbers::looked(answer))
 }
 
 // One function for each kind of line.
@@ -117,7 +74,7 @@ fn insert_line(
     let answer = left.answer;
     let session = left.session;
     Turn {
-        reply: Reply::Answer(inserted_number(answer)),
+        reply: Reply::Answer(numbers::inserted(answer)),
         session,
     }
 }
@@ -150,7 +107,7 @@ fn sync_line(working: &mut [u8], stable: &mut [u8], session: Session) -> Turn
     let answer = left.answer;
     let session = left.session;
     Turn {
-        reply: Reply::Answer(synced_number(answer)),
+        reply: Reply::Answer(numbers::synced(answer)),
         session,
     }
 }
@@ -209,7 +166,7 @@ fn crash_line(
     let answer = left.answer;
     let session = left.session;
     Turn {
-        reply: Reply::Answer(opened_number(answer)),
+        reply: Reply::Answer(numbers::opened(answer)),
         session,
     }
 }

@@ -8,7 +8,7 @@
 // Reading calls hand the session back from where it was handed in, which spares three copies of 256 bytes: the rules
 // say that it comes back as it came.
 //
-// Below stand `store` and `rules`.
+// Below stand `store`, `numbers` and `rules`.
 ghost use mathlib.Core.Path.{_≡_};
 ghost use Rattle.rules.specs.Call.{openedNo, insertedNo, syncedNo};
 ghost use Rattle.rules.specs.Format;
@@ -20,8 +20,6 @@ ghost use Rattle.rules.specs.List;
 ghost use Rattle.rules.specs.Sync;
 ghost use Rattle.exports.specs.Leaves as C;
 use rules::Session;
-
-mod numbers;
 
 #[repr(C)]
 pub struct KhAnswered {

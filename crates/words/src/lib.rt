@@ -14,7 +14,7 @@ const PLACES: usize = 10;
 // What is to be printed: nothing, the word of an answer's number, `done` with a record, or `line`.
 pub enum Reply {
     Silent,
-    Answer(u8),
+    Answer(u32),
     Record(u32),
     Line,
 }
@@ -44,7 +44,7 @@ impl Text {
     }
 }
 
-fn word(number: u8) -> Text
+fn word(number: u32) -> Text
     ensures { λ r. ⌜ r ≡ textOf (answerLine (Reply.Answer number)) ⌝ }
 {
     match number {

@@ -12,8 +12,8 @@ crash-requires c κs = search needs
 open-requires : tie.Need-open-requires
 open-requires c κs = search needs
 
-opened-number-requires : tie.Need-opened-number-requires
-opened-number-requires c κs = search needs
+opened-requires : tie.Need-opened-requires
+opened-requires c κs = search needs
 
 same-length : tie.Need-same-length
 same-length c = search needs
@@ -23,7 +23,7 @@ same-length-2 c = search needs
 
 returns : tie.Need-returns
 unfolding acted
-returns c = rw (c .opened-number .ensures) (ap (told openedReply) (c .before .before .before .before .before .before .«open» .ensures ∙ ap (opening (c .before .before .before .before .before .before .before .before .before .before .before .before .before .before .before .before .args .working .now)) (c .before .before .before .before .before .before .before .before .before .before .before .crash .ensures)))
+returns c = rw (c .opened .ensures) (ap (told openedReply) (c .before .before .before .before .before .before .«open» .ensures ∙ ap (opening (c .before .before .before .before .before .before .before .before .before .before .before .before .before .before .before .before .args .working .now)) (c .before .before .before .before .before .before .before .before .before .before .before .crash .ensures)))
 
 pub crash-line-spec : {M : Type 1} → statement M
 crash-line-spec =
@@ -31,7 +31,7 @@ crash-line-spec =
     (tie.spec
     crash-requires
     open-requires
-    opened-number-requires
+    opened-requires
     same-length
     same-length-2
     returns)

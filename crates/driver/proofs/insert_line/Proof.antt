@@ -8,16 +8,16 @@ use Rattle.driver.proofs.insert_line.Tie as tie
 insert-requires : tie.Need-insert-requires
 insert-requires c κs = search needs
 
-inserted-number-requires : tie.Need-inserted-number-requires
-inserted-number-requires c κs = search needs
+inserted-requires : tie.Need-inserted-requires
+inserted-requires c κs = search needs
 
 same-length : tie.Need-same-length
 same-length c = search needs
 
 returns : tie.Need-returns
 unfolding acted
-returns c = rw (c .inserted-number .ensures) (ap (told insertedReply) (c .before .before .before .before .insert .ensures))
+returns c = rw (c .inserted .ensures) (ap (told insertedReply) (c .before .before .before .before .insert .ensures))
 
 pub insert-line-spec : {M : Type 1} → statement M
 insert-line-spec =
-    tie.close (tie.spec insert-requires inserted-number-requires same-length returns)
+    tie.close (tie.spec insert-requires inserted-requires same-length returns)

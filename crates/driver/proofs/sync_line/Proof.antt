@@ -8,8 +8,8 @@ use Rattle.driver.proofs.sync_line.Tie as tie
 sync-requires : tie.Need-sync-requires
 sync-requires c κs = search needs
 
-synced-number-requires : tie.Need-synced-number-requires
-synced-number-requires c κs = search needs
+synced-requires : tie.Need-synced-requires
+synced-requires c κs = search needs
 
 same-length : tie.Need-same-length
 same-length c = search needs
@@ -19,8 +19,8 @@ same-length-2 c = search needs
 
 returns : tie.Need-returns
 unfolding acted
-returns c = rw (c .synced-number .ensures) (ap (told syncedReply) (c .before .before .before .before .before .before .sync .ensures))
+returns c = rw (c .synced .ensures) (ap (told syncedReply) (c .before .before .before .before .before .before .sync .ensures))
 
 pub sync-line-spec : {M : Type 1} → statement M
 sync-line-spec =
-    tie.close (tie.spec sync-requires synced-number-requires same-length same-length-2 returns)
+    tie.close (tie.spec sync-requires synced-requires same-length same-length-2 returns)
