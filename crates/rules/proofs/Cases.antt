@@ -11,12 +11,12 @@ use lib.ListN.{length, replicate, length-replicate}
 use Rattle.rules.specs.Layout.{pageSize, fewestPages, mostPages}
 use Rattle.rules.specs.Test.{between}
 use Rattle.rules.specs.Key.{keyOf}
-use Rattle.rules.specs.Page.{View, Page, count}
+use Rattle.rules.specs.Page.{count}
 use Rattle.rules.specs.Table.{read, number0, root0, setNumber}
 use Rattle.rules.specs.Marks.{freePages, marks}
-use Rattle.rules.specs.Walk.{Way, Step, numbers, wayOf}
-use Rattle.rules.specs.Call.{Left, formattedNo, openedNo, insertedNo, lookedNo, lookedRecord, syncedNo}
-use Rattle.rules.specs.Format.{Formatting, format}
+use Rattle.rules.specs.Walk.{Step, numbers, wayOf}
+use Rattle.rules.specs.Call.{Left, formattedNo, openedNo, insertedNo, lookedNo}
+use Rattle.rules.specs.Format.{format}
 use Rattle.rules.specs.Open.{openRefused, openDone, opening}
 use Rattle.rules.specs.Insert.{insert, newPages}
 use Rattle.rules.specs.Lookup.{lookup}
@@ -27,7 +27,6 @@ use Rattle.rules.specs.declared.Formatted.{Formatted}
 use Rattle.rules.specs.declared.Opened.{Opened}
 use Rattle.rules.specs.declared.Inserted.{Inserted}
 use Rattle.rules.specs.declared.Looked.{Looked}
-use Rattle.rules.specs.declared.Synced.{Synced}
 use Rattle.rules.proofs.Lengths.{lengths-bad}
 use Rattle.rules.proofs.Fresh.{format-done, opening-formatted}
 use Rattle.rules.proofs.Computing.{rules}

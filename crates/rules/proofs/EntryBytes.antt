@@ -12,7 +12,7 @@ use Rattle.fields.proofs.Bytes.{bytes-le, bytes-append}
 use Rattle.fields.proofs.Number.{length-le}
 use Rattle.fields.proofs.Field.{leAt-bound, leAt-take, le-leAt, in-pieces}
 use Rattle.rules.specs.Layout.{certSize, childSize}
-use Rattle.rules.specs.Entry.{Entry, Cert, Child, Below}
+use Rattle.rules.specs.Entry.{Cert, Child}
 use Rattle.rules.specs.Page.{readEach, writeEach, certIn, certBytes, childIn, childBytes}
 use Rattle.rules.proofs.All.{All}
 use Rattle.rules.proofs.Each.{Within, length-writeEach, bytes-writeEach, readEach-writeEach, writeEach-readEach, all-readEach}

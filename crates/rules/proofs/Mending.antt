@@ -8,8 +8,8 @@ use Rattle.rules.specs.Test.{mem}
 use Rattle.rules.specs.Page.{Page}
 use Rattle.rules.specs.Table.{read, build}
 use Rattle.rules.specs.Place.{rootPlace, kids, pick, fits, mendable, mended}
-use Rattle.rules.specs.Enter.{Entered, mend, enter}
-use Rattle.rules.specs.Walk.{Step, Way, numbers, descend, wayOf, Walked, enters, finds, stops, walkEach, walk, walkOf}
+use Rattle.rules.specs.Enter.{mend, enter}
+use Rattle.rules.specs.Walk.{Step, numbers, descend, wayOf, Walked, enters, finds, stops, walkEach, walk, walkOf}
 use Rattle.rules.specs.declared.Place.{Place}
 use Rattle.rules.specs.declared.Asked.{Asked}
 

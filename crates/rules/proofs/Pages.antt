@@ -15,7 +15,7 @@ use Rattle.fields.proofs.Bytes.{bytes-nil, bytes-cons, bytes-le, bytes-append, 
 use Rattle.fields.proofs.Number.{length-le}
 use Rattle.fields.proofs.Field.{leAt-bound, le-leAt, in-pieces}
 use Rattle.rules.specs.Layout.{pageSize, headerSize, certSize, childSize, leafRoom, innerRoom, leafKind}
-use Rattle.rules.specs.Entry.{Entry, Cert, Child}
+use Rattle.rules.specs.Entry.{Cert, Child}
 use Rattle.rules.specs.Page.{View, Page, isLeaf, count, readEach, writeEach, certIn, certBytes, childIn, childBytes, viewIn, pageIn, headerBytes, pageBytes, over, blank, buildBytes, changeBytes, fresh, touch}
 pub use Rattle.rules.proofs.Views.{Shaped, shaped-viewIn}
 use Rattle.rules.proofs.All.{All, nil}

@@ -9,15 +9,15 @@ use Rattle.rules.specs.Layout.{lastNumber}
 use Rattle.rules.specs.Key.{keyOf, goodParts}
 use Rattle.rules.specs.Entry.{find}
 use Rattle.rules.specs.Table.{pages, goodLengths, fit0, number0}
-use Rattle.rules.specs.Walk.{Step, Way, numbers, certsAt, wayOf, Walked, walkOf}
+use Rattle.rules.specs.Walk.{Step, numbers, certsAt, wayOf, walkOf}
 use Rattle.rules.specs.Tree.{treeOf, goodTree}
 use Rattle.rules.specs.Marks.{nobody, freePages}
 use Rattle.rules.specs.Call.{Left, lengthsFor}
-use Rattle.rules.specs.Format.{Formatting, format}
+use Rattle.rules.specs.Format.{format}
 use Rattle.rules.specs.Open.{opening, openRefused, openDone}
 use Rattle.rules.specs.Insert.{insert, insertKey, insertAlong, insertDone, insertRefused, splitting, tooSoon, noRoom}
-use Rattle.rules.specs.Lookup.{lookup, lookupKey, lookupLeft, foundIn}
-use Rattle.rules.specs.Newest.{newest, newestMeter, newestLeft, newestIn, meter}
+use Rattle.rules.specs.Lookup.{lookup, lookupKey, lookupLeft}
+use Rattle.rules.specs.Newest.{newest, newestMeter, newestLeft, meter}
 use Rattle.rules.specs.List.{ListLeft, list, listFrom, listDone, listRefused, upFrom}
 use Rattle.rules.specs.Sync.{sync, syncRefused, syncDone}
 use Rattle.rules.specs.declared.Session.{Session}
@@ -25,8 +25,6 @@ use Rattle.rules.specs.declared.Asked.{Asked}
 use Rattle.rules.specs.declared.Formatted.{Formatted}
 use Rattle.rules.specs.declared.Opened.{Opened}
 use Rattle.rules.specs.declared.Inserted.{Inserted}
-use Rattle.rules.specs.declared.Looked.{Looked}
-use Rattle.rules.specs.declared.Newest.{Newest}
 use Rattle.rules.specs.declared.Listed.{Listed}
 use Rattle.rules.specs.declared.Synced.{Synced}
 use Rattle.rules.proofs.Mending.{Mends, same, way-mends, walkOf-mends}

@@ -8,7 +8,7 @@ use native.Mathlib.Omega.{arith}
 use lib.Dec.{lit<}
 use lib.ListN.{length, getD, length-take, length-drop}
 use Rattle.rules.specs.Layout.{leafHalf, innerHalf, leafRoom, innerRoom}
-use Rattle.rules.specs.Entry.{Entry, Below, Cert, Child, keys, cut}
+use Rattle.rules.specs.Entry.{Entry, Cert, Child, keys, cut}
 use Rattle.rules.specs.Page.{View, Page, isLeaf, count}
 use Rattle.rules.specs.Place.{cutView, mended}
 use Rattle.rules.specs.Insert.{lowerHalf, upperHalf, divide, putCert, putChild, newChild, lowerPage, upperPage}
