@@ -40,15 +40,6 @@ module _ {A : Type 0} {P : A → Type 0} where
   all-at (cons h k) zero d b = h
   all-at (cons h k) (suc i) d b = all-at k i d (omega arith)
 
-  pub all-by : (xs : List A) (d : A) → ((i : ℕ) → i < length xs → P (getD xs i d)) → All P xs
-  all-by [] d f = nil
-  all-by (x ∷ xs) d f = cons (f zero (omega arith)) (all-by xs d (λ i h. f (suc i) (omega arith)))
-
-  -- by a fact of every element there is
-  pub all-of : (xs : List A) → ((x : A) → P x) → All P xs
-  all-of [] f = nil
-  all-of (x ∷ xs) f = cons (f x) (all-of xs f)
-
 pub all-map : {A : Type 0} {P Q : A → Type 0} {xs : List A} → ((x : A) → P x → Q x) → All P xs → All Q xs
 all-map f nil = nil
 all-map f (cons {x = x} h k) = cons (f x h) (all-map f k)

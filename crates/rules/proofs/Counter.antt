@@ -5,14 +5,13 @@ use mathlib.Core.List.{List}
 use Prim.Native.Nat.{ℕ, _+_, _≤_}
 use native.Mathlib.Omega.{arith}
 use lib.ListN.{length}
-use Rattle.fields.specs.Field.{Bytes}
 use Rattle.rules.specs.Layout.{pageSize, lastNumber}
 use Rattle.rules.specs.Table.{pageAt, number0}
 use Rattle.rules.specs.Marks.{opened, turned}
 use Rattle.rules.specs.Open.{openDone}
 use Rattle.rules.specs.Sync.{syncDone}
 use Rattle.rules.specs.declared.Session.{Session}
-use Rattle.rules.proofs.PageZero.{length-setNumber, bytes-setNumber, number0-setNumber, pageAt-setNumber}
+use Rattle.rules.proofs.PageZero.{number0-setNumber, pageAt-setNumber}
 
 -- ---- an opening
 
@@ -28,14 +27,6 @@ module _ (s : List ℕ) where
   pub number-openDone : pageSize ≤ length s → number0 s ≤ lastNumber → number0 (openDone s .stable) ≡ openDone s .session .c + 1
   unfolding openDone opened
   number-openDone l h = number0-setNumber s (number0 s + 1) l (omega arith)
-
-  pub length-openDone : length (openDone s .stable) ≡ length s
-  unfolding openDone
-  length-openDone = length-setNumber s (number0 s + 1)
-
-  pub bytes-openDone : Bytes s → Bytes (openDone s .stable)
-  unfolding openDone
-  bytes-openDone h = bytes-setNumber s (number0 s + 1) h
 
   pub pageAt-openDone : (i : ℕ) → 1 ≤ i → pageAt (openDone s .stable) i ≡ pageAt s i
   unfolding openDone
@@ -55,14 +46,6 @@ module _ (s : Session) (w : List ℕ) where
   pub number-syncDone : pageSize ≤ length w → s .c ≤ lastNumber → number0 (syncDone s w .stable) ≡ syncDone s w .session .c + 1
   unfolding syncDone turned
   number-syncDone l h = number0-setNumber w (s .c + 2) l (omega arith) ∙ omega arith
-
-  pub length-syncDone : length (syncDone s w .stable) ≡ length w
-  unfolding syncDone
-  length-syncDone = length-setNumber w (s .c + 2)
-
-  pub bytes-syncDone : Bytes w → Bytes (syncDone s w .stable)
-  unfolding syncDone
-  bytes-syncDone h = bytes-setNumber w (s .c + 2) h
 
   pub pageAt-syncDone : (i : ℕ) → 1 ≤ i → pageAt (syncDone s w .stable) i ≡ pageAt w i
   unfolding syncDone

@@ -1,23 +1,16 @@
 -- Entries of one size in bytes, one after the other: `readEach` and `writeEach` over any reading, writing and size.
 -- Assumes nothing.
-use mathlib.Core.Path.{_≡_, refl, sym, ap, _∙_}
+use mathlib.Core.Path.{_≡_, refl, ap, _∙_}
 use mathlib.Core.List.{List, [], _∷_, _++_, append-assoc}
-use Prim.Native.Nat.{ℕ, zero, suc, _+_, _-_, _*_, _≤_, _<_}
-use native.Mathlib.Nat.{zero-add, suc-add, mul-zero, mul-suc, sub-zero, zero-sub, suc-sub-suc, add-comm}
+use Prim.Native.Nat.{ℕ, zero, suc, _-_, _*_, _≤_, _<_}
+use native.Mathlib.Nat.{mul-zero, mul-suc, sub-zero, zero-sub, suc-sub-suc, add-comm}
 use native.Mathlib.Omega.{arith}
 use lib.ListN.{length, take, drop, getD, length-append, length-drop}
-use lib.Seq.{take-nil, drop-nil, take-add, take-take, take-at, drop-at, take-append-le, drop-drop}
+use lib.Seq.{take-add, drop-at, drop-drop}
 use Rattle.fields.specs.Field.{Bytes}
 use Rattle.fields.proofs.Bytes.{bytes-nil, bytes-append, bytes-drop}
 use Rattle.rules.specs.Page.{readEach, writeEach}
 use Rattle.rules.proofs.All.{All, nil, cons}
-
--- a part of a part, the other way round
-pub drop-take : {A : Type 0} (m n : ℕ) (l : List A) → drop m (take n l) ≡ take (n - m) (drop m l)
-drop-take zero n l = rw sub-zero
-drop-take (suc m) zero l = rw zero-sub
-drop-take (suc m) (suc n) [] = sym (take-nil (suc n - suc m))
-drop-take (suc m) (suc n) (x ∷ xs) = rw suc-sub-suc (drop-take m n xs)
 
 -- ---- reading
 
@@ -34,16 +27,6 @@ module _ {A : Type 0} (read : List ℕ → A) (size : ℕ) where
   readEach-at (suc k) b (suc j) d h =
       readEach-at k (drop size b) j d (omega arith) ∙ rw (drop-drop, mul-suc, add-comm size (size * j))
 
-  pub readEach-add : (j k : ℕ) (b : List ℕ) → readEach read size (j + k) b ≡ readEach read size j b ++ readEach read size k (drop (size * j) b)
-  unfolding readEach
-  readEach-add zero k b = rw (zero-add, mul-zero)
-  readEach-add (suc j) k b = rw (suc-add, readEach, readEach-add j k (drop size b), drop-drop, mul-suc, add-comm size (size * j))
-
-  -- one more, at the end
-  pub readEach-end : (k : ℕ) (b : List ℕ) → readEach read size (k + 1) b ≡ readEach read size k b ++ (read (drop (size * k) b) ∷ [])
-  unfolding readEach
-  readEach-end k b = readEach-add k 1 b
-
   pub take-readEach : (j k : ℕ) (b : List ℕ) → j ≤ k → take j (readEach read size k b) ≡ readEach read size j b
   unfolding readEach
   take-readEach zero k b h = refl
@@ -55,31 +38,6 @@ module _ {A : Type 0} (read : List ℕ → A) (size : ℕ) where
   drop-readEach zero k b = rw (sub-zero, mul-zero)
   drop-readEach (suc j) zero b = rw zero-sub
   drop-readEach (suc j) (suc k) b = drop-readEach j k (drop size b) ∙ rw (suc-sub-suc, drop-drop, mul-suc, add-comm size (size * j))
-
--- what is read of bytes lies in the first `size` of them
-abbrev pub Within : {A : Type 0} → (List ℕ → A) → ℕ → Type 0
-Within read size = (b : List ℕ) → read (take size b) ≡ read b
-
-module _ {A : Type 0} (read : List ℕ → A) (size : ℕ) (within : Within read size) where
-  -- bytes behind the last entry make no difference
-  pub readEach-take : (k n : ℕ) (b : List ℕ) → size * k ≤ n → readEach read size k (take n b) ≡ readEach read size k b
-  unfolding readEach
-  readEach-take zero n b h = refl
-  readEach-take (suc k) n b h =
-      let e : read (take n b) ≡ read b =
-      sym (within (take n b)) ∙ ap read (take-take size n b (omega arith)) ∙ within b
-      in
-      rw (e, drop-take size n b, readEach-take k (n - size) (drop size b) (omega arith))
-
-  pub readEach-append : (k : ℕ) (b rest : List ℕ) → size * k ≤ length b → readEach read size k (b ++ rest) ≡ readEach read size k b
-  readEach-append k b rest h =
-      sym (readEach-take k (size * k) (b ++ rest) (omega arith))
-      ∙ ap (readEach read size k) (take-append-le (size * k) b rest h)
-      ∙ readEach-take k (size * k) b (omega arith)
-
-  pub readEach-same : (k : ℕ) (b b′ : List ℕ) → take (size * k) b ≡ take (size * k) b′ → readEach read size k b ≡ readEach read size k b′
-  readEach-same k b b′ e =
-      sym (readEach-take k (size * k) b (omega arith)) ∙ ap (readEach read size k) e ∙ readEach-take k (size * k) b′ (omega arith)
 
 -- each one read of bytes has what every one read of bytes has
 pub all-readEach : {A : Type 0} (P : A → Type 0) (read : List ℕ → A) (size : ℕ) → ((b : List ℕ) → Bytes b → P (read b)) → (k : ℕ) (b : List ℕ) → Bytes b → All P (readEach read size k b)
@@ -105,20 +63,6 @@ module _ {A : Type 0} (write : A → List ℕ) (size : ℕ) (sized : (x : A) →
   unfolding writeEach
   length-writeEach [] = omega arith
   length-writeEach (x ∷ xs) = rw (length-append, sized x, length-writeEach xs, mul-suc) (omega arith)
-
-  pub drop-writeEach : (j : ℕ) (xs : List A) → drop (size * j) (writeEach write xs) ≡ writeEach write (drop j xs)
-  unfolding writeEach
-  drop-writeEach zero xs = rw mul-zero
-  drop-writeEach (suc j) [] = drop-nil (size * suc j)
-  drop-writeEach (suc j) (x ∷ xs) =
-      rw (mul-suc, add-comm, ← drop-drop, drop-at (write x) (writeEach write xs) size (sized x)) (drop-writeEach j xs)
-
-  pub take-writeEach : (j : ℕ) (xs : List A) → take (size * j) (writeEach write xs) ≡ writeEach write (take j xs)
-  unfolding writeEach
-  take-writeEach zero xs = rw mul-zero
-  take-writeEach (suc j) [] = take-nil (size * suc j)
-  take-writeEach (suc j) (x ∷ xs) =
-      rw (mul-suc, add-comm, take-add, take-at (write x) (writeEach write xs) size (sized x), drop-at (write x) (writeEach write xs) size (sized x), take-writeEach j xs)
 
 -- ---- what was written is read, and what was read is written
 

@@ -6,9 +6,9 @@ use mathlib.Core.Logic.{_⊎_, inl, inr}
 use mathlib.Core.Bool.{Bool, true, false}
 use mathlib.Core.List.{List, [], _∷_, _++_, append-nil}
 use mathlib.Core.Option.{Option, some, none, Option·some-injective, Option·none-ne-some}
-use lib.Dec.{ltb, eqb}
+use lib.Dec.{eqb}
 use lib.ListN.{length, getD, take, drop, take-append-drop}
-use borrow.Author.Tests.{ltb-true, eqb-true, eqb-false, eq-eqb, ne-eqb}
+use borrow.Author.Tests.{eqb-true, eqb-false, eq-eqb, ne-eqb}
 use Rattle.rules.specs.Test.{between, all, mem}
 use Rattle.rules.specs.Entry.{Entry, keys, find, cut, risesFrom, rising}
 use Rattle.rules.proofs.Tests.{all-take, all-drop, fails, not-both, between-low, between-high, between-of, between-below, between-above, between-wider, all-head, all-tail, all-nil, all-cons, all-imp, all-mem, all-of-mem, mem-nil, mem-head, mem-tail, mem-cases}
@@ -172,9 +172,6 @@ module _ {B : Type 0} where
       (λ x xs e ih. all-cons (between low high) (x .key) (keys (cut low high xs)) e ih)
       (λ x xs e ih. ih)
       xs
-
-  pub find-cut-out : (low high k : ℕ) (xs : List (Entry B)) → between low high k ≡ false → find k (cut low high xs) ≡ none
-  find-cut-out low high k xs h = find-outside low high k (cut low high xs) (cut-within low high xs) h
 
   -- what each entry passes, each entry of a cut passes
   pub all-cut : (p : Entry B → Bool) (low high : ℕ) (xs : List (Entry B)) → all p xs ≡ true → all p (cut low high xs) ≡ true
@@ -349,26 +346,3 @@ module _ {B : Type 0} where
 
       left : cut m high (take i xs) ≡ []
       left = cut-none m high (take i xs) outside
-
-  -- a cut is a run of places: below the range before it, above the range behind it
-  pub cut-run : (low high a m : ℕ) (xs : List (Entry B)) → all (λ k. ltb k low) (take a (keys xs)) ≡ true
-      → all (between low high) (take m (drop a (keys xs))) ≡ true → all (λ k. ltb high k) (drop m (drop a (keys xs))) ≡ true
-      → cut low high xs ≡ take m (drop a xs)
-  cut-run low high a m xs before middle behind =
-      ap (cut low high) (sym (take-append-drop a xs))
-      ∙ (cut-append low high (take a xs) (drop a xs)
-      ∙ (rw one (ap (cut low high) (sym (take-append-drop m (drop a xs))))
-      ∙ (cut-append low high (take m (drop a xs)) (drop m (drop a xs)) ∙ rw (two, three, append-nil))))
-    where
-      one : cut low high (take a xs) ≡ []
-      one =
-          cut-none low high (take a xs)
-          (λ k e. between-below low high k (ltb-true k low (all-mem (λ j. ltb j low) k (take a (keys xs)) before (rw keys-take at e))))
-
-      two : cut low high (take m (drop a xs)) ≡ take m (drop a xs)
-      two = cut-all low high (take m (drop a xs)) (rw (keys-take, keys-drop) middle)
-
-      three : cut low high (drop m (drop a xs)) ≡ []
-      three =
-          cut-none low high (drop m (drop a xs))
-          (λ k e. between-above low high k (ltb-true high k (all-mem (λ j. ltb high j) k (drop m (drop a (keys xs))) behind (rw (keys-drop, keys-drop) at e))))

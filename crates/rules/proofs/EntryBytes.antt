@@ -1,21 +1,20 @@
 -- A certificate's twelve bytes and a child's sixteen: what is written is read back if every number fits its field, and
--- what is read of bytes is written as they stood. Then the same of so many, one after the other. Assumes nothing.
+-- what is read of bytes is written as they stood. So many, one after the other, are read back too. Assumes nothing.
 use mathlib.Core.Path.{_≡_, sym, ap, _∙_}
 use mathlib.Core.List.{List, _++_, append-assoc}
 use Prim.Native.Nat.{ℕ, _*_, _^_, _≤_, _<_}
 use native.Mathlib.Omega.{arith}
-use lib.Dec.{lit≤}
 use lib.ListN.{length, take, drop, length-append}
 use lib.Seq.{take-add, drop-drop}
 use Rattle.fields.specs.Field.{le, Bytes}
 use Rattle.fields.proofs.Bytes.{bytes-le, bytes-append}
 use Rattle.fields.proofs.Number.{length-le}
-use Rattle.fields.proofs.Field.{leAt-bound, leAt-take, le-leAt, in-pieces}
+use Rattle.fields.proofs.Field.{leAt-bound, le-leAt, in-pieces}
 use Rattle.rules.specs.Layout.{certSize, childSize}
 use Rattle.rules.specs.Entry.{Cert, Child}
 use Rattle.rules.specs.Page.{readEach, writeEach, certIn, certBytes, childIn, childBytes}
 use Rattle.rules.proofs.All.{All}
-use Rattle.rules.proofs.Each.{Within, length-writeEach, bytes-writeEach, readEach-writeEach, writeEach-readEach, all-readEach}
+use Rattle.rules.proofs.Each.{length-writeEach, bytes-writeEach, readEach-writeEach, all-readEach}
 
 -- ---- a certificate
 
@@ -31,10 +30,6 @@ length-certBytes x = simp (length-append, length-le)
 pub bytes-certBytes : (x : Cert) → Bytes (certBytes x)
 unfolding certBytes
 bytes-certBytes x = bytes-append (le 8 (x .key)) (le 4 (x .value)) (bytes-le 8 (x .key)) (bytes-le 4 (x .value))
-
-pub certIn-within : Within certIn certSize
-unfolding certIn
-certIn-within b = rw (leAt-take b certSize 0 8 (lit≤ tt), leAt-take b certSize 8 4 (lit≤ tt))
 
 pub certIn-certBytes : (x : Cert) → WideCert x → (rest : List ℕ) → certIn (certBytes x ++ rest) ≡ x
 unfolding certIn certBytes
@@ -71,11 +66,6 @@ bytes-childBytes x =
     (bytes-append (le 2 (x .value .child)) (le 2 (x .value .previous) ++ le 4 (x .value .birth))
     (bytes-le 2 (x .value .child))
     (bytes-append (le 2 (x .value .previous)) (le 4 (x .value .birth)) (bytes-le 2 (x .value .previous)) (bytes-le 4 (x .value .birth))))
-
-pub childIn-within : Within childIn childSize
-unfolding childIn
-childIn-within b =
-    rw (leAt-take b childSize 0 8 (lit≤ tt), leAt-take b childSize 8 2 (lit≤ tt), leAt-take b childSize 10 2 (lit≤ tt), leAt-take b childSize 12 4 (lit≤ tt))
 
 pub childIn-childBytes : (x : Child) → WideChild x → (rest : List ℕ) → childIn (childBytes x ++ rest) ≡ x
 unfolding childIn childBytes
@@ -115,12 +105,6 @@ readCerts-writeCerts h rest = readEach-writeEach certIn certBytes certSize WideC
 
 pub readChildren-writeChildren : {xs : List Child} → All WideChild xs → (rest : List ℕ) → readEach childIn childSize (length xs) (writeEach childBytes xs ++ rest) ≡ xs
 readChildren-writeChildren h rest = readEach-writeEach childIn childBytes childSize WideChild length-childBytes childIn-childBytes h rest
-
-pub writeCerts-readCerts : (k : ℕ) (b : List ℕ) → Bytes b → certSize * k ≤ length b → writeEach certBytes (readEach certIn certSize k b) ≡ take (certSize * k) b
-writeCerts-readCerts k b h l = writeEach-readEach certIn certBytes certSize certBytes-certIn k b h l
-
-pub writeChildren-readChildren : (k : ℕ) (b : List ℕ) → Bytes b → childSize * k ≤ length b → writeEach childBytes (readEach childIn childSize k b) ≡ take (childSize * k) b
-writeChildren-readChildren k b h l = writeEach-readEach childIn childBytes childSize childBytes-childIn k b h l
 
 pub wide-readCerts : (k : ℕ) (b : List ℕ) → Bytes b → All WideCert (readEach certIn certSize k b)
 wide-readCerts k b h = all-readEach WideCert certIn certSize wide-certIn k b h

@@ -16,7 +16,7 @@ use Rattle.rules.proofs.Invariant.{Good, States, Old, same, changed, Ne
 use Rattle.rules.proofs.Places.{Shown, fitting, lost, show-some, fits-of}
 use Rattle.rules.proofs.Nodes.{node-page, node-stays}
 use Rattle.rules.proofs.Mix.{Mixed, lost-as, show-as}
-use Rattle.rules.proofs.MixTheorem.{Older, mix-good, mix-older, mix-tells, lost-before}
+use Rattle.rules.proofs.MixTheorem.{Older, mix-good, mix-older, lost-before}
 
 -- ── An epoch starts ─────────────────────────────────────────────────────────────────────────────────────────────
 
@@ -102,15 +102,8 @@ after n S W M c d Been I X h = start n M d (Tells n M) (mix-older n S W M c Been
 pub all-written : (n : ℕ) (S W : List ℕ) → Mixed n S W W
 all-written n S W = record { pages = λ i p q. inr refl; root = inr refl }
 
-pub none-written : (n : ℕ) (S W : List ℕ) → Mixed n S W S
-none-written n S W = record { pages = λ i p q. inl refl; root = inl refl }
-
 pub working-good : {n : ℕ} {S W : List ℕ} {c : ℕ} {Been : States} → Inv n S W c Been → Good n W
 working-good {n} {S} {W} {c} {Been} I = mix-good n S W W c Been I (all-written n S W)
-
-pub working-tells : {n : ℕ} {S W : List ℕ} {c : ℕ} {Been : States} {k : ℕ} {s : Option ℕ}
-    → Inv n S W c Been → Tells n W k s → Been k s
-working-tells {n} {S} {W} {c} {Been} I x = mix-tells n S W W c Been I (all-written n S W) x
 
 -- ── Tables that read alike ──────────────────────────────────────────────────────────────────────────────────────
 

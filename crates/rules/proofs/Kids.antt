@@ -57,7 +57,12 @@ module _ (n : ℕ) (t : List ℕ) (e : Place) (v : View) (s : show n t e ≡ som
           subst (λ (u : View). (1 ≤ u .kind) × (u .kind ≤ topKind)) (sym q) (m .sound .kind-from, m .sound .kind-to)
 
   pub shown-want : (e .want ≡ 0) ⊎ (e .want ≡ v .kind)
-  shown-want = Rattle.rules.proofs.Places.shown-kind shown
+  unfolding cutView
+  shown-want = go shown
+    where
+      go : Shown n t e v → (e .want ≡ 0) ⊎ (e .want ≡ v .kind)
+      go (fitting f q) = subst (λ (u : View). (e .want ≡ 0) ⊎ (e .want ≡ u .kind)) (sym q) (f .kind)
+      go (lost f m q) = subst (λ (u : View). (e .want ≡ 0) ⊎ (e .want ≡ u .kind)) (sym q) (m .kind)
 
   pub sound-here : e .low ≤ e .high → Sound n (e .low) (e .high) v
   sound-here r = shown-sound r shown

@@ -5,7 +5,6 @@ pub mod Tests
 pub mod Rises
 pub mod Entries
 pub mod Puts
-pub mod Runs
 pub mod Views
 pub mod Sounds
 pub mod Places

@@ -13,7 +13,7 @@ use lib.Seq.{getD-set-same, getD-set-other}
 use Rattle.rules.specs.Layout.{mostPages}
 use Rattle.rules.specs.Test.{mem}
 use Rattle.rules.specs.Tree.{Tree}
-use Rattle.rules.specs.Marks.{taken, freed, waits, raised, marksFrom, marks, isPage, opened, nobody, turned}
+use Rattle.rules.specs.Marks.{taken, freed, waits, marksFrom, marks, isPage, opened, turned}
 use Rattle.rules.specs.declared.Session.{Session}
 use Rattle.rules.proofs.Tests.{between-low, between-high, between-of}
 
@@ -67,19 +67,12 @@ module _ {s : Session} (z : Sized s) where
   pub sized-waits : (i : ℕ) → Sized (waits i s)
   sized-waits i = record { free = z .free; waiting = length-set (s .waiting) i true ∙ z .waiting }
 
-  pub sized-raised : Sized (raised s)
-  sized-raised = record { free = z .free; waiting = z .waiting }
-
 pub sized-opened : (n c : ℕ) (t : Tree) → Sized (opened n c t)
 unfolding opened
 sized-opened n c t = record {
   free = length-marks (λ i. isPage n i && (not (mem i (t .children)) && not (mem i (t .spared))));
   waiting = length-marks (λ i. false);
 }
-
-pub sized-nobody : Sized nobody
-unfolding nobody
-sized-nobody = record { free = length-marks (λ i. false); waiting = length-marks (λ i. false) }
 
 pub sized-turned : (s : Session) → Sized (turned s)
 unfolding turned

@@ -10,8 +10,7 @@ use lib.Seq.{take-at, drop-at, length-take-le}
 use Rattle.fields.specs.Field.{Bytes}
 use Rattle.fields.proofs.Bytes.{bytes-append, bytes-take, bytes-drop}
 use Rattle.rules.specs.Layout.{pageSize}
-use Rattle.rules.specs.Page.{pageIn}
-use Rattle.rules.specs.Table.{pageAt, read}
+use Rattle.rules.specs.Table.{pageAt}
 use Rattle.rules.specs.Crash.{mix}
 use Rattle.rules.proofs.Tables.{Has, pageAt-suc}
 
@@ -63,11 +62,3 @@ pageAt-mix (false ∷ marks) w s (suc i) e h =
     later s (mix marks (drop pageSize w) (drop pageSize s)) i (omega arith)
     ∙ pageAt-mix marks (drop pageSize w) (drop pageSize s) i (simp (length-drop, e)) (rw length-drop (omega arith))
     ∙ rw (pageAt-suc w i, pageAt-suc s i)
-
-pub read-mix : (marks : List Bool) (w s : List ℕ) (i : ℕ) → length w ≡ length s → Has s i → read (mix marks w s) i ≡ chosen (getD marks i false) (read w i) (read s i)
-unfolding read
-read-mix marks w s i e h = ap pageIn (pageAt-mix marks w s i e h) ∙ go (getD marks i false)
-  where
-    go : (t : Bool) → pageIn (chosen t (pageAt w i) (pageAt s i)) ≡ chosen t (pageIn (pageAt w i)) (pageIn (pageAt s i))
-    go true = refl
-    go false = refl

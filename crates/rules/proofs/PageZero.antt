@@ -11,9 +11,9 @@ use Rattle.fields.proofs.Number.{length-le}
 use Rattle.fields.proofs.Field.{leAt-take, length-put, bytes-put, drop-put, get-put, get-put-other, after-puts}
 use Rattle.rules.specs.Layout.{pageSize, lastKey}
 use Rattle.rules.specs.Page.{Page, pageIn}
-use Rattle.rules.specs.Table.{pageAt, setPage, read, build, change, kind0, n0, number0, root0, previous0, birth0, setNumber, setRoot, fit0}
+use Rattle.rules.specs.Table.{pageAt, read, build, change, kind0, n0, number0, root0, previous0, birth0, setNumber, setRoot, fit0}
 use Rattle.rules.specs.Place.{rootPlace}
-use Rattle.rules.proofs.Tables.{Has, Room, pageAt-setPage-other, pageAt-build-other, pageAt-change-other}
+use Rattle.rules.proofs.Tables.{Has, Room, pageAt-build-other, pageAt-change-other}
 
 -- ---- two tables with the same page 0
 
@@ -52,11 +52,8 @@ pub fit0-same : {t u : List ℕ} → Same0 t u → (n : ℕ) → fit0 n t ≡ fi
 unfolding fit0
 fit0-same s n = rw (s .kind, s .n, s .root, s .previous)
 
--- another page set, built or changed
+-- another page built or changed
 module _ (t : List ℕ) (i : ℕ) (h : Has t i) (pos : 1 ≤ i) where
-  pub same0-setPage : (q : List ℕ) → length q ≡ pageSize → Same0 (setPage t i q) t
-  same0-setPage q e = same0 (setPage t i q) t (pageAt-setPage-other t i q h e 0 (λ z. omega arith))
-
   pub same0-build : (p : Page) → Room p → Same0 (build t i p) t
   same0-build p r = same0 (build t i p) t (pageAt-build-other t i p h r 0 (λ z. omega arith))
 

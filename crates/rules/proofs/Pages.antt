@@ -1,13 +1,13 @@
--- A page in its bytes: what is written is read back if every number fits its field, and what is read of bytes is written
+-- A page in its bytes: what is written is read back if every number fits its field, and a header that was read is written
 -- as it stood. So a page that was built or changed shows itself. Assumes nothing.
 use mathlib.Core.Path.{_≡_, refl, sym, ap, _∙_}
 use mathlib.Core.Bool.{Bool, true, false}
-use mathlib.Core.List.{List, [], _++_, append-assoc, append-nil}
+use mathlib.Core.List.{List, [], _++_, append-assoc}
 use Prim.Native.Nat.{ℕ, zero, suc, _+_, _*_, _^_, _≤_, _<_}
 use native.Mathlib.Nat.{add-zero, zero-add}
 use native.Mathlib.Omega.{arith}
 use lib.Dec.{eqb}
-use lib.ListN.{length, take, drop, getD, replicate, length-append, length-drop, length-replicate}
+use lib.ListN.{length, take, drop, replicate, length-append, length-replicate}
 use lib.Seq.{take-add, drop-at, drop-drop}
 use mir.Facts.{fits-lit}
 use Rattle.fields.specs.Field.{le, leAt, Bytes}
@@ -19,9 +19,9 @@ use Rattle.rules.specs.Entry.{Cert, Child}
 use Rattle.rules.specs.Page.{View, Page, isLeaf, count, readEach, writeEach, certIn, certBytes, childIn, childBytes, viewIn, pageIn, headerBytes, pageBytes, over, blank, buildBytes, changeBytes, fresh, touch}
 pub use Rattle.rules.proofs.Views.{Shaped, shaped-viewIn}
 use Rattle.rules.proofs.All.{All, nil}
-use Rattle.rules.proofs.Over.{length-over, over-take, bytes-over}
-use Rattle.rules.proofs.Each.{length-readEach, readEach-at}
-use Rattle.rules.proofs.EntryBytes.{WideCert, WideChild, length-writeCerts, length-writeChildren, bytes-writeCerts, bytes-writeChildren, readCerts-writeCerts, readChildren-writeChildren, writeCerts-readCerts, writeChildren-readChildren, wide-readCerts, wide-readChildren}
+use Rattle.rules.proofs.Over.{length-over, bytes-over}
+use Rattle.rules.proofs.Each.{length-readEach}
+use Rattle.rules.proofs.EntryBytes.{WideCert, WideChild, length-writeCerts, length-writeChildren, bytes-writeCerts, bytes-writeChildren, readCerts-writeCerts, readChildren-writeChildren, wide-readCerts, wide-readChildren}
 
 -- ---- what a page must be to be read as it was written
 
@@ -70,15 +70,6 @@ count-viewIn b = go (eqb (leAt b 0 2) leafKind) refl
     go : (t : Bool) → eqb (leAt b 0 2) leafKind ≡ t → length (viewIn b .certs) + length (viewIn b .children) ≡ leAt b 2 2
     go true e = rw (viewIn-leaf b e, length-readEach, add-zero)
     go false e = rw (viewIn-inner b e, length-readEach, zero-add)
-
--- the entry at a place of the page
-pub cert-at : (b : List ℕ) (i : ℕ) (d : Cert) → isLeaf (viewIn b) ≡ true → i < leAt b 2 2 → getD (viewIn b .certs) i d ≡ certIn (drop (headerSize + certSize * i) b)
-cert-at b i d e h =
-    rw (viewIn-leaf b (sym (isLeaf-viewIn b) ∙ e), readEach-at certIn certSize (leAt b 2 2) (drop headerSize b) i d h, drop-drop)
-
-pub child-at : (b : List ℕ) (i : ℕ) (d : Child) → isLeaf (viewIn b) ≡ false → i < leAt b 2 2 → getD (viewIn b .children) i d ≡ childIn (drop (headerSize + childSize * i) b)
-child-at b i d e h =
-    rw (viewIn-inner b (sym (isLeaf-viewIn b) ∙ e), readEach-at childIn childSize (leAt b 2 2) (drop headerSize b) i d h, drop-drop)
 
 -- what is read of bytes fits
 pub wide-viewIn : (b : List ℕ) → Bytes b → WideView (viewIn b)
@@ -262,7 +253,7 @@ pub pageIn-changeBytes : {p : Page} → Wide p → (old : List ℕ) → pageIn (
 unfolding changeBytes
 pageIn-changeBytes w old = pageIn-over w old
 
--- ---- what was read is written
+-- ---- the header that was read is written
 
 take-header : (b : List ℕ) → take headerSize b ≡ take 2 b ++ (take 2 (drop 2 b) ++ (take 4 (drop 4 b) ++ (take 4 (drop 8 b) ++ (take 4 (drop 12 b) ++ (take 8 (drop 16 b) ++ take 8 (drop 24 b))))))
 take-header b =
@@ -276,30 +267,6 @@ headerBytes-pageIn b h l =
     let count : le 2 (count (viewIn b)) ≡ take 2 (drop 2 b) = ap (le 2) (count-viewIn b) ∙ le-leAt b 2 2 h (omega arith) in
     rw (kind, count, le-leAt b 4 4 h (omega arith), le-leAt b 8 4 h (omega arith), le-leAt b 12 4 h (omega arith), le-leAt b 16 8 h (omega arith), le-leAt b 24 8 h (omega arith))
     (sym (take-header b))
-
-entries-pageIn : (b : List ℕ) → Bytes b → headerSize + (certSize * length (viewIn b .certs) + childSize * length (viewIn b .children)) ≤ length b → writeEach certBytes (viewIn b .certs) ++ writeEach childBytes (viewIn b .children) ≡ take (certSize * length (viewIn b .certs) + childSize * length (viewIn b .children)) (drop headerSize b)
-unfolding writeEach
-entries-pageIn b h = go (eqb (leAt b 0 2) leafKind) refl
-  where
-    go : (t : Bool) → eqb (leAt b 0 2) leafKind ≡ t → headerSize + (certSize * length (viewIn b .certs) + childSize * length (viewIn b .children)) ≤ length b → writeEach certBytes (viewIn b .certs) ++ writeEach childBytes (viewIn b .children) ≡ take (certSize * length (viewIn b .certs) + childSize * length (viewIn b .children)) (drop headerSize b)
-    go true e =
-        rw (viewIn-leaf b e, length-readEach, append-nil, add-zero)
-        (λ l. writeCerts-readCerts (leAt b 2 2) (drop headerSize b) (bytes-drop headerSize b h) (rw length-drop (omega arith)))
-    go false e =
-        rw (viewIn-inner b e, length-readEach, zero-add)
-        (λ l. writeChildren-readChildren (leAt b 2 2) (drop headerSize b) (bytes-drop headerSize b h) (rw length-drop (omega arith)))
-
--- all of it, where the entries it counts lie within the bytes
-pub pageBytes-pageIn : (b : List ℕ) → Bytes b → length (pageBytes (pageIn b)) ≤ length b → pageBytes (pageIn b) ≡ take (length (pageBytes (pageIn b))) b
-unfolding pageBytes pageIn
-pageBytes-pageIn b h l =
-    let k = rw (length-pageBytes (pageIn b)) at l in
-    rw (length-pageBytes (pageIn b), headerBytes-pageIn b h (omega arith), entries-pageIn b h k) (sym (take-add headerSize (certSize * length (viewIn b .certs) + childSize * length (viewIn b .children)) b))
-
--- so a page changed to what it is stays as it is
-pub changeBytes-pageIn : (b : List ℕ) → Bytes b → length (pageBytes (pageIn b)) ≤ length b → changeBytes (pageIn b) b ≡ b
-unfolding changeBytes
-changeBytes-pageIn b h l = ap (λ (xs : List ℕ). over xs b) (pageBytes-pageIn b h l) ∙ over-take (length (pageBytes (pageIn b))) b l
 
 -- ---- pages that a call makes fit
 

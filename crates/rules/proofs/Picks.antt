@@ -262,14 +262,6 @@ kid-pick want high k xs e r d p q =
     let h = pick-holds k (placesIn want high xs) (t .0) (t .1) in
     t .1 ∙ ap some (kid-same k (pick-kid want high k xs (t .0) r (t .1)) d (h .0) (h .1) p q)
 
-pub pick-same : (want high k j : ℕ) (xs : List Child) (e : Place) → Rising high xs → pick k (placesIn want high xs) ≡ some e
-    → e .low ≤ j → j ≤ e .high → pick j (placesIn want high xs) ≡ some e
-pick-same want high k j xs e r h p q = kid-pick want high j xs e r (pick-kid want high k xs e r h) p q
-
-pub kid-places : (want high : ℕ) (xs : List Child) (e : Place) → Rising high xs → Kid want high xs e → List·Memᴰ e (placesIn want high xs)
-kid-places want high xs e r d =
-    pick-mem (e .low) (placesIn want high xs) e (kid-pick want high (e .low) xs e r d (omega arith) (d .range))
-
 -- ── A range cut that falls on keys ──────────────────────────────────────────────────────────────────────────────
 
 -- from a key, up to high or below another key

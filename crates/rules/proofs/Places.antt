@@ -1,4 +1,4 @@
--- What a place asks and what it shows, as facts: fits, mendable, show, each once into facts and back; and a mended
+-- What a place asks and what it shows, as facts: fits and mendable into facts and back, show into facts; and a mended
 -- page fits its place. Assumes nothing.
 use Prim.Native.Nat.{ℕ, _-_, _≤_, _<_}
 use native.Mathlib.Omega.{arith}
@@ -6,7 +6,7 @@ use mathlib.Core.Path.{_≡_, refl, sym, ap, _∙_, subst}
 use mathlib.Core.Logic.{_⊎_, inl, inr}
 use mathlib.Core.Bool.{Bool, true, false, not, _||_}
 use mathlib.Core.List.{List}
-use mathlib.Core.Option.{Option, some, none, Option·some-injective, Option·none-ne-some}
+use mathlib.Core.Option.{some, none, Option·some-injective, Option·none-ne-some}
 use lib.Dec.{eqb}
 use borrow.Author.Tests.{leb-true, le-leb, eqb-true, eqb-false, eq-eqb, ne-eqb, not-true}
 use lib.ListN.{length}
@@ -181,10 +181,6 @@ pub mended-fits : {n : ℕ} {e : Place} {q : Page} (c : ℕ) → e .low ≤ e .h
 unfolding mended cutView
 mended-fits {e = e} c r m = fits-fresh c (e .birth) e refl refl refl (m .kind) (mended-view-sound r m)
 
-pub mended-sound : {n : ℕ} {e : Place} {q : Page} (c : ℕ) → e .low ≤ e .high → Mendable n e q → sound n (mended c e q) ≡ true
-unfolding mended fresh
-mended-sound {n} {e} {q} c r m = sound-of n (mended c e q) (mended-view-sound r m)
-
 -- ── Show ────────────────────────────────────────────────────────────────────────────────────────────────────────
 
 -- the child's page as it stands, or the previous page's entries in the range
@@ -221,10 +217,6 @@ show-some n t e v h =
         (Option·some-injective v (cutView (e .low) (e .high) (read t (e .previous) .view)) (sym h ∙ show-lost n t e p m))
     go false p false q = absurd (Option·none-ne-some v (sym (show-damaged n t e p q) ∙ h))
 
-pub show-of : (n : ℕ) (t : List ℕ) (e : Place) (v : View) → Shown n t e v → show n t e ≡ some v
-show-of n t e v (fitting f w) = show-fitting n t e f ∙ ap some (sym w)
-show-of n t e v (lost p m w) = show-lost n t e p m ∙ ap some (sym w)
-
 -- a damaged place neither fits nor can be mended
 pub show-none : (n : ℕ) (t : List ℕ) (e : Place) → show n t e ≡ none
     → (fits n e (read t (e .child)) ≡ false) × (mendable n e (read t (e .previous)) ≡ false)
@@ -244,11 +236,6 @@ module _ {n : ℕ} {t : List ℕ} {e : Place} {v : View} where
   shown-sound r (fitting f w) = subst (Sound n (e .low) (e .high)) (sym w) (f .sound)
   shown-sound r (lost p m w) = subst (Sound n (e .low) (e .high)) (sym w) (mended-view-sound r m)
 
-  pub shown-kind : Shown n t e v → (e .want ≡ 0) ⊎ (e .want ≡ v .kind)
-  unfolding cutView
-  shown-kind (fitting f w) = subst (λ (x : View). (e .want ≡ 0) ⊎ (e .want ≡ x .kind)) (sym w) (f .kind)
-  shown-kind (lost p m w) = subst (λ (x : View). (e .want ≡ 0) ⊎ (e .want ≡ x .kind)) (sym w) (m .kind)
-
   pub shown-shaped : Shown n t e v → Shaped v
   shown-shaped (fitting f w) = subst Shaped (sym w) (shaped-read t (e .child))
   shown-shaped (lost p m w) =
@@ -258,19 +245,6 @@ module _ {n : ℕ} {t : List ℕ} {e : Place} {v : View} where
 
 pub shows : (n : ℕ) (t : List ℕ) (e : Place) (p : Page) → read t (e .child) ≡ p → Fits n e p → show n t e ≡ some (p .view)
 shows n t e p r f = show-fitting n t e (subst (Fits n e) (sym r) f) ∙ ap (λ (x : Page). some (x .view)) r
-
--- what a place shows lies in its two pages alone
-pub show-same : (n : ℕ) (t u : List ℕ) (e : Place) → read t (e .child) ≡ read u (e .child)
-    → read t (e .previous) ≡ read u (e .previous) → show n t e ≡ show n u e
-unfolding show
-show-same n t u e p q = ap (λ (x : Page). of x (read t (e .previous))) p ∙ ap (of (read u (e .child))) q
-  where
-    of : Page → Page → Option View
-    of x y =
-        elim (fits n e x) [
-          | true ↦ some (x .view)
-          | false ↦ elim (mendable n e y) [ true ↦ some (cutView (e .low) (e .high) (y .view)) | false ↦ none ]
-        ]
 
 -- a mend changes nothing that its place shows
 pub shows-mended : (n c : ℕ) (t u : List ℕ) (e : Place) → e .low ≤ e .high → fits n e (read t (e .child)) ≡ false

@@ -1,20 +1,19 @@
--- An entry put among others in key order: what is found then, what stays in order, how many there are, and what a
--- range cut of it keeps. Assumes nothing.
-use Prim.Native.Nat.{ℕ, zero, suc, _≤_, _<_}
+-- An entry put among others in key order: what is found then, what stays in order, and how many there are. Assumes nothing.
+use Prim.Native.Nat.{ℕ, suc, _≤_, _<_}
 use native.Mathlib.Omega.{arith}
 use mathlib.Core.Path.{_≡_, refl, sym, ap, _∙_}
 use mathlib.Core.Logic.{_⊎_, inl, inr}
 use mathlib.Core.Bool.{Bool, true, false}
-use mathlib.Core.List.{List, [], _∷_, _++_}
-use mathlib.Core.Option.{some, none, Option·none-ne-some}
+use mathlib.Core.List.{List, [], _∷_}
+use mathlib.Core.Option.{some}
 use lib.Dec.{ltb, eqb}
-use lib.ListN.{length, getD, take, drop}
+use lib.ListN.{length}
 use borrow.Author.Tests.{ltb-true, ltb-false, lt-ltb, le-ltb, eqb-true, eqb-false, eq-eqb, ne-eqb}
-use Rattle.rules.specs.Test.{between, all, mem}
-use Rattle.rules.specs.Entry.{Entry, keys, find, cut, put, risesFrom, rising}
-use Rattle.rules.proofs.Tests.{all-head, all-tail, all-cons, mem-nil, mem-cases, mem-at}
-use Rattle.rules.proofs.Rises.{rises-nil, rises-head, rises-tail, rises-cons, rises-lower, rises-mem, rising-from, rising-of-from, rising-tail, all-keys, length-keys}
-use Rattle.rules.proofs.Entries.{find-head, find-tail, find-cons, find-mem, mem-find, cut-in, cut-out, cut-nil, cut-cons, cut-rises}
+use Rattle.rules.specs.Test.{all, mem}
+use Rattle.rules.specs.Entry.{Entry, keys, find, put, risesFrom, rising}
+use Rattle.rules.proofs.Tests.{all-head, all-tail, all-cons, mem-nil, mem-cases}
+use Rattle.rules.proofs.Rises.{rises-nil, rises-head, rises-tail, rises-cons, rises-lower, rises-mem, rising-from, rising-of-from, rising-tail, all-keys}
+use Rattle.rules.proofs.Entries.{find-head, find-tail, find-cons, find-mem, mem-find}
 
 module _ {B : Type 0} where
   -- ── The three cases ───────────────────────────────────────────────────────────────────────────────────────────
@@ -142,14 +141,6 @@ module _ {B : Type 0} where
 
   -- ── How many ──────────────────────────────────────────────────────────────────────────────────────────────────
 
-  pub length-put-absent : (x : Entry B) (ys : List (Entry B)) → find (x .key) ys ≡ none → length (put x ys) ≡ suc (length ys)
-  length-put-absent x ys =
-      put-ind x (λ ys zs. find (x .key) ys ≡ none → length zs ≡ suc (length ys)) (λ h. refl)
-      (λ y ys e h. refl)
-      (λ y ys e h. absurd (Option·none-ne-some (y .value) (sym h ∙ find-head (x .key) y ys e)))
-      (λ y ys e ih h. ap suc (ih (sym (find-tail (x .key) y ys (λ q. omega (arith, q))) ∙ h)))
-      ys
-
   pub length-put-present : (x : Entry B) (ys : List (Entry B)) → rising (keys ys) ≡ true → mem (x .key) (keys ys) ≡ true
       → length (put x ys) ≡ length ys
   unfolding keys
@@ -178,67 +169,3 @@ module _ {B : Type 0} where
       (λ y ys e. omega arith)
       (λ y ys e ih. omega arith)
       ys
-
-  -- ── Where it comes to stand ───────────────────────────────────────────────────────────────────────────────────
-
-  pub put-front : (x : Entry B) (ys : List (Entry B)) → risesFrom (x .key) (keys ys) ≡ true → put x ys ≡ x ∷ ys
-  unfolding keys
-  put-front x [] h = put-nil x
-  put-front x (y ∷ ys) h = put-before x y ys (rises-head (x .key) (y .key) (keys ys) h)
-
-  -- a new key: the entries before its place keep theirs, those from there on stand one place further
-  pub put-place : (i : ℕ) (x : Entry B) (ys : List (Entry B)) → all (λ k. ltb k (x .key)) (take i (keys ys)) ≡ true
-      → risesFrom (x .key) (keys (drop i ys)) ≡ true → put x ys ≡ take i ys ++ (x ∷ drop i ys)
-  unfolding keys
-  put-place zero x ys h r = put-front x ys r
-  put-place (suc i) x [] h r = put-nil x
-  put-place (suc i) x (y ∷ ys) h r =
-      put-behind x y ys (ltb-true (y .key) (x .key) (all-head (λ k. ltb k (x .key)) (y .key) (take i (keys ys)) h))
-      ∙ ap (λ (zs : List (Entry B)). y ∷ zs) (put-place i x ys (all-tail (λ k. ltb k (x .key)) (y .key) (take i (keys ys)) h) r)
-
-  -- a key that is there: its entry gives way
-  pub put-place-over : (i d : ℕ) (x : Entry B) (ys : List (Entry B)) → rising (keys ys) ≡ true → i < length ys
-      → getD (keys ys) i d ≡ x .key → put x ys ≡ take i ys ++ (x ∷ drop (suc i) ys)
-  unfolding keys
-  put-place-over i d x [] h p e = absurd (omega arith)
-  put-place-over zero d x (y ∷ ys) h p e = put-over x y ys (sym e)
-  put-place-over (suc i) d x (y ∷ ys) h p e =
-      let q : i < length (keys ys) = rw length-keys (omega arith) in
-      let m = rises-mem (y .key) (getD (keys ys) i d) (keys ys) (rising-from (y .key) (keys ys) h) (mem-at (keys ys) i d q) in
-      put-behind x y ys (omega (arith, m, e))
-      ∙ ap (λ (zs : List (Entry B)). y ∷ zs) (put-place-over i d x ys (rising-tail (y .key) (keys ys) h) (omega arith) e)
-
-  -- ── A range cut of it ─────────────────────────────────────────────────────────────────────────────────────────
-
-  pub cut-put-out : (low high : ℕ) (x : Entry B) (ys : List (Entry B)) → between low high (x .key) ≡ false
-      → cut low high (put x ys) ≡ cut low high ys
-  cut-put-out low high x ys o =
-      put-ind x (λ ys zs. cut low high zs ≡ cut low high ys) (cut-out low high x [] o)
-      (λ y ys e. cut-out low high x (y ∷ ys) o)
-      (λ y ys e. cut-out low high x ys o ∙ sym (cut-out low high y ys (ap (between low high) (sym e) ∙ o)))
-      (λ y ys e ih. cut-cons low high y (put x ys) ys ih)
-      ys
-
-  pub cut-put-in : (low high : ℕ) (x : Entry B) (ys : List (Entry B)) → rising (keys ys) ≡ true
-      → between low high (x .key) ≡ true → cut low high (put x ys) ≡ put x (cut low high ys)
-  unfolding keys
-  cut-put-in low high x ys h i =
-      put-ind x (λ ys zs. rising (keys ys) ≡ true → cut low high zs ≡ put x (cut low high ys))
-      (λ r. cut-in low high x [] i ∙ rw (cut-nil, put-nil))
-      (λ y ys e r. cut-in low high x (y ∷ ys) i
-      ∙ sym (put-front x (cut low high (y ∷ ys)) (cut-rises low high (x .key) (y ∷ ys)
-      (rises-cons (x .key) (y .key) (keys ys) e (rising-from (y .key) (keys ys) r)))))
-      (λ y ys e r. cut-in low high x ys i
-      ∙ (sym (put-over x y (cut low high ys) e)
-      ∙ ap (put x) (sym (cut-in low high y ys (ap (between low high) (sym e) ∙ i)))))
-      (λ y ys e ih r. go y ys e (between low high (y .key)) refl (ih (rising-tail (y .key) (keys ys) r)))
-      ys h
-    where
-      go : (y : Entry B) (ys : List (Entry B)) → y .key < x .key → (b : Bool) → between low high (y .key) ≡ b
-          → cut low high (put x ys) ≡ put x (cut low high ys) → cut low high (y ∷ put x ys) ≡ put x (cut low high (y ∷ ys))
-      go y ys e true f ih =
-          cut-in low high y (put x ys) f
-          ∙ (ap (λ (zs : List (Entry B)). y ∷ zs) ih
-          ∙ (sym (put-behind x y (cut low high ys) e) ∙ ap (put x) (sym (cut-in low high y ys f))))
-      go y ys e false f ih =
-          cut-out low high y (put x ys) f ∙ (ih ∙ ap (put x) (sym (cut-out low high y ys f)))

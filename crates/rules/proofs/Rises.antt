@@ -1,6 +1,6 @@
 -- Keys in order: what strictly rising tells of members, places, joins and parts, and the keys of a list of entries.
 -- Assumes nothing.
-use Prim.Native.Nat.{ℕ, zero, suc, _+_, _-_, _≤_, _<_}
+use Prim.Native.Nat.{ℕ, zero, suc, _+_, _≤_, _<_}
 use native.Mathlib.Nat.{not-suc-le-zero, le-of-suc-le-suc}
 use native.Mathlib.Omega.{arith}
 use mathlib.Core.Path.{_≡_, refl, ap}
@@ -11,9 +11,9 @@ use lib.Dec.{ltb}
 use lib.ListN.{length, getD, take, drop, take-append-drop, length-take, length-drop}
 use lib.Seq.{getD-take, getD-drop}
 use borrow.Author.Tests.{ltb-true, ltb-false, lt-ltb}
-use Rattle.rules.specs.Test.{between, all, mem, distinct}
+use Rattle.rules.specs.Test.{all, mem, distinct}
 use Rattle.rules.specs.Entry.{Entry, keys, risesFrom, rising}
-use Rattle.rules.proofs.Tests.{mem-right, mem-index, and-left, and-right, and-of, fails, between-of, all-of-at, mem-nil, mem-head, mem-tail, mem-cases, mem-at, distinct-nil, distinct-cons}
+use Rattle.rules.proofs.Tests.{mem-index, and-left, and-right, and-of, fails, mem-nil, mem-head, mem-tail, mem-cases, mem-at, distinct-nil, distinct-cons}
 
 -- ── Rising from a number ────────────────────────────────────────────────────────────────────────────────────────
 
@@ -91,20 +91,6 @@ pub rising-append-left : (xs ys : List ℕ) → rising (xs ++ ys) ≡ true → r
 rising-append-left [] ys h = rising-nil
 rising-append-left (x ∷ xs) ys h = rising-of-from x xs (rises-append-left x xs ys (rising-from x (xs ++ ys) h))
 
-pub rising-append-right : (xs ys : List ℕ) → rising (xs ++ ys) ≡ true → rising ys ≡ true
-rising-append-right [] ys h = h
-rising-append-right (x ∷ xs) ys h = rising-append-right xs ys (rising-tail x (xs ++ ys) h)
-
--- what stands before is below what stands behind
-pub rising-apart : (xs ys : List ℕ) (i j : ℕ) → rising (xs ++ ys) ≡ true → mem i xs ≡ true → mem j ys ≡ true → i < j
-rising-apart [] ys i j h m k = absurd (mem-nil i m)
-rising-apart (x ∷ xs) ys i j h m k =
-    go (mem-cases i x xs m) (λ q. rising-apart xs ys i j (rising-tail x (xs ++ ys) h) q k)
-  where
-    go : (i ≡ x) ⊎ (mem i xs ≡ true) → (mem i xs ≡ true → i < j) → i < j
-    go (inl e) ih = omega (arith, rises-mem x j (xs ++ ys) (rising-from x (xs ++ ys) h) (mem-right j xs ys k))
-    go (inr q) ih = ih q
-
 pub rises-append : (k : ℕ) (xs ys : List ℕ) → risesFrom k xs ≡ true → risesFrom k ys ≡ true
     → ((i j : ℕ) → mem i xs ≡ true → mem j ys ≡ true → i < j) → risesFrom k (xs ++ ys) ≡ true
 rises-append k [] ys h g f = g
@@ -124,9 +110,6 @@ rising-append (x ∷ xs) ys h g f =
 
 pub rising-take : (n : ℕ) (xs : List ℕ) → rising xs ≡ true → rising (take n xs) ≡ true
 rising-take n xs h = rising-append-left (take n xs) (drop n xs) (rw take-append-drop h)
-
-pub rising-drop : (n : ℕ) (xs : List ℕ) → rising xs ≡ true → rising (drop n xs) ≡ true
-rising-drop n xs h = rising-append-right (take n xs) (drop n xs) (rw take-append-drop h)
 
 -- ── By places ───────────────────────────────────────────────────────────────────────────────────────────────────
 
@@ -158,27 +141,6 @@ pub rising-behind : (xs : List ℕ) (i j d : ℕ) → rising xs ≡ true → mem
 rising-behind xs i j d h m =
     let r = mem-index j (drop i xs) d m in
     omega (arith, rising-at-le xs i (i + r .0) d h (omega arith) (omega (arith, r .1, length-drop i xs)), r .2, getD-drop i xs (r .0) d)
-
--- each above the one before
-pub rising-of-at : (xs : List ℕ) (d : ℕ) → ((i : ℕ) → suc i < length xs → getD xs i d < getD xs (suc i) d) → rising xs ≡ true
-rising-of-at [] d f = rising-nil
-rising-of-at (x ∷ []) d f = rising-of-from x [] (rises-nil x)
-rising-of-at (x ∷ (y ∷ ys)) d f =
-    rising-of-from x (y ∷ ys)
-    (rises-cons x y ys (f zero (omega arith)) (rising-from y ys (rising-of-at (y ∷ ys) d (λ i p. f (suc i) (omega arith)))))
-
--- the first not below low and the last not above high: all within
-pub within-of-ends : (low high d : ℕ) (xs : List ℕ) → rising xs ≡ true → low ≤ getD xs 0 d → getD xs (length xs - 1) d ≤ high
-    → all (between low high) xs ≡ true
-within-of-ends low high d xs h p q =
-    all-of-at (between low high) xs d (λ i r. between-of low high (getD xs i d) (first i r) (last i r))
-  where
-    first : (i : ℕ) → i < length xs → low ≤ getD xs i d
-    first zero r = p
-    first (suc i) r = omega (arith, rising-at xs 0 (suc i) d h (omega arith) r)
-
-    last : (i : ℕ) → i < length xs → getD xs i d ≤ high
-    last i r = omega (arith, rising-at-le xs i (length xs - 1) d h (omega arith) (omega arith))
 
 -- ── The keys of entries ─────────────────────────────────────────────────────────────────────────────────────────
 

@@ -7,8 +7,8 @@ use Prim.Native.Nat.{ℕ, zero, suc, _+_, _*_, _≤_, _<_}
 use native.Mathlib.Omega.{arith}
 use borrow.Author.Tests.{ltb-true, ltb-false}
 use lib.Dec.{ltb}
-use lib.ListN.{length, take, drop, set, take-append-drop, length-drop}
-use lib.Seq.{sets, sets-eq, length-sets, set-comm, take-at, drop-at, drop-drop, length-take-le}
+use lib.ListN.{length, take, drop, take-append-drop, length-drop}
+use lib.Seq.{sets, sets-eq, length-sets, drop-drop}
 use Rattle.fields.specs.Field.{Bytes}
 use Rattle.fields.proofs.Bytes.{bytes-append, bytes-take, bytes-drop}
 use Rattle.fields.proofs.Run.{length-part, part-sets, part-sets-below, drop-sets}
@@ -26,20 +26,6 @@ Room p = length (pageBytes p) ≤ pageSize
 
 pub has-page : (t : List ℕ) (n i : ℕ) → length t ≡ n * pageSize → i < n → Has t i
 has-page t n i e h = omega arith
-
--- ---- runs of stores apart from one another
-
-sets-set : (vs l : List ℕ) (i k x : ℕ) → ((m : ℕ) → m < length vs → i + m ≢ k) → sets (set l k x) i vs ≡ set (sets l i vs) k x
-sets-set [] l i k x h = refl
-sets-set (v ∷ vs) l i k x h =
-    ap (λ (r : List ℕ). sets r (suc i) vs) (set-comm l k i x v (λ e. h zero (omega arith) (omega arith)))
-    ∙ sets-set vs (set l i v) (suc i) k x (λ m b e. h (suc m) (omega arith) (omega arith))
-
-sets-sets : (xs ys l : List ℕ) (i j : ℕ) → ((a b : ℕ) → a < length xs → b < length ys → i + a ≢ j + b) → sets (sets l i xs) j ys ≡ sets (sets l j ys) i xs
-sets-sets [] ys l i j h = refl
-sets-sets (x ∷ xs) ys l i j h =
-    sets-sets xs ys (set l i x) (suc i) j (λ a b k m e. h (suc a) b (omega arith) m (omega arith))
-    ∙ ap (λ (r : List ℕ). sets r (suc i) xs) (sets-set ys l j i x (λ b k e. h zero b (omega arith) k (omega arith)))
 
 -- ---- a page set
 
@@ -83,22 +69,6 @@ module _ (t : List ℕ) (i : ℕ) (q : List ℕ) (h : Has t i) (e : length q ≡
       go : (b : Bool) → ltb j i ≡ b → take pageSize (drop (j * pageSize) (sets t (i * pageSize) q)) ≡ take pageSize (drop (j * pageSize) t)
       go true f = part-sets-below q t (i * pageSize) (j * pageSize) pageSize (omega (arith, ltb-true j i f))
       go false f = ap (take pageSize) (drop-sets q t (i * pageSize) (j * pageSize) (omega (arith, ltb-false j i f)))
-
--- a page set twice, and two pages set in either order
-pub setPage-setPage-same : (t : List ℕ) (i : ℕ) (p q : List ℕ) → Has t i → length p ≡ pageSize → setPage (setPage t i p) i q ≡ setPage t i q
-unfolding setPage
-setPage-setPage-same t i p q h e =
-    let rest = drop pageSize (drop (i * pageSize) t) in
-    let l : length (take (i * pageSize) t) ≡ i * pageSize = length-take-le (i * pageSize) t (omega arith) in
-    rw (take-at (take (i * pageSize) t) (p ++ rest) (i * pageSize) l, drop-at (take (i * pageSize) t) (p ++ rest) (i * pageSize) l, drop-at p rest pageSize e)
-
-pub setPage-comm : (t : List ℕ) (i j : ℕ) (p q : List ℕ) → Has t i → Has t j → length p ≡ pageSize → length q ≡ pageSize → i ≢ j → setPage (setPage t i p) j q ≡ setPage (setPage t j q) i p
-setPage-comm t i j p q hi hj ep eq d =
-    setPage-sets (setPage t i p) j q (rw (length-setPage t i p hi ep) hj) eq
-    ∙ ap (λ (r : List ℕ). sets r (j * pageSize) q) (setPage-sets t i p hi ep)
-    ∙ sets-sets p q t (i * pageSize) (j * pageSize) (λ a b ha hb f. d (omega arith))
-    ∙ ap (λ (r : List ℕ). sets r (i * pageSize) p) (sym (setPage-sets t j q hj eq))
-    ∙ sym (setPage-sets (setPage t j q) i p (rw (length-setPage t j q hj eq) hi) ep)
 
 -- ---- a table is determined by its pages
 

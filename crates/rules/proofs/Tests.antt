@@ -126,11 +126,6 @@ module _ {A : Type 0} where
   all-at p (x ∷ xs) zero d h k = all-head p x xs h
   all-at p (x ∷ xs) (suc i) d h k = all-at p xs i d (all-tail p x xs h) (le-of-suc-le-suc k)
 
-  pub all-of-at : (p : A → Bool) (xs : List A) (d : A) → ((i : ℕ) → i < length xs → p (getD xs i d) ≡ true) → all p xs ≡ true
-  all-of-at p [] d h = all-nil p
-  all-of-at p (x ∷ xs) d h =
-      all-cons p x xs (h zero (omega arith)) (all-of-at p xs d (λ i k. h (suc i) (omega arith)))
-
   -- a test that follows from another one
   pub all-imp : (p q : A → Bool) → ((x : A) → p x ≡ true → q x ≡ true) → (xs : List A) → all p xs ≡ true → all q xs ≡ true
   all-imp p q f [] h = all-nil q
@@ -140,15 +135,6 @@ module _ {A : Type 0} where
   all-append p [] ys h k = k
   all-append p (x ∷ xs) ys h k =
       all-cons p x (xs ++ ys) (all-head p x xs h) (all-append p xs ys (all-tail p x xs h) k)
-
-  pub all-append-left : (p : A → Bool) (xs ys : List A) → all p (xs ++ ys) ≡ true → all p xs ≡ true
-  all-append-left p [] ys h = all-nil p
-  all-append-left p (x ∷ xs) ys h =
-      all-cons p x xs (all-head p x (xs ++ ys) h) (all-append-left p xs ys (all-tail p x (xs ++ ys) h))
-
-  pub all-append-right : (p : A → Bool) (xs ys : List A) → all p (xs ++ ys) ≡ true → all p ys ≡ true
-  all-append-right p [] ys h = h
-  all-append-right p (x ∷ xs) ys h = all-append-right p xs ys (all-tail p x (xs ++ ys) h)
 
   pub all-take : (p : A → Bool) (n : ℕ) (xs : List A) → all p xs ≡ true → all p (take n xs) ≡ true
   all-take p zero xs h = all-nil p
@@ -282,15 +268,3 @@ distinct-append (x ∷ xs) ys h k apart =
     go : (mem x xs ≡ true) ⊎ (mem x ys ≡ true) → ⊥
     go (inl m) = not-both m (distinct-head x xs h)
     go (inr m) = apart x (mem-head x xs) m
-
--- two places of one number are one
-pub distinct-index : (xs : List ℕ) (i j d : ℕ) → distinct xs ≡ true → i < length xs → j < length xs
-    → getD xs i d ≡ getD xs j d → i ≡ j
-distinct-index [] i j d h p q e = absurd (not-suc-le-zero p)
-distinct-index (x ∷ xs) zero zero d h p q e = refl
-distinct-index (x ∷ xs) zero (suc j) d h p q e =
-    absurd (not-both (ap (λ (k : ℕ). mem k xs) e ∙ mem-at xs j d (le-of-suc-le-suc q)) (distinct-head x xs h))
-distinct-index (x ∷ xs) (suc i) zero d h p q e =
-    absurd (not-both (ap (λ (k : ℕ). mem k xs) (sym e) ∙ mem-at xs i d (le-of-suc-le-suc p)) (distinct-head x xs h))
-distinct-index (x ∷ xs) (suc i) (suc j) d h p q e =
-    ap suc (distinct-index xs i j d (distinct-tail x xs h) (le-of-suc-le-suc p) (le-of-suc-le-suc q) e)

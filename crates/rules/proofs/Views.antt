@@ -16,7 +16,7 @@ use Rattle.rules.specs.Table.{read, pageAt}
 use Rattle.rules.specs.Place.{cutView}
 use Rattle.rules.specs.Insert.{putCert, putChild, lowerHalf, upperHalf}
 use Rattle.rules.proofs.Tests.{not-both}
-use Rattle.rules.proofs.Entries.{cut-nil, cut-cut, cut-wider, cut-all}
+use Rattle.rules.proofs.Entries.{cut-nil, cut-cut, cut-all}
 
 abbrev pub viewOf : ℕ → List Cert → List Child → View
 viewOf kind certs children = record { kind = kind; certs = certs; children = children }
@@ -100,11 +100,6 @@ pub cutView-cut : (low high l h : ℕ) (v : View) → low ≤ l → h ≤ high �
 unfolding cutView
 cutView-cut low high l h v p q =
     same-view refl (cut-cut low high l h (v .certs) p q) (cut-cut low high l h (v .children) p q)
-
-pub cutView-wider : (low high l h : ℕ) (v : View) → l ≤ low → high ≤ h → cutView l h (cutView low high v) ≡ cutView low high v
-unfolding cutView
-cutView-wider low high l h v p q =
-    same-view refl (cut-wider low high l h (v .certs) p q) (cut-wider low high l h (v .children) p q)
 
 pub cutView-all : (low high : ℕ) (v : View) → all (between low high) (keys (v .certs)) ≡ true
     → all (between low high) (keys (v .children)) ≡ true → cutView low high v ≡ v
