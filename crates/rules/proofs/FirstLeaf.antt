@@ -14,8 +14,7 @@ use Rattle.rules.specs.Table.{read}
 use Rattle.rules.specs.Place.{rootPlace, fits, show}
 use Rattle.rules.specs.Format.{emptyLeaf}
 use Rattle.rules.specs.declared.Place.{Place}
-use Rattle.rules.proofs.Fresh.{freshLeaf, freshRoot}
-use Rattle.rules.proofs.Computing.{rules}
+use Rattle.rules.proofs.Fresh.{freshLeaf, freshRoot, first-fits}
 use Rattle.rules.proofs.Places.{fits-true, shows}
 use Rattle.rules.proofs.Ways.{at, Node, Found, Tells}
 use Rattle.rules.proofs.Invariant.{Good}
@@ -23,10 +22,6 @@ use Rattle.rules.proofs.Kids.{none-picked, leaf-kids}
 use Rattle.rules.proofs.Nodes.{above, at-root}
 use Rattle.rules.proofs.MixTheorem.{Older}
 use Rattle.rules.proofs.Epochs.{Alike}
-
-pub first-fits : (n : ℕ) → fits n freshRoot freshLeaf ≡ true
-unfolding rules
-first-fits n = refl
 
 pub record FirstLeaf (n : ℕ) (t : List ℕ) : Type 0 where
   pub two : 2 ≤ n

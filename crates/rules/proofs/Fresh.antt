@@ -58,6 +58,10 @@ room-freshLeaf = room-pageBytes freshLeaf (wide-freshLeaf .view .shaped) (lit≤
 abbrev pub freshRoot : Place
 freshRoot = record { child = 1; previous = 0; birth = 1; low = 0; high = lastKey; want = 0 }
 
+pub first-fits : (n : ℕ) → fits n freshRoot freshLeaf ≡ true
+unfolding fits sound every between inOrder rising all keys kindAsked isLeaf fresh emptyLeaf
+first-fits n = refl
+
 module _ (n : ℕ) (least : fewestPages ≤ n) (most : n ≤ mostPages) where
   named : List ℕ
   named = putAt (putAt (replicate (n * pageSize) 0) 0 2 zeroKind) 2 2 n
@@ -145,12 +149,8 @@ module _ (n : ℕ) (least : fewestPages ≤ n) (most : n ≤ mostPages) where
 
   -- ---- the tree as it stands
 
-  fits-fresh : fits n freshRoot freshLeaf ≡ true
-  unfolding fits sound every between inOrder rising all keys kindAsked isLeaf fresh emptyLeaf
-  fits-fresh = refl
-
   fits-formatted : fits n freshRoot (read (formatted n (n * pageSize)) 1) ≡ true
-  fits-formatted = rw read-formatted fits-fresh
+  fits-formatted = rw read-formatted (first-fits n)
 
   show-formatted : show n (formatted n (n * pageSize)) freshRoot ≡ some emptyLeaf
   unfolding show fresh
