@@ -29,6 +29,7 @@ pub mod Counter
 pub mod Lengths
 pub mod Fresh
 -- Demand 1
+pub mod WalkSteps
 pub mod Mending
 pub mod Refusals
 -- The bench cases

@@ -45,7 +45,7 @@ newest-of n t model serial h = go (ltb 0 model && ltb 0 serial) refl
     go true p = newest-in (sought n t (meter model serial)) (rw (p, newestOf) at h)
     go false p = omega (arith, ap newestNo (rw (p, newestOf) at h))
 
-meter-whole : (a : Asked) (s : Session) (w t : List ℕ) → walkOf (s .n) (s .c) a w .whole ≡ true
+pub meter-whole : (a : Asked) (s : Session) (w t : List ℕ) → walkOf (s .n) (s .c) a w .whole ≡ true
     → newestMeter a s w t ≡ newestLeft s (walkOf (s .n) (s .c) a w .table) t (newestIn (walkOf (s .n) (s .c) a w .found))
 unfolding newestMeter
 meter-whole a s w t h = rw (h, newestMeter)
@@ -83,7 +83,7 @@ module _ {s : Session} {t u S : List ℕ} {Been : States} (x : Safe s t S Been) 
 
 -- ── List ────────────────────────────────────────────────────────────────────────────────────────────────────────
 
-from-whole : (s : Session) (w t : List ℕ) (start : ℕ) (ks xs : List ℕ) → walkOf (s .n) (s .c) (upFrom start ks xs) w .whole ≡ true
+pub from-whole : (s : Session) (w t : List ℕ) (start : ℕ) (ks xs : List ℕ) → walkOf (s .n) (s .c) (upFrom start ks xs) w .whole ≡ true
     → listFrom s w t start ks xs
     ≡ listDone s (walkOf (s .n) (s .c) (upFrom start ks xs) w .table) t (walkOf (s .n) (s .c) (upFrom start ks xs) w .found) ks xs
 unfolding listFrom

@@ -25,13 +25,13 @@ later : {mark : ℕ → Bool} {i k j : ℕ} → Numbered mark (suc i) k j → Nu
 later h = record { from = omega arith; below = omega arith; marked = h .marked }
 
 -- one of the two shapes of a step
-here : (mark : ℕ → Bool) (i k : ℕ) → mark i ≡ true → numbersFrom mark i (suc k) ≡ i ∷ numbersFrom mark (suc i) k
+pub numbersFrom-here : (mark : ℕ → Bool) (i k : ℕ) → mark i ≡ true → numbersFrom mark i (suc k) ≡ i ∷ numbersFrom mark (suc i) k
 unfolding numbersFrom
-here mark i k e = rw (e, numbersFrom)
+numbersFrom-here mark i k e = rw (e, numbersFrom)
 
-past : (mark : ℕ → Bool) (i k : ℕ) → mark i ≡ false → numbersFrom mark i (suc k) ≡ numbersFrom mark (suc i) k
+pub numbersFrom-past : (mark : ℕ → Bool) (i k : ℕ) → mark i ≡ false → numbersFrom mark i (suc k) ≡ numbersFrom mark (suc i) k
 unfolding numbersFrom
-past mark i k e = rw (e, numbersFrom)
+numbersFrom-past mark i k e = rw (e, numbersFrom)
 
 pub all-numbersFrom : (mark : ℕ → Bool) (i k : ℕ) → All (Numbered mark i k) (numbersFrom mark i k)
 unfolding numbersFrom
@@ -39,8 +39,8 @@ all-numbersFrom mark i zero = nil
 all-numbersFrom mark i (suc k) = go (mark i) refl (all-map (λ j h. later h) (all-numbersFrom mark (suc i) k))
   where
     go : (t : Bool) → mark i ≡ t → All (Numbered mark i (suc k)) (numbersFrom mark (suc i) k) → All (Numbered mark i (suc k)) (numbersFrom mark i (suc k))
-    go true e h = rw (here mark i k e) (cons {x = i} (record { from = omega arith; below = omega arith; marked = e }) h)
-    go false e h = rw (past mark i k e) h
+    go true e h = rw (numbersFrom-here mark i k e) (cons {x = i} (record { from = omega arith; below = omega arith; marked = e }) h)
+    go false e h = rw (numbersFrom-past mark i k e) h
 
 pub mem-numbersFrom : (mark : ℕ → Bool) (i k j : ℕ) → Numbered mark i k j → mem j (numbersFrom mark i k) ≡ true
 unfolding numbersFrom mem
@@ -48,12 +48,12 @@ mem-numbersFrom mark i zero j h = absurd (omega arith)
 mem-numbersFrom mark i (suc k) j h = go (mark i) refl (eqb j i) refl (mem-numbersFrom mark (suc i) k j)
   where
     go : (t : Bool) → mark i ≡ t → (u : Bool) → eqb j i ≡ u → (Numbered mark (suc i) k j → mem j (numbersFrom mark (suc i) k) ≡ true) → mem j (numbersFrom mark i (suc k)) ≡ true
-    go true e true f ih = rw (here mark i k e, f)
+    go true e true f ih = rw (numbersFrom-here mark i k e, f)
     go true e false f ih =
-        rw (here mark i k e, f) (ih (record { from = omega (arith, eqb-false j i f); below = omega arith; marked = h .marked }))
+        rw (numbersFrom-here mark i k e, f) (ih (record { from = omega (arith, eqb-false j i f); below = omega arith; marked = h .marked }))
     go false e true f ih = cc (h .marked, eqb-true j i f)
     go false e false f ih =
-        rw (past mark i k e) (ih (record { from = omega (arith, eqb-false j i f); below = omega arith; marked = h .marked }))
+        rw (numbersFrom-past mark i k e) (ih (record { from = omega (arith, eqb-false j i f); below = omega arith; marked = h .marked }))
 
 -- they rise, so none stands there twice
 pub risesFrom-numbersFrom : (mark : ℕ → Bool) (b i k : ℕ) → b < i → risesFrom b (numbersFrom mark i k) ≡ true
@@ -63,8 +63,8 @@ risesFrom-numbersFrom mark b i (suc k) h =
     go (mark i) refl (risesFrom-numbersFrom mark i (suc i) k (omega arith)) (risesFrom-numbersFrom mark b (suc i) k (omega arith))
   where
     go : (t : Bool) → mark i ≡ t → risesFrom i (numbersFrom mark (suc i) k) ≡ true → risesFrom b (numbersFrom mark (suc i) k) ≡ true → risesFrom b (numbersFrom mark i (suc k)) ≡ true
-    go true e f g = rw (here mark i k e, lt-ltb b i h) f
-    go false e f g = rw (past mark i k e) g
+    go true e f g = rw (numbersFrom-here mark i k e, lt-ltb b i h) f
+    go false e f g = rw (numbersFrom-past mark i k e) g
 
 -- ---- the free pages
 

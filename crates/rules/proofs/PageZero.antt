@@ -1,9 +1,11 @@
 -- Page 0 of a table: its six fields, the place that it gives the root, and what changes of them. Assumes nothing.
 use mathlib.Core.Path.{_≡_, refl, sym, ap, _∙_}
+use mathlib.Core.Bool.{true}
 use mathlib.Core.List.{List, [], _∷_}
-use Prim.Native.Nat.{ℕ, suc, _+_, _*_, _^_, _≤_, _<_}
+use Prim.Native.Nat.{ℕ, suc, _+_, _-_, _*_, _^_, _≤_, _<_}
 use native.Mathlib.Omega.{arith}
 use lib.Dec.{lit≤}
+use borrow.Author.Tests.{ltb-true}
 use lib.ListN.{length, take, set}
 use lib.Seq.{sets, take-set-lt}
 use Rattle.fields.specs.Field.{le, leAt, putAt, Bytes}
@@ -13,6 +15,7 @@ use Rattle.rules.specs.Layout.{pageSize, lastKey}
 use Rattle.rules.specs.Page.{Page, pageIn}
 use Rattle.rules.specs.Table.{pageAt, read, build, change, kind0, n0, number0, root0, previous0, birth0, setNumber, setRoot, fit0}
 use Rattle.rules.specs.Place.{rootPlace}
+use Rattle.rules.proofs.Tests.{every-true, between-low, between-high}
 use Rattle.rules.proofs.Tables.{Has, Room, pageAt-build-other, pageAt-change-other}
 
 -- ---- two tables with the same page 0
@@ -59,6 +62,18 @@ module _ (t : List ℕ) (i : ℕ) (h : Has t i) (pos : 1 ≤ i) where
 
   pub same0-change : (p : Page) → Room p → Same0 (change t i p) t
   same0-change p r = same0 (change t i p) t (pageAt-change-other t i p h r 0 (λ z. omega arith))
+
+-- ---- what a fit page 0 tells of the table
+
+pub has-zero : (n : ℕ) (t : List ℕ) → length t ≡ n * pageSize → fit0 n t ≡ true → pageSize ≤ length t
+unfolding fit0
+has-zero n t l f =
+    let r = every-true _ f .1 .1 .0 in
+    omega (arith, between-low 1 (n - 1) (root0 t) r, between-high 1 (n - 1) (root0 t) r)
+
+pub root-previous : (n : ℕ) (t : List ℕ) → fit0 n t ≡ true → rootPlace t .previous < n
+unfolding fit0 rootPlace
+root-previous n t f = ltb-true (previous0 t) n (every-true _ f .1 .1 .1 .0)
 
 -- ---- the number set
 

@@ -4,7 +4,7 @@ use Prim.Native.Nat.{ℕ, _-_, _≤_, _<_}
 use native.Mathlib.Omega.{arith}
 use mathlib.Core.Path.{_≡_, refl, sym, ap, _∙_, subst}
 use mathlib.Core.Logic.{_⊎_, inl, inr}
-use mathlib.Core.Bool.{Bool, true, false, not, _||_}
+use mathlib.Core.Bool.{Bool, true, false, not}
 use mathlib.Core.List.{List}
 use mathlib.Core.Option.{some, none, Option·some-injective, Option·none-ne-some}
 use lib.Dec.{eqb}
@@ -20,7 +20,7 @@ use Rattle.rules.specs.Sound.{sound}
 use Rattle.rules.specs.Place.{kindAsked, fits, mendable, cutView, mended, show}
 use Rattle.rules.specs.Insert.{putCert}
 use Rattle.rules.specs.declared.Place.{Place}
-use Rattle.rules.proofs.Tests.{or-cases, or-left, or-right, fails, not-both, every-true, every-of, between-low, between-high, between-of}
+use Rattle.rules.proofs.Tests.{or-cases, or-left, or-right, fails, every-true, every-of, between-low, between-high, between-of, or-other, or-of}
 use Rattle.rules.proofs.Views.{Shaped, shaped-read, shaped-cut}
 use Rattle.rules.proofs.Sounds.{Sound, sound-true, sound-of, sound-same, sound-cut, sound-putCert}
 
@@ -138,12 +138,8 @@ mendable-true n e q h =
       kind = asked-true (e .want) (q .view .kind) (f .1 .1 .1 .0);
       low = leb-true (q .low) (e .low) (f .1 .1 .1 .1 .0);
       high = leb-true (e .high) (q .high) (f .1 .1 .1 .1 .1 .0);
-      key = go (isLeaf (q .view)) (mem (e .low) (keys (q .view .children))) (f .1 .1 .1 .1 .1 .1 .0);
+      key = or-other (isLeaf (q .view)) (mem (e .low) (keys (q .view .children))) (f .1 .1 .1 .1 .1 .1 .0);
     }
-  where
-    go : (a b : Bool) → (a || b) ≡ true → a ≡ false → b ≡ true
-    go true b t e = absurd (not-both refl e)
-    go false b t e = t
 
 pub mendable-of : (n : ℕ) (e : Place) (q : Page) → Mendable n e q → mendable n e q ≡ true
 unfolding mendable
@@ -160,17 +156,13 @@ mendable-of n e q m =
               le-leb (q .low) (e .low) (m .low),
               (
                 le-leb (e .high) (q .high) (m .high),
-                (go (isLeaf (q .view)) (mem (e .low) (keys (q .view .children))) (m .key), tt),
+                (or-of (isLeaf (q .view)) (mem (e .low) (keys (q .view .children))) (m .key), tt),
               ),
             ),
           ),
         ),
       ),
     )
-  where
-    go : (a b : Bool) → (a ≡ false → b ≡ true) → (a || b) ≡ true
-    go true b t = refl
-    go false b t = t refl
 
 -- what a mendable place shows is sound for its range
 pub mended-view-sound : {n : ℕ} {e : Place} {q : Page} → e .low ≤ e .high → Mendable n e q

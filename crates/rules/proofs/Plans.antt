@@ -3,7 +3,7 @@ use Prim.Native.Nat.{ℕ, suc, _+_, _*_, _≤_}
 use native.Mathlib.Omega.{arith}
 use mathlib.Core.Path.{_≡_, refl, sym, ap, _∙_}
 use mathlib.Core.Logic.{_≢_}
-use mathlib.Core.Bool.{Bool, true, false, not, _&&_, _||_}
+use mathlib.Core.Bool.{Bool, true, false, not, _&&_}
 use mathlib.Core.List.{List, [], _∷_}
 use lib.Dec.{ltb, eqb}
 use lib.ListN.{length, drop, length-drop}
@@ -12,15 +12,11 @@ use Rattle.rules.specs.Layout.{topKind}
 use Rattle.rules.specs.Page.{isLeaf}
 use Rattle.rules.specs.Walk.{Step}
 use Rattle.rules.specs.Insert.{full, splitting, tooSoon, rootSplits, newPages, tooHigh, noRoom}
-use Rattle.rules.proofs.Tests.{same-test, not-both}
+use Rattle.rules.proofs.Tests.{same-test, not-both, or-none, and-other}
 use Rattle.rules.proofs.Views.{inner-of-kind}
 use Rattle.rules.proofs.SplitWay.{Late, Plan}
 
 -- ── Tests that fail ─────────────────────────────────────────────────────────────────────────────────────────────
-
-or-none : (a b : Bool) → (a || b) ≡ false → (a ≡ false) × (b ≡ false)
-or-none true b h = absurd (not-both refl h)
-or-none false b h = (refl, h)
 
 -- a page that is not too soon to split
 late-of : (c : ℕ) (s : Step) → (not (isLeaf (s .page .view)) && eqb (s .page .touched) c) ≡ false → Late c s
@@ -29,7 +25,7 @@ late-of c s h i q =
 
 -- ── One level ───────────────────────────────────────────────────────────────────────────────────────────────────
 
-splitting-full : (s : Step) (above : List Step) → full (s .page .view) ≡ true → splitting (s ∷ above) ≡ s ∷ splitting above
+pub splitting-full : (s : Step) (above : List Step) → full (s .page .view) ≡ true → splitting (s ∷ above) ≡ s ∷ splitting above
 unfolding splitting
 splitting-full s above h = rw (h, splitting)
 
@@ -39,13 +35,13 @@ eqb-suc a b =
     (λ h. eq-eqb a b (omega (arith, eqb-true (suc a) (suc b) h)))
     (λ h. eq-eqb (suc a) (suc b) (ap suc (eqb-true a b h)))
 
-rootSplits-full : (s : Step) (above : List Step) → full (s .page .view) ≡ true → rootSplits (s ∷ above) ≡ rootSplits above
+pub rootSplits-full : (s : Step) (above : List Step) → full (s .page .view) ≡ true → rootSplits (s ∷ above) ≡ rootSplits above
 unfolding rootSplits
 rootSplits-full s above h =
     ap (λ (xs : List Step). eqb (length xs) (suc (length above))) (splitting-full s above h)
     ∙ eqb-suc (length (splitting above)) (length above)
 
-newPages-full : (s : Step) (above : List Step) → full (s .page .view) ≡ true → newPages (s ∷ above) ≡ 2 + newPages above
+pub newPages-full : (s : Step) (above : List Step) → full (s .page .view) ≡ true → newPages (s ∷ above) ≡ 2 + newPages above
 unfolding newPages
 newPages-full s above h =
     ap (λ (xs : List Step). 2 * length xs + elim (rootSplits (s ∷ above)) [ true ↦ 1 | false ↦ 0 ]) (splitting-full s above h)
@@ -55,9 +51,14 @@ newPages-full s above h =
     sum : (a b : ℕ) → 2 * suc a + b ≡ 2 + (2 * a + b)
     sum a b = omega arith
 
-nothing : (rootSplits [] ≡ true) × (newPages [] ≡ 1)
+-- above the root
+pub rootSplits-none : rootSplits [] ≡ true
+unfolding rootSplits splitting
+rootSplits-none = refl
+
+pub newPages-none : newPages [] ≡ 1
 unfolding rootSplits newPages splitting
-nothing = (refl, refl)
+newPages-none = refl
 
 tooSoon-full : (c : ℕ) (s : Step) (above : List Step) → full (s .page .view) ≡ true → tooSoon c (splitting (s ∷ above)) ≡ false
     → Late c s × (tooSoon c (splitting above) ≡ false)
@@ -78,9 +79,9 @@ plan-of : (c : ℕ) (above : List Step) (s : Step) (new : List ℕ) → Low (s �
 unfolding tooHigh
 plan-of c [] s new l t m h = λ f.
     let k : s .page .view .kind ≢ topKind =
-    eqb-false (s .page .view .kind) topKind (h (rootSplits-full s [] f ∙ nothing .0)) in
+    eqb-false (s .page .view .kind) topKind (h (rootSplits-full s [] f ∙ rootSplits-none)) in
     let a = l .0 in
-    (tooSoon-full c s [] f t .0, omega arith, omega (arith, m, newPages-full s [] f, nothing .1))
+    (tooSoon-full c s [] f t .0, omega arith, omega (arith, m, newPages-full s [] f, newPages-none))
 plan-of c (u ∷ above) s new l t m h = λ f.
     let o = tooSoon-full c s (u ∷ above) f t in
     let n = newPages-full s (u ∷ above) f in (
@@ -90,14 +91,10 @@ plan-of c (u ∷ above) s new l t m h = λ f.
           (λ r. h (rootSplits-full s (u ∷ above) f ∙ r)),
     )
 
-and-none : (a b : Bool) → (a && b) ≡ false → a ≡ true → b ≡ false
-and-none true b h p = h
-and-none false b h p = absurd (not-both p refl)
-
 pub plan : (c : ℕ) (above : List Step) (s : Step) (new : List ℕ) → Low (s ∷ above) → tooSoon c (splitting (s ∷ above)) ≡ false
     → noRoom (s ∷ above) new ≡ false → Plan c (s ∷ above) new
 unfolding noRoom
 plan c above s new l t r =
     let o = or-none (ltb (length new) (newPages (s ∷ above))) (rootSplits (s ∷ above) && tooHigh (s ∷ above)) r in
     plan-of c above s new l t (ltb-false (length new) (newPages (s ∷ above)) (o .0))
-    (and-none (rootSplits (s ∷ above)) (tooHigh (s ∷ above)) (o .1))
+    (and-other (rootSplits (s ∷ above)) (tooHigh (s ∷ above)) (o .1))

@@ -3,7 +3,7 @@
 use Prim.Native.Nat.{ℕ, _-_, _≤_, _<_}
 use native.Mathlib.Omega.{arith}
 use mathlib.Core.Path.{_≡_, refl, sym, ap, _∙_, subst}
-use mathlib.Core.Bool.{Bool, true, false, _||_}
+use mathlib.Core.Bool.{Bool, true, false}
 use mathlib.Core.List.{List, [], _∷_}
 use lib.Dec.{ltb}
 use lib.ListN.{length}
@@ -16,7 +16,7 @@ use Rattle.rules.specs.Page.{View, Page, isLeaf}
 use Rattle.rules.specs.Sound.{startsAt, namesPages, inOrder, sound}
 use Rattle.rules.specs.Place.{cutView}
 use Rattle.rules.specs.Insert.{putCert, putChild}
-use Rattle.rules.proofs.Tests.{and-left, and-right, and-of, not-both, every-true, every-of, between-low, between-high, between-of, mem-head}
+use Rattle.rules.proofs.Tests.{and-left, and-right, and-of, not-both, every-true, every-of, between-low, between-high, between-of, mem-head, or-other, or-of}
 use Rattle.rules.proofs.Entries.{all-cut, length-cut, cut-rising, cut-within, cut-first}
 use Rattle.rules.proofs.Views.{cutView-all}
 use Rattle.rules.proofs.Puts.{put-over, put-behind, put-rising, put-within, all-put, length-put-le}
@@ -52,13 +52,9 @@ sound-true n p h =
       children-rise = and-left (rising (keys (p .view .children))) _ j;
       children-within = and-right (rising (keys (p .view .children))) _ j;
       good = f .1 .1 .1 .1 .1 .1 .0;
-      starts = go (isLeaf (p .view)) (startsAt (p .low) (p .view .children)) (f .1 .1 .1 .1 .1 .1 .1 .0);
+      starts = or-other (isLeaf (p .view)) (startsAt (p .low) (p .view .children)) (f .1 .1 .1 .1 .1 .1 .1 .0);
       names = f .1 .1 .1 .1 .1 .1 .1 .1 .0;
     }
-  where
-    go : (a b : Bool) → (a || b) ≡ true → a ≡ false → b ≡ true
-    go true b t e = absurd (not-both refl e)
-    go false b t e = t
 
 pub sound-of : (n : ℕ) (p : Page) → Sound n (p .low) (p .high) (p .view) → sound n p ≡ true
 unfolding sound inOrder
@@ -78,7 +74,7 @@ sound-of n p s =
                 (
                   s .good,
                   (
-                    go (isLeaf (p .view)) (startsAt (p .low) (p .view .children)) (s .starts),
+                    or-of (isLeaf (p .view)) (startsAt (p .low) (p .view .children)) (s .starts),
                     (s .names, tt),
                   ),
                 ),
@@ -88,10 +84,6 @@ sound-of n p s =
         ),
       ),
     )
-  where
-    go : (a b : Bool) → (a ≡ false → b ≡ true) → (a || b) ≡ true
-    go true b t = refl
-    go false b t = t refl
 
 -- a range that is told in other numbers
 pub sound-same : {n l h low high : ℕ} {v : View} → l ≡ low → h ≡ high → Sound n l h v → Sound n low high v

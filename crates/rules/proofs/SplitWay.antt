@@ -86,17 +86,17 @@ Plan c (s ∷ []) new = full (s .page .view) ≡ true → Late c s × (s .page .
 Plan c (s ∷ (u ∷ above)) new = full (s .page .view) ≡ true → Late c s × (2 ≤ length new) × Plan c (u ∷ above) (drop 2 new)
 
 -- one step of the rules' splits, a page full or not
-split-one : (c k : ℕ) (st : Step) (new : List ℕ) (m : Making) → full (st .page .view) ≡ true
+pub split-one : (c k : ℕ) (st : Step) (new : List ℕ) (m : Making) → full (st .page .view) ≡ true
     → split c k (st ∷ []) new m ≡ halve c k st (getD new 0 0) (getD new 1 0) (grow c st (getD new 2 0) m)
 unfolding split
 split-one c k st new m q = rw (q, split)
 
-split-more : (c k : ℕ) (st u : Step) (above : List Step) (new : List ℕ) (m : Making) → full (st .page .view) ≡ true
+pub split-more : (c k : ℕ) (st u : Step) (above : List Step) (new : List ℕ) (m : Making) → full (st .page .view) ≡ true
     → split c k (st ∷ (u ∷ above)) new m ≡ halve c k st (getD new 0 0) (getD new 1 0) (split c k (u ∷ above) (drop 2 new) m)
 unfolding split
 split-more c k st u above new m q = rw (q, split)
 
-split-none : (c k : ℕ) (st : Step) (above : List Step) (new : List ℕ) (m : Making) → full (st .page .view) ≡ false
+pub split-none : (c k : ℕ) (st : Step) (above : List Step) (new : List ℕ) (m : Making) → full (st .page .view) ≡ false
     → split c k (st ∷ above) new m ≡ making (m .table) (m .session) (st .place .child)
 unfolding split
 split-none c k st [] new m q = rw (q, split)

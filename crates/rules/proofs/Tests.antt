@@ -47,6 +47,23 @@ fails false h = refl
 pub not-both : {t : Bool} → t ≡ true → t ≡ false → ⊥
 not-both p q = true≢false (sym p ∙ q)
 
+-- what one of the two tells of the other
+pub or-other : (a b : Bool) → (a || b) ≡ true → a ≡ false → b ≡ true
+or-other true b h e = absurd (not-both refl e)
+or-other false b h e = h
+
+pub or-of : (a b : Bool) → (a ≡ false → b ≡ true) → (a || b) ≡ true
+or-of true b h = refl
+or-of false b h = h refl
+
+pub or-none : (a b : Bool) → (a || b) ≡ false → (a ≡ false) × (b ≡ false)
+or-none true b h = absurd (not-both refl h)
+or-none false b h = (refl, h)
+
+pub and-other : (a b : Bool) → (a && b) ≡ false → a ≡ true → b ≡ false
+and-other true b h p = h
+and-other false b h p = absurd (not-both p refl)
+
 -- two tests that tell the same are the same
 pub same-test : (a b : Bool) → (a ≡ true → b ≡ true) → (b ≡ true → a ≡ true) → a ≡ b
 same-test true b f g = sym (f refl)

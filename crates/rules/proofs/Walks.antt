@@ -11,7 +11,7 @@ use lib.ListN.{length, take}
 use Rattle.rules.specs.Layout.{topKind}
 use Rattle.rules.specs.Test.{every}
 use Rattle.rules.specs.Entry.{Cert, cut}
-use Rattle.rules.specs.Page.{View, Page}
+use Rattle.rules.specs.Page.{View}
 use Rattle.rules.specs.Place.{rootPlace, kids, show}
 use Rattle.rules.specs.Enter.{enter}
 use Rattle.rules.specs.Walk.{Walked, enters, finds, walkEach, walk, walkOf}
@@ -25,6 +25,7 @@ use Rattle.rules.proofs.Nodes.{node-root, kid-kind}
 use Rattle.rules.proofs.Epochs.{working-good}
 use Rattle.rules.proofs.Opens.{kid-node}
 use Rattle.rules.proofs.Store.{Safe}
+use Rattle.rules.proofs.WalkSteps.{walk-past, walk-entered}
 use Rattle.rules.proofs.Enters.{Calm, AllHigher, none-higher, more-higher, Entering, entering}
 
 -- ── The same walk through a table that stays as it is ───────────────────────────────────────────────────────────
@@ -58,18 +59,6 @@ seek-here : (level n : ℕ) (t : List ℕ) (a : Asked) (e : Place) (xs : List Ce
     → seek (suc level) n t a e xs ≡ seekEach (seek level n t a) (kids e v) (joins a v xs)
 unfolding seek
 seek-here level n t a e xs v h s = rw (h, seek) (rw s)
-
-walk-past : (level n c : ℕ) (a : Asked) (above : List ℕ) (e : Place) (w : Walked) → enters a e w ≡ false
-    → walk (suc level) n c a above e w ≡ w
-unfolding walk
-walk-past level n c a above e w h = rw (h, walk)
-
-walk-here : (level n c : ℕ) (a : Asked) (above : List ℕ) (e : Place) (w : Walked) (p : Page) → enters a e w ≡ true
-    → enter n c above (w .table) e .page ≡ some p
-    → walk (suc level) n c a above e w
-    ≡ walkEach (walk level n c a (e .child ∷ above)) (kids e (p .view)) (finds a (p .view) w (enter n c above (w .table) e .table))
-unfolding walk
-walk-here level n c a above e w p h q = rw (h, walk) (rw q)
 
 enters-whole : (a : Asked) (e : Place) (w : Walked) (xs : List Cert) → w .whole ≡ true → w .found ≡ xs → enters a e w ≡ meets a e xs
 unfolding enters meets every
@@ -145,7 +134,7 @@ module _ (s : Session) (t S : List ℕ) (Been : States) (a : Asked) where
           subst (λ (ys : List Cert). Walking ys (walk (suc level) (s .n) (s .c) a above e w))
           (sym (seek-here level (s .n) t a e xs v p shows))
           (subst (Walking (seekEach (seek level (s .n) t a) (kids e v) (joins a v xs)))
-          (sym (walk-here level (s .n) (s .c) a above e w (r .found) (enters-whole a e w xs (h .whole) (h .found) ∙ p) (r .page)))
+          (sym (walk-entered level (s .n) (s .c) a above e w (enters-whole a e w xs (h .whole) (h .found) ∙ p) (r .found) (r .page)))
           (subst (λ (u : View). Walking (seekEach (seek level (s .n) t a) (kids e v) (joins a v xs))
           (walkEach (walk level (s .n) (s .c) a (e .child ∷ above)) (kids e u)
           (finds a u w (enter (s .n) (s .c) above (w .table) e .table)))) (sym (r .view))
