@@ -8,17 +8,17 @@ use lib.Dec.{ltb}
 use lib.ListN.{length, take, drop, length-append}
 use lib.Seq.{append-snoc, take-nil}
 use borrow.Author.Tests.{ltb-true, ltb-false}
-use Rattle.fields.specs.Field.{leAt}
 use Rattle.rules.specs.Layout.{headerSize, certSize, leafKind}
 use Rattle.rules.specs.Test.{between}
 use Rattle.rules.specs.Entry.{Cert, cut}
-use Rattle.rules.specs.Page.{View, readEach, certIn, pageIn}
+use Rattle.rules.specs.Page.{View, readEach, certIn}
 use Rattle.rules.specs.Table.{pageAt, read}
 use Rattle.rules.specs.Walk.{Walked, finds}
 use Rattle.rules.specs.declared.Asked.{Asked}
 use Rattle.head.specs.Head.{certAt}
 use Rattle.head.specs.declared.Head.{Head}
-use Rattle.head.proofs.Headers.{headOf, view-leaf, view-inner, kind-view, count-view}
+use Rattle.head.proofs.Headers.{headOf}
+pub use Rattle.head.proofs.Headers.{certs-leaf, certs-inner}
 use Rattle.head.proofs.Left.{left, left-all, left-more, left-none}
 use Rattle.sweep.specs.Sweeps.{lastOf, sofarOf, Sweep, sweeping, told, Known, noted, noteEach}
 use Rattle.sweep.specs.declared.Sofar.{Sofar}
@@ -130,29 +130,10 @@ module _ (a : Asked) (b : List ℕ) (count : ℕ) where
 -- ── A page's certificates ───────────────────────────────────────────────────────────────────────────────────────
 
 module _ (t : List ℕ) (page : ℕ) (h : Head) (f : h ≡ headOf (read t page)) where
-  pub kind-here : h .kind ≡ leAt (pageAt t page) 0 2
-  unfolding headOf read pageIn
-  kind-here = ap (λ (x : Head). x .kind) f ∙ kind-view (pageAt t page)
-
-  pub count-here : h .count ≡ leAt (pageAt t page) 2 2
-  unfolding headOf read pageIn
-  count-here = ap (λ (x : Head). x .count) f ∙ count-view (pageAt t page)
-
-  pub certs-leaf : h .kind ≡ leafKind
-      → read t page .view .certs ≡ readEach certIn certSize (h .count) (drop headerSize (pageAt t page))
-  unfolding read pageIn
-  certs-leaf q =
-      ap (λ (v : View). v .certs) (view-leaf (pageAt t page) (sym kind-here ∙ q))
-      ∙ ap (λ (n : ℕ). readEach certIn certSize n (drop headerSize (pageAt t page))) (sym count-here)
-
-  pub certs-inner : (h .kind ≡ leafKind → ⊥) → read t page .view .certs ≡ []
-  unfolding read pageIn
-  certs-inner q = ap (λ (v : View). v .certs) (view-inner (pageAt t page) (λ r. q (kind-here ∙ r)))
-
   pub noted-inner : (a : Asked) (s : Sofar) → (h .kind ≡ leafKind → ⊥) → s ≡ noteEach a (read t page .view .certs) s
   unfolding noteEach
-  noted-inner a s q = rw (certs-inner q)
+  noted-inner a s q = rw (certs-inner t page h f q)
 
   pub noted-leaf : (a : Asked) (s : Sofar) → h .kind ≡ leafKind
       → noteEach a (readEach certIn certSize (h .count) (drop headerSize (pageAt t page))) s ≡ noteEach a (read t page .view .certs) s
-  noted-leaf a s q = ap (λ (xs : List Cert). noteEach a xs s) (sym (certs-leaf q))
+  noted-leaf a s q = ap (λ (xs : List Cert). noteEach a xs s) (sym (certs-leaf t page h f q))

@@ -2,18 +2,18 @@
 use mathlib.Core.Path.{_≡_, refl, sym, ap, _∙_, subst}
 use mathlib.Core.Bool.{true}
 use mathlib.Core.List.{List, []}
-use Prim.Native.Nat.{ℕ, _-_, _*_, _^_, _≤_, _<_}
+use Prim.Native.Nat.{ℕ, _-_, _^_, _<_}
 use native.Mathlib.Omega.{arith}
-use lib.ListN.{length}
 use Rattle.fields.specs.Field.{Bytes}
 use Rattle.fields.proofs.Field.{leAt-bound}
-use Rattle.rules.specs.Layout.{pageSize}
 use Rattle.rules.specs.Table.{root0, birth0, fit0}
 use Rattle.rules.specs.Place.{rootPlace}
 use Rattle.rules.specs.Walk.{Walked, walk, walkOf}
 use Rattle.rules.specs.declared.Asked.{Asked}
 use Rattle.rules.specs.declared.Place.{Place}
 use Rattle.rules.proofs.Tests.{every-true, between-low, between-high}
+-- passed on to whoever else walks from the root
+pub use Rattle.rules.proofs.PageZero.{has-zero}
 use Rattle.enter.specs.declared.Above.{Above}
 use Rattle.sweep.specs.Sweeps.{lastOf, sofarOf, sweeping, told, Known, aboveAt, Deep, Ready}
 use Rattle.sweep.specs.declared.Sofar.{Sofar}
@@ -30,13 +30,6 @@ no-above = record { most = omega arith; top = λ h. refl; parent = λ h. refl }
 pub known-nothing : Known nothing
 unfolding sofarOf lastOf
 known-nothing = record { found = []; is = refl }
-
--- a table with a fit page 0 has a page
-pub has-zero : (n : ℕ) (t : List ℕ) → length t ≡ n * pageSize → fit0 n t ≡ true → pageSize ≤ length t
-unfolding fit0
-has-zero n t l f =
-    let r = every-true _ f .1 .1 .0 in
-    omega (arith, between-low 1 (n - 1) (root0 t) r, between-high 1 (n - 1) (root0 t) r)
 
 pub ready-root : (n c : ℕ) (t : List ℕ) (e : Place) → fit0 n t ≡ true → Bytes t → c < 256 ^ 4 → e ≡ rootPlace t → Ready n c e
 unfolding fit0 rootPlace birth0

@@ -2,7 +2,7 @@
 use mathlib.Core.Path.{_≡_, refl, sym, ap, _∙_, subst}
 use mathlib.Core.Bool.{Bool, true, false}
 use mathlib.Core.List.{List, [], _∷_}
-use mathlib.Core.Option.{some, none}
+use mathlib.Core.Option.{some}
 use Prim.Native.Nat.{ℕ, zero, suc, _-_, _*_, _≤_, _<_}
 use native.Mathlib.Omega.{arith}
 use borrow.Author.Tests.{ne-eqb, eqb-true, eqb-false}
@@ -24,9 +24,10 @@ use Rattle.rules.proofs.All.{All, all-head, all-tail}
 use Rattle.rules.proofs.Each.{length-readEach}
 use Rattle.rules.proofs.Tests.{every-true, mem-head}
 use Rattle.rules.proofs.Places.{Fits}
+pub use Rattle.rules.proofs.WalkSteps.{walk-past, walk-damaged, walk-entered}
 use Rattle.head.specs.Head.{nowhere}
 use Rattle.head.specs.declared.Head.{Head}
-use Rattle.head.proofs.Headers.{headOf, view-leaf}
+use Rattle.head.proofs.Headers.{headOf, view-leaf, kind-here, count-here}
 use Rattle.head.proofs.Kids.{kids-inner}
 use Rattle.enter.specs.Entering as entering
 use Rattle.enter.specs.declared.Entered.{Entered}
@@ -36,7 +37,7 @@ use Rattle.sweep.specs.Sweeps.{sofarOf, Sweep, sweeping, told, Known, en
 use Rattle.sweep.specs.declared.Sofar.{Sofar}
 use Rattle.sweep.specs.declared.Run.{Run}
 use Rattle.sweep.proofs.Tests.{run-leaf, run-inner}
-use Rattle.sweep.proofs.Notes.{finds-noted, known-told, kind-here, count-here}
+use Rattle.sweep.proofs.Notes.{finds-noted, known-told}
 use Rattle.sweep.proofs.Keeps.{page-here, page-fits, kids-ready, walk-keeps}
 
 -- ── The state, read ─────────────────────────────────────────────────────────────────────────────────────────────
@@ -187,24 +188,6 @@ module _ (u : List ℕ) (e : Place) (h : Head) (f : h ≡ headOf (read u (e .chi
       let z : runOf e h .count - runOf e h .left ≡ 0 = omega arith in
       let q : places u (e .child) (runOf e h) ≡ kids e v = ap (λ (k : ℕ). drop k (places u (e .child) (runOf e h))) (sym z) ∙ run-kids in
       omega (arith, length-run u (e .child) (runOf e h), ap length q, length-places (v .kind - 1) (e .high) (v .children))
-
--- ── The rules' walk, by the answer of entering ──────────────────────────────────────────────────────────────────
-
-module _ (m n c : ℕ) (a : Asked) (xs : List ℕ) (e : Place) (w : Walked) where
-  pub walk-past : enters a e w ≡ false → walk (suc m) n c a xs e w ≡ w
-  unfolding walk
-  walk-past h = rw (walk, h)
-
-  pub walk-damaged : enters a e w ≡ true → entry.enter n c xs (w .table) e .page ≡ none
-      → walk (suc m) n c a xs e w ≡ stops w (entry.enter n c xs (w .table) e .table)
-  unfolding walk
-  walk-damaged h p = rw (walk, h, p)
-
-  pub walk-entered : enters a e w ≡ true → (p : Page) → entry.enter n c xs (w .table) e .page ≡ some p
-      → walk (suc m) n c a xs e w
-      ≡ walkEach (walk m n c a (e .child ∷ xs)) (kids e (p .view)) (finds a (p .view) w (entry.enter n c xs (w .table) e .table))
-  unfolding walk
-  walk-entered h p q = rw (walk, h, q)
 
 -- ── The page walk ───────────────────────────────────────────────────────────────────────────────────────────────
 

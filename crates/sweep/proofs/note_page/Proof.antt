@@ -5,7 +5,8 @@ use Rattle.rules.specs.Layout.{headerSize, certSize}
 use Rattle.rules.specs.Page.{certIn}
 use Rattle.rules.specs.Table.{pageAt}
 use Rattle.rules.proofs.Each.{length-readEach}
-use Rattle.sweep.proofs.Notes.{certs-leaf, noted-inner, noted-leaf}
+use Rattle.head.proofs.Headers.{certs-leaf}
+use Rattle.sweep.proofs.Notes.{noted-inner, noted-leaf}
 use borrow.Author.Needs.{needs}
 use native.Mathlib.Omega.{arith}
 use Rattle.sweep.proofs.note_page.Statement.{statement}
