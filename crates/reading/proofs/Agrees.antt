@@ -14,15 +14,15 @@ use Rattle.rules.specs.Walk.{Step, certsAt, wayOf, walkOf}
 use Rattle.rules.specs.Tree.{treeOf}
 use Rattle.rules.specs.Call.{Left}
 use Rattle.rules.specs.Lookup.{foundIn, lookupLeft, lookupKey, lookup}
-use Rattle.rules.specs.Newest.{meter, newestIn, newestLeft, newestMeter, newest}
-use Rattle.rules.specs.List.{ListLeft, upFrom, recordsOf, listDone, listFrom, list}
-use Rattle.rules.specs.declared.Asked.{Asked}
+use Rattle.rules.specs.Newest.{meter, newestIn, newestLeft, newest}
+use Rattle.rules.specs.List.{ListLeft, upFrom, recordsOf, listDone, list}
 use Rattle.rules.specs.declared.Session.{Session}
 use Rattle.rules.specs.declared.Looked.{Looked}
 use Rattle.rules.specs.declared.Newest.{Newest}
 use Rattle.rules.specs.declared.Listed.{Listed}
 use Rattle.rules.proofs.Keys.{keyOf-bound}
 use Rattle.rules.proofs.Lengths.{lengthsFor-true}
+use Rattle.rules.proofs.Lists.{meter-whole, from-whole}
 use Rattle.reading.specs.Agreeing.{held, Passes, answerFor, Largest, listedFrom, Fills, ReadersAgree}
 use Rattle.reading.proofs.Soundly.{Passing, Shows}
 use Rattle.reading.proofs.TreeCerts.{all-ordered}
@@ -43,17 +43,6 @@ key-way : (k : ℕ) (s : Session) (w t : List ℕ) (steps : List Step) → wayOf
     → lookupKey k s w t ≡ lookupLeft s (wayOf (s .n) (s .c) k w .table) t (foundIn k steps)
 unfolding lookupKey
 key-way k s w t steps h = rw (lookupKey, h)
-
-meter-whole : (a : Asked) (s : Session) (w t : List ℕ) → walkOf (s .n) (s .c) a w .whole ≡ true
-    → newestMeter a s w t ≡ newestLeft s (walkOf (s .n) (s .c) a w .table) t (newestIn (walkOf (s .n) (s .c) a w .found))
-unfolding newestMeter
-meter-whole a s w t h = rw (h, newestMeter)
-
-from-whole : (s : Session) (w t : List ℕ) (start : ℕ) (ks xs : List ℕ) → walkOf (s .n) (s .c) (upFrom start ks xs) w .whole ≡ true
-    → listFrom s w t start ks xs
-    ≡ listDone s (walkOf (s .n) (s .c) (upFrom start ks xs) w .table) t (walkOf (s .n) (s .c) (upFrom start ks xs) w .found) ks xs
-unfolding listFrom
-from-whole s w t start ks xs h = rw (h, listFrom)
 
 gather-list : (start : ℕ) (ks xs : List ℕ) (certs : List Cert) → gather (upFrom start ks xs) [] certs ≡ listedFrom start ks xs certs
 unfolding upFrom listedFrom

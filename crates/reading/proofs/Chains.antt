@@ -17,7 +17,7 @@ use Rattle.rules.specs.Page.{View, Page, isLeaf, pageIn, touch}
 use Rattle.rules.specs.Table.{read, kind0, n0}
 use Rattle.rules.specs.Place.{rootPlace, kids, pick}
 use Rattle.rules.specs.Walk.{Step, numbers}
-use Rattle.rules.specs.Insert.{full, divide, heirs, previousOf, newChild, putChild, lowerPage, upperPage, twins, Making, halve}
+use Rattle.rules.specs.Insert.{full, divide, previousOf, newChild, putChild, lowerPage, upperPage, twins, Making, halve}
 use Rattle.rules.specs.declared.Place.{Place}
 use Rattle.rules.proofs.Tests.{not-both, fails, mem-nil, mem-head, mem-tail, mem-cases}
 use Rattle.rules.proofs.Views.{Shaped, shaped-read}
@@ -27,7 +27,7 @@ use Rattle.rules.proofs.EntryBytes.{WideChild}
 use Rattle.rules.proofs.Picks.{Kid, kid-key, pick-holds}
 use Rattle.rules.proofs.Asks.{pick-leaf, kids-pick, kids-rising, kids-within}
 use Rattle.rules.proofs.Puts.{length-put-le}
-use Rattle.rules.proofs.Halves.{Divided, divided, room, lowerPage-fits, upperPage-fits, twins-fits}
+use Rattle.rules.proofs.Halves.{Divided, divided, room, lowerPage-fits, upperPage-fits, twins-fits, previousOf-below}
 use Rattle.rules.proofs.Twins.{Twin, lowerPlace, upperPlace, kids-twins, twin-pick-lower, twin-pick-upper}
 use Rattle.rules.proofs.Pages.{Wide, wide-touch}
 use Rattle.rules.proofs.Widths.{wide-putChild, wide-newChild, divide-bound, wide-lowerPage, wide-upperPage}
@@ -35,6 +35,7 @@ use Rattle.rules.proofs.Tables.{wide-read}
 use Rattle.rules.proofs.PageZero.{Same0, same0, rootPlace-same}
 use Rattle.apply.specs.Leads.{Whole, Stands, Leads}
 use Rattle.apply.proofs.Halving.{Sites}
+use Rattle.apply.proofs.Going.{leads-first}
 use Rattle.reading.proofs.Leading.{topOf, leads-in}
 use Rattle.reading.proofs.Writing.{halve-other, halve-lower, halve-upper, halve-above}
 
@@ -56,10 +57,6 @@ pub record Chained (n k : ℕ) (T : List ℕ) (i : ℕ) (entered new : List ℕ)
   pub zero-kind : kind0 T ≡ zeroKind
   pub zero-pages : n0 T ≡ n
 
-pub first-stands : (n k : ℕ) (t : List ℕ) (s : Step) (above : List Step) → Leads n k t (s ∷ above) → Stands n k t s
-first-stands n k t s [] l = l .0
-first-stands n k t s (u ∷ above) l = l .0
-
 -- the first step shows another page
 pub leads-again : (n k : ℕ) (t u : List ℕ) (s : Step) (q : Page) (above : List Step) → Stands n k u (record { place = s .place; page = q })
     → ((j : ℕ) → mem j (numbers above) ≡ true → read u j ≡ read t j) → Leads n k t (s ∷ above)
@@ -75,14 +72,6 @@ first-apart n k t s [] l j m q = mem-nil j m
 first-apart n k t s (u ∷ above) l j m q = not-both (ap (λ (i : ℕ). mem i (numbers (u ∷ above))) (sym q) ∙ m) (l .1)
 
 -- ── One page halved below the last of them ──────────────────────────────────────────────────────────────────────
-
-previous-in : (c n : ℕ) (s : Step) → s .place .child < n → s .place .previous < n → previousOf c s < n
-unfolding previousOf
-previous-in c n s a b = go (heirs c s) refl
-  where
-    go : (x : Bool) → heirs c s ≡ x → previousOf c s < n
-    go true h = rw (h, previousOf) b
-    go false h = rw (h, previousOf) a
 
 module _ {n c k : ℕ} (M : Making) (s : Step) (e : Place) {entered ns : List ℕ} (w : Whole n c (M .table)) (st : Stands n k (M .table) s)
     (f : full (s .page .view) ≡ true) {a b : ℕ} (x : Sites n (s .place) a b (M .at)) (C : Chained n k (M .table) (M .at) entered ns)
@@ -100,7 +89,7 @@ module _ {n c k : ℕ} (M : Making) (s : Step) (e : Place) {entered ns : List �
   v = C .first .page .view
 
   U : Stands n k (M .table) (C .first)
-  U = first-stands n k (M .table) (C .first) (C .rest) (C .leads)
+  U = leads-first (C .first) (C .rest) (C .leads)
 
   here : read (M .table) (M .at) ≡ C .first .page
   here = ap (read (M .table)) (sym (C .child)) ∙ U .reads
@@ -146,7 +135,7 @@ module _ {n c k : ℕ} (M : Making) (s : Step) (e : Place) {entered ns : List �
   }
 
   before : previousOf c s < n
-  before = previous-in c n s (st .below) (st .previous)
+  before = previousOf-below n c s (st .previous) (st .below)
 
   few-children : length (v .children) < innerRoom
   few-children = room v (subst (λ (q : Page). full (q .view) ≡ false) here roomy) .1

@@ -23,7 +23,7 @@ use Rattle.rules.specs.Call.{Left, lengthsFor, insertedNo}
 use Rattle.rules.specs.Insert.{splitting, rootSplits, newPages, tooHigh, tooSoon, noRoom, putCert, changed, Making, making, split, insertRefused, insertDone, insertAlong, insertKey, insert}
 use Rattle.rules.specs.declared.Session.{Session}
 use Rattle.rules.specs.declared.Inserted.{Inserted}
-use Rattle.rules.proofs.Tests.{not-both, fails, mem-nil, mem-cases, mem-index, distinct-left}
+use Rattle.rules.proofs.Tests.{fails, mem-nil, mem-cases, mem-index, distinct-left, or-none, and-other}
 use Rattle.rules.proofs.All.{All, all-at, all-map, all-take}
 use Rattle.rules.proofs.Numbers.{FreePage, all-freePages, distinct-freePages}
 use Rattle.rules.proofs.Views.{Shaped, shaped-read, shaped-putCert, leaf-same}
@@ -33,7 +33,6 @@ use Rattle.rules.proofs.Pages.{room-pageBytes}
 use Rattle.rules.proofs.Tables.{Has, Room, has-page, length-change, pageAt-change-other}
 use Rattle.rules.proofs.Lengths.{Tables, lengthsFor-true}
 use Rattle.way.proofs.Stood.{way-stands}
-use Rattle.edit.proofs.Put.{or-none}
 use Rattle.apply.specs.Leads.{Whole, Leads, Fresh, Chosen}
 use Rattle.apply.proofs.Going.{Gone, apart-by}
 use Rattle.apply.proofs.Whole.{split-gone}
@@ -94,10 +93,6 @@ insert-done w t s model serial issue x h = go (lengthsFor s w t) refl (goodParts
 
 -- ── The numbers taken ───────────────────────────────────────────────────────────────────────────────────────────
 
-and-none : (a b : Bool) → (a && b) ≡ false → a ≡ true → b ≡ false
-and-none true b h p = h
-and-none false b h p = absurd (not-both p refl)
-
 module _ (s : Session) (way : List Step) (roomy : noRoom way (freePages s (numbers way)) ≡ false) where
   abbrev free : List ℕ
   free = freePages s (numbers way)
@@ -108,7 +103,7 @@ module _ (s : Session) (way : List Step) (roomy : noRoom way (freePages s (numbe
 
   not-high : rootSplits way ≡ true → tooHigh way ≡ false
   unfolding noRoom
-  not-high = and-none (rootSplits way) (tooHigh way) (or-none (ltb (length free) (newPages way)) (rootSplits way && tooHigh way) roomy .1)
+  not-high = and-other (rootSplits way) (tooHigh way) (or-none (ltb (length free) (newPages way)) (rootSplits way && tooHigh way) roomy .1)
 
   as-many : length (takenFor s way) ≡ newPages way
   unfolding takenFor

@@ -19,10 +19,11 @@ use Rattle.rules.specs.declared.Place.{Place}
 use Rattle.rules.proofs.Tests.{fails}
 use Rattle.rules.proofs.Views.{Shaped, shaped-read}
 use Rattle.rules.proofs.Asks.{pick-leaf, kids-pick, kids-want}
+use Rattle.rules.proofs.Plans.{rootSplits-full}
 use Rattle.apply.specs.Leads.{Stands, Leads}
 use Rattle.apply.proofs.Whole.{root-splits}
 use Rattle.reading.specs.Inserting.{few}
-use Rattle.reading.proofs.Splitting.{pages-root, pages-stay, pages-below, root-above}
+use Rattle.reading.proofs.Splitting.{pages-root, pages-stay, pages-below}
 
 -- ── Kinds rise along a way ──────────────────────────────────────────────────────────────────────────────────────
 
@@ -93,6 +94,6 @@ counts n k t s (u ∷ (v ∷ [])) z l h = go (full (s .page .view)) refl (full (
         (omega (arith, pages-below s (u ∷ (v ∷ [])) f, pages-below u (v ∷ []) g, pages-stay v [] i)) refl
     go true f true g true i =
         absurd (high-root v
-        (sym (high-of-three s u v) ∙ h (root-above s (u ∷ (v ∷ [])) f ∙ (root-above u (v ∷ []) g ∙ root-splits v i)))
+        (sym (high-of-three s u v) ∙ h (rootSplits-full s (u ∷ (v ∷ [])) f ∙ (rootSplits-full u (v ∷ []) g ∙ root-splits v i)))
         (top-of-three s u v l))
 counts n k t s (u ∷ (v ∷ (x ∷ above))) z l h = absurd (omega arith)

@@ -7,27 +7,12 @@ use lib.ListN.{length}
 use Rattle.rules.specs.Entry.{keys}
 use Rattle.rules.specs.Page.{over}
 use Rattle.rules.specs.Table.{fit0}
-use Rattle.rules.specs.Place.{rootPlace}
-use Rattle.rules.specs.Test.{every}
-use Rattle.rules.specs.Walk.{Walked, enters, walkOf}
+use Rattle.rules.specs.Walk.{Walked}
 use Rattle.rules.specs.Call.{lengthsFor}
 use Rattle.rules.specs.List.{upFrom, recordsOf, listRefused, listDone, listFrom, list}
-use Rattle.rules.specs.declared.Asked.{Asked}
-use Rattle.rules.specs.declared.Place.{Place}
 use Rattle.rules.specs.declared.Session.{Session}
+use Rattle.rules.proofs.WalkSteps.{walk-none}
 use Rattle.reading.specs.Leaving.{NothingListed, EmptyList}
-use Rattle.reading.proofs.Gathers.{walk-past}
-
-abbrev unwalked : List ℕ → Walked
-unwalked w = record { table = w; whole = true; found = [] }
-
-no-room : (a : Asked) (e : Place) (w : List ℕ) → a .room ≡ 0 → enters a e (unwalked w) ≡ false
-unfolding enters every
-no-room a e w h = rw h
-
-walk-none : (n c : ℕ) (a : Asked) (w : List ℕ) → a .room ≡ 0 → walkOf n c a w ≡ unwalked w
-unfolding walkOf
-walk-none n c a w h = walk-past 2 n c a [] (rootPlace w) (unwalked w) (no-room a (rootPlace w) w h)
 
 from-none : (s : Session) (w t : List ℕ) (start : ℕ) (ks xs : List ℕ) → min (length ks) (length xs) ≡ 0
     → listFrom s w t start ks xs ≡ listDone s w t [] ks xs

@@ -31,10 +31,10 @@ use Rattle.rules.proofs.Widths.{wide-putCert}
 use Rattle.rules.proofs.Tables.{wide-read, read-change-same, read-change-other}
 use Rattle.rules.proofs.PageZero.{Same0, rootPlace-same, same0-change}
 use Rattle.apply.specs.Leads.{Stands, Leads}
-use Rattle.apply.proofs.Going.{Gone}
+use Rattle.apply.proofs.Going.{Gone, leads-first}
 use Rattle.reading.proofs.Changes.{leaf-at, room-at, has-at}
 use Rattle.reading.proofs.Counts.{kind-above}
-use Rattle.reading.proofs.Chains.{topPlace, Chained, first-stands, leads-again, first-apart}
+use Rattle.reading.proofs.Chains.{topPlace, Chained, leads-again, first-apart}
 
 -- ── A way that stands is walked without a mend ──────────────────────────────────────────────────────────────────
 
@@ -50,7 +50,7 @@ enter-stands {n} {k} {t} c above s st m =
 kinds : (n k : ℕ) (t : List ℕ) (s : Step) (above : List Step) → Leads n k t (s ∷ above) → s .page .view .kind + length above ≤ topKind
 kinds n k t s [] l = omega (arith, l .0 .fits .sound .kind-to)
 kinds n k t s (u ∷ above) l =
-    let a = kind-above s u (l .0) (first-stands n k t u above (l .3)) (l .2) in
+    let a = kind-above s u (l .0) (leads-first u above (l .3)) (l .2) in
     omega (arith, a, kinds n k t u above (l .3))
 
 none-in : (i : ℕ) → mem i (numbers []) ≡ false
@@ -87,12 +87,12 @@ module _ (n c k : ℕ) (t : List ℕ) where
       ap (λ (e : Place). descend topKind n c k [] t e) r ∙ ap (λ (i : ℕ). descend i n c k [] t (s .place)) (omega (arith, h))
   reaches s (u ∷ above) l r level h =
       reaches u above (l .3) r (suc level) (omega (arith, h))
-      ∙ descend-on level above u (s .place) (first-stands n k t u above (l .3)) (step-apart n k t u above (l .3)) (l .2)
+      ∙ descend-on level above u (s .place) (leads-first u above (l .3)) (step-apart n k t u above (l .3)) (l .2)
 
   pub leads-way : (s : Step) (above : List Step) → Leads n k t (s ∷ above) → rootPlace t ≡ topPlace s above → isLeaf (s .page .view) ≡ true
       → wayOf n c k t ≡ record { table = t; steps = some (s ∷ above) }
   leads-way s above l r leaf =
-      let st = first-stands n k t s above l in
+      let st = leads-first s above l in
       let level = 2 - length above in
       let shape = subst (λ (p : Page). Shaped (p .view)) (st .reads) (shaped-read t (s .place .child)) in
       reaches s above l r (suc level) (omega (arith, kinds n k t s above l, st .fits .sound .kind-from))
@@ -138,7 +138,7 @@ module _ {n c k : ℕ} {t : List ℕ} {s : Step} {above : List Step} {new entere
   page = touch c (putCert cert (old .view)) old
 
   U : Stands n k (m .table) (C .first)
-  U = first-stands n k (m .table) (C .first) (C .rest) (C .leads)
+  U = leads-first (C .first) (C .rest) (C .leads)
 
   here : read (m .table) (m .at) ≡ C .first .page
   here = ap (read (m .table)) (sym (C .child)) ∙ U .reads

@@ -14,7 +14,7 @@ use borrow.Author.Tests.{ltb-false, leb-false}
 use Rattle.rules.specs.Layout.{topKind}
 use Rattle.rules.specs.Test.{between, every, all, mem}
 use Rattle.rules.specs.Entry.{Cert, keys, cut}
-use Rattle.rules.specs.Page.{View, Page}
+use Rattle.rules.specs.Page.{View}
 use Rattle.rules.specs.Place.{rootPlace, kids, show}
 use Rattle.rules.specs.Enter.{enter}
 use Rattle.rules.specs.Walk.{Walked, enters, finds, walkEach, walk, walkOf}
@@ -24,6 +24,7 @@ use Rattle.rules.specs.declared.Place.{Place}
 use Rattle.rules.proofs.Tests.{not-both, fails, all-mem, between-low, between-high, between-below, between-above}
 use Rattle.rules.proofs.Entries.{cut-nil, cut-none, cut-append}
 use Rattle.rules.proofs.Ways.{Node}
+use Rattle.rules.proofs.WalkSteps.{walk-past, walk-entered}
 use Rattle.rules.proofs.Kids.{shown-kind}
 use Rattle.rules.proofs.Nodes.{node-root, kid-kind}
 use Rattle.rules.proofs.Opens.{kid-node}
@@ -69,18 +70,6 @@ module _ (a : Asked) (xs : List Cert) where
       out k b (inr h) = between-below (a .low) (a .high) k (omega (arith, between-high low high k b))
 
 -- ── One step of the rules' walk ─────────────────────────────────────────────────────────────────────────────────
-
-pub walk-past : (level n c : ℕ) (a : Asked) (above : List ℕ) (e : Place) (w : Walked) → enters a e w ≡ false
-    → walk (suc level) n c a above e w ≡ w
-unfolding walk
-walk-past level n c a above e w h = rw (h, walk)
-
-walk-here : (level n c : ℕ) (a : Asked) (above : List ℕ) (e : Place) (w : Walked) (p : Page) → enters a e w ≡ true
-    → enter n c above (w .table) e .page ≡ some p
-    → walk (suc level) n c a above e w
-    ≡ walkEach (walk level n c a (e .child ∷ above)) (kids e (p .view)) (finds a (p .view) w (enter n c above (w .table) e .table))
-unfolding walk
-walk-here level n c a above e w p h q = rw (h, walk) (rw q)
 
 -- a place that is not entered, though no damage was met
 data Past (a : Asked) (e : Place) (xs : List Cert) : Type 0 where
@@ -190,7 +179,7 @@ module _ {n c : ℕ} {t : List ℕ} (p : Passing n c t) (a : Asked) where
           (gather-append a xs (v .certs) (treeEach (tree level n t) (kids e v) .certs)
           ∙ ap (gather a xs) (sym (certs-here (p .good) level e v shows)))
           (subst (Walking (gather a (gather a xs (v .certs)) (treeEach (tree level n t) (kids e v) .certs)))
-          (sym (walk-here level n c a above e w (r .page) q (r .given)))
+          (sym (walk-entered level n c a above e w q (r .page) (r .given)))
           (subst (λ (u : View). Walking (gather a (gather a xs (v .certs)) (treeEach (tree level n t) (kids e v) .certs))
           (walkEach (walk level n c a (e .child ∷ above)) (kids e u) (finds a u w (enter n c above (w .table) e .table)))) (sym (r .view))
           (each level (e .child ∷ above) (kids e v) ih (gather a xs (v .certs))

@@ -1,26 +1,27 @@
 -- The steps of a way stand in the table that the walk leaves, each asked for by the one above it, in tables of any bytes.
 use Prim.Native.Nat.{ℕ, zero, suc, _+_, _*_, _^_, _≤_, _<_}
 use native.Mathlib.Omega.{arith}
-use mathlib.Core.Path.{_≡_, refl, sym, ap, _∙_}
+use mathlib.Core.Path.{_≡_, refl, sym, ap}
 use mathlib.Core.Bool.{true}
 use mathlib.Core.List.{List, [], _∷_}
 use mathlib.Core.Option.{Option, some, none, Option·some-injective, Option·none-ne-some}
 use lib.ListN.{length}
-use borrow.Author.Tests.{ltb-true}
 use Rattle.fields.specs.Field.{Bytes}
 use Rattle.rules.specs.Layout.{pageSize, topKind, lastKey}
 use Rattle.rules.specs.Test.{mem}
 use Rattle.rules.specs.Page.{Page}
-use Rattle.rules.specs.Table.{read, fit0, previous0}
+use Rattle.rules.specs.Table.{read, fit0}
 use Rattle.rules.specs.Place.{rootPlace, kids, pick}
 use Rattle.rules.specs.Enter.{enter}
 use Rattle.rules.specs.Walk.{Step, numbers, descend, wayOf}
 use Rattle.rules.specs.declared.Place.{Place}
-use Rattle.rules.proofs.Tests.{every-true, mem-head, mem-tail}
+use Rattle.rules.proofs.Tests.{mem-head, mem-tail}
 use Rattle.rules.proofs.Asks.{kids-pick, kids-names}
+use Rattle.rules.proofs.PageZero.{root-previous}
+use Rattle.rules.proofs.WalkSteps.{enter-apart}
 use Rattle.way.proofs.Stood.{Ready, ready-root, ready-stays, ready-next, stood-here}
 use Rattle.apply.specs.Leads.{Stands, Leads}
-use Rattle.reading.proofs.Turns.{entered-apart}
+use Rattle.apply.proofs.Going.{stands-still}
 
 -- ── Steps that lead to a place ──────────────────────────────────────────────────────────────────────────────────
 
@@ -34,23 +35,12 @@ abbrev pub topOf : List Step → Place → Place
 topOf [] e = e
 topOf (u ∷ above) e = topOf above (u .place)
 
-stands-in : {n k : ℕ} {t u : List ℕ} {s : Step} → read u (s .place .child) ≡ read t (s .place .child) → Stands n k t s → Stands n k u s
-stands-in q x = record {
-  page = x .page;
-  below = x .below;
-  previous = x .previous;
-  reads = q ∙ x .reads;
-  fits = x .fits;
-  low = x .low;
-  high = x .high;
-}
-
 pub leads-in : (n k : ℕ) (t u : List ℕ) (s : Step) (above : List Step) → ((i : ℕ) → mem i (numbers (s ∷ above)) ≡ true → read u i ≡ read t i)
     → Leads n k t (s ∷ above) → Leads n k u (s ∷ above)
 unfolding numbers
-leads-in n k t u s [] f l = (stands-in (f (s .place .child) (mem-head (s .place .child) [])) (l .0), l .1, l .2)
+leads-in n k t u s [] f l = (stands-still (f (s .place .child) (mem-head (s .place .child) [])) (l .0), l .1, l .2)
 leads-in n k t u s (v ∷ above) f l = (
-  stands-in (f (s .place .child) (mem-head (s .place .child) (numbers (v ∷ above)))) (l .0),
+  stands-still (f (s .place .child) (mem-head (s .place .child) (numbers (v ∷ above)))) (l .0),
   l .1,
   l .2,
   leads-in n k t u v above (λ i m. f i (mem-tail i (s .place .child) (numbers (v ∷ above)) m)) (l .3),
@@ -87,7 +77,7 @@ leads-more : {n c k : ℕ} (above : List Step) {t : List ℕ} {e : Place} (r : R
 leads-more [] r previous p h l = (stands-here (numbers []) r previous p h, l .0, l .1)
 leads-more {n} {c} {k} (v ∷ above) {t} {e} r previous p h l = (
   stands-here (numbers (v ∷ above)) r previous p h,
-  entered-apart n c (numbers (v ∷ above)) t e p h,
+  enter-apart n c (numbers (v ∷ above)) t e p h,
   l .0,
   leads-in n k t (enter n c (numbers (v ∷ above)) t e .table) v above (ready-stays r (numbers (v ∷ above))) (l .1),
 )
@@ -133,10 +123,6 @@ descend-leads (suc level) n c k root above t e y r b l steps h top z =
     found (some p) f ih = below p f (pick k (kids e (p .view))) refl ih
 
 -- ── The whole way ───────────────────────────────────────────────────────────────────────────────────────────────
-
-root-previous : (n : ℕ) (t : List ℕ) → fit0 n t ≡ true → rootPlace t .previous < n
-unfolding fit0 rootPlace
-root-previous n t f = ltb-true (previous0 t) n (every-true _ f .1 .1 .1 .0)
 
 root-range : (t : List ℕ) → (rootPlace t .low ≡ 0) × (rootPlace t .high ≡ lastKey)
 unfolding rootPlace

@@ -17,8 +17,8 @@ use Rattle.rules.specs.declared.Session.{Session}
 use Rattle.rules.proofs.Tests.{mem-nil, mem-cases}
 use Rattle.rules.proofs.Retire.{retire-n}
 use Rattle.rules.proofs.Marked.{free-taken-same, free-taken-other, free-freed-other, waiting-waits-other}
+use Rattle.rules.proofs.SplitWay.{split-one, split-more, split-none}
 use Rattle.apply.proofs.Going.{mem-rest, mem-not}
-use Rattle.apply.proofs.Splits.{split-stays, split-root, split-below}
 use Rattle.reading.specs.Inserting.{SameMarks}
 use Rattle.reading.proofs.Splitting.{pages-root, pages-stay, pages-below}
 
@@ -85,7 +85,7 @@ module _ (c k : ℕ) (s : Step) (a b : ℕ) (M : Making) (i : ℕ) (d : i ≢ s 
 module _ (c k : ℕ) (t : List ℕ) (m : Session) (i : ℕ) where
   stay-marks : (s : Step) (above : List Step) (ns : List ℕ) → full (s .page .view) ≡ false
       → SameMarks m (split c k (s ∷ above) ns (making t m 0) .session) i
-  stay-marks s above ns f = subst (λ (y : Making). SameMarks m (y .session) i) (sym (split-stays c k s above ns t m f)) same-same
+  stay-marks s above ns f = subst (λ (y : Making). SameMarks m (y .session) i) (sym (split-none c k s above ns (making t m 0) f)) same-same
 
   pub split-marks : (s : Step) (above : List Step) (new : List ℕ) → newPages (s ∷ above) ≤ length new → mem i (numbers (s ∷ above)) ≡ false
       → mem i new ≡ false → SameMarks m (split c k (s ∷ above) new (making t m 0) .session) i
@@ -100,7 +100,7 @@ module _ (c k : ℕ) (t : List ℕ) (m : Session) (i : ℕ) where
       go (a ∷ (b ∷ [])) e r true f = absurd (omega (arith, e, pages-root s f))
       go (a ∷ (b ∷ (g ∷ ns))) e r true f =
           let r₁ = mem-rest i a (b ∷ (g ∷ ns)) r in
-          subst (λ (y : Making). SameMarks m (y .session) i) (sym (split-root c k s (a ∷ (b ∷ (g ∷ ns))) (making t m 0) f))
+          subst (λ (y : Making). SameMarks m (y .session) i) (sym (split-one c k s (a ∷ (b ∷ (g ∷ ns))) (making t m 0) f))
           (same-then (taken-other m g i (mem-not i g ns (mem-rest i b (g ∷ ns) r₁)))
           (halve-marks c k s a b (grow c s g (making t m 0)) i (mem-not i (s .place .child) [] z)
           (mem-not i a (b ∷ (g ∷ ns)) r) (mem-not i b (g ∷ ns) r₁)))
@@ -117,7 +117,7 @@ module _ (c k : ℕ) (t : List ℕ) (m : Session) (i : ℕ) where
       go (a ∷ []) e r true f ih = absurd (omega (arith, e, pages-below s (u ∷ above) f))
       go (a ∷ (b ∷ ns)) e r true f ih =
           let r₁ = mem-rest i a (b ∷ ns) r in
-          subst (λ (y : Making). SameMarks m (y .session) i) (sym (split-below c k s u above (a ∷ (b ∷ ns)) (making t m 0) f))
+          subst (λ (y : Making). SameMarks m (y .session) i) (sym (split-more c k s u above (a ∷ (b ∷ ns)) (making t m 0) f))
           (same-then
           (ih ns (omega (arith, e, pages-below s (u ∷ above) f)) (mem-rest i (s .place .child) (numbers (u ∷ above)) z) (mem-rest i b ns r₁))
           (halve-marks c k s a b (split c k (u ∷ above) ns (making t m 0)) i (mem-not i (s .place .child) (numbers (u ∷ above)) z)
@@ -170,7 +170,7 @@ module _ (c k : ℕ) (t : List ℕ) (m : Session) (i : ℕ) where
       go (a ∷ []) e r true f = absurd (omega (arith, e, pages-root s f))
       go (a ∷ (b ∷ [])) e r true f = absurd (omega (arith, e, pages-root s f))
       go (a ∷ (b ∷ (g ∷ []))) e r true f =
-          subst Goal (sym (split-root c k s (a ∷ (b ∷ (g ∷ []))) (making t m 0) f)) (root a b g (which a b g r))
+          subst Goal (sym (split-one c k s (a ∷ (b ∷ (g ∷ []))) (making t m 0) f)) (root a b g (which a b g r))
       go (a ∷ (b ∷ (g ∷ (h ∷ ns)))) e r true f = absurd (omega (arith, e, pages-root s f))
   split-taken s (u ∷ above) new e z r = go new e r (full (s .page .view)) refl (split-taken u above)
     where
@@ -201,7 +201,7 @@ module _ (c k : ℕ) (t : List ℕ) (m : Session) (i : ℕ) where
       go (a ∷ ns) e r false f ih = absurd (omega (arith, e, pages-stay s (u ∷ above) f))
       go (a ∷ []) e r true f ih = absurd (omega (arith, e, pages-below s (u ∷ above) f))
       go (a ∷ (b ∷ ns)) e r true f ih =
-          subst Goal (sym (split-below c k s u above (a ∷ (b ∷ ns)) (making t m 0) f))
+          subst Goal (sym (split-more c k s u above (a ∷ (b ∷ ns)) (making t m 0) f))
           (below a b ns (omega (arith, e, pages-below s (u ∷ above) f)) ih (mem-cases i a (b ∷ ns) r))
 
 -- ── The session keeps its number of pages ───────────────────────────────────────────────────────────────────────

@@ -6,16 +6,16 @@ use mathlib.Core.Logic.{_⊎_, inl, inr, _≢_}
 use mathlib.Core.Bool.{Bool, true, false, not, false≢true}
 use mathlib.Core.List.{List, [], _∷_, _++_, List·Memᴰ, List·Memᴰ·cases-cons, List·Memᴰ·not-nil}
 use mathlib.Core.Option.{Option, some, none}
-use borrow.Author.Tests.{ltb-true}
 use Rattle.rules.specs.Layout.{topKind}
 use Rattle.rules.specs.Test.{mem, distinct}
 use Rattle.rules.specs.Page.{View}
-use Rattle.rules.specs.Table.{fit0, root0, previous0}
+use Rattle.rules.specs.Table.{fit0, root0}
 use Rattle.rules.specs.Place.{rootPlace, kids, pick, show}
 use Rattle.rules.specs.Tree.{Tree, broken, join, sparedAt, here, treeEach, tree, treeOf, goodTree}
 use Rattle.rules.specs.declared.Place.{Place}
 use Rattle.rules.proofs.Tests.{and-left, and-right, every-true, between-low, between-high, mem-head, mem-tail, mem-left, mem-right, all-mem, not-both, distinct-head, distinct-tail, distinct-left, distinct-right, distinct-apart}
 use Rattle.rules.proofs.Picks.{pick-mem}
+use Rattle.rules.proofs.PageZero.{root-previous}
 use Rattle.rules.proofs.Ways.{at, Node, Lost, Undamaged}
 use Rattle.rules.proofs.Invariant.{Rooted, Good}
 use Rattle.rules.proofs.Nodes.{above, at-root}
@@ -207,11 +207,10 @@ module _ (n : ℕ) (t : List ℕ) where
 rooted-of : (n : ℕ) (t : List ℕ) → fit0 n t ≡ true → Rooted n t
 unfolding fit0 rootPlace
 rooted-of n t f =
-    let x = every-true _ f in
-    let r = x .1 .1 .0 in
+    let r = every-true _ f .1 .1 .0 in
     let a = between-low 1 (n - 1) (root0 t) r in
     let b = between-high 1 (n - 1) (root0 t) r in
-    record { some-page = a; in-table = omega (arith, a, b); previous-in = ltb-true (previous0 t) n (x .1 .1 .1 .0) }
+    record { some-page = a; in-table = omega (arith, a, b); previous-in = root-previous n t f }
 
 pub good-of : (n : ℕ) (t : List ℕ) → fit0 n t ≡ true → goodTree (treeOf n t) ≡ true → Good n t
 unfolding goodTree treeOf

@@ -7,7 +7,6 @@ use mathlib.Core.Logic.{_⊎_, inl, inr}
 use mathlib.Core.Bool.{Bool, true, false}
 use mathlib.Core.List.{List, [], _∷_}
 use mathlib.Core.Option.{some}
-use lib.Dec.{eqb}
 use lib.ListN.{length}
 use Rattle.rules.specs.Layout.{pageSize, topKind, zeroKind, lastKey}
 use Rattle.rules.specs.Test.{mem}
@@ -21,7 +20,9 @@ use Rattle.rules.specs.declared.Session.{Session}
 use Rattle.rules.proofs.Tests.{mem-nil, mem-cases, mem-head, distinct-head, distinct-tail}
 use Rattle.rules.proofs.All.{nil, cons, all-head, all-tail}
 use Rattle.rules.proofs.Sounds.{Sound}
+use Rattle.rules.proofs.SplitWay.{split-one, split-more, split-none}
 use Rattle.rules.proofs.Places.{Fits}
+use Rattle.rules.proofs.Plans.{newPages-full}
 use Rattle.rules.proofs.Picks.{belowOf, placeFor, pick-here}
 use Rattle.rules.proofs.Halves.{rootOver-sound, rootOver-shaped, rootOver-fits}
 use Rattle.rules.proofs.Twins.{kids-rootOver}
@@ -30,23 +31,21 @@ use Rattle.rules.proofs.Widths.{wide-newChild}
 use Rattle.rules.proofs.Tables.{Has, has-page, wide-read}
 use Rattle.rules.proofs.PageZero.{Same0, same0-build, length-setRoot, kind0-setRoot, n0-setRoot, rootPlace-setRoot}
 use Rattle.rules.proofs.Writes.{room-of}
+use Rattle.rules.proofs.Grow.{rootPrevious-below}
 use Rattle.apply.specs.Leads.{Whole, Stands, Leads, Chosen}
-use Rattle.apply.proofs.Going.{Gone, mem-rest, pages-more, chosen-above}
-use Rattle.apply.proofs.Splits.{split-stays, split-root, split-below, stands-below, sites}
+use Rattle.apply.proofs.Going.{Gone, mem-rest, chosen-above, leads-first}
+use Rattle.apply.proofs.Splits.{stands-below, sites}
 use Rattle.apply.proofs.Whole.{short, root-whole, root-stands, root-sites, split-gone}
 use Rattle.reading.proofs.Writing.{grow-longer, grow-new}
 use Rattle.reading.proofs.Splitting.{pages-root}
 use Rattle.reading.proofs.Counts.{want-below}
-use Rattle.reading.proofs.Chains.{topPlace, Chained, first-stands, halve-chained}
+use Rattle.reading.proofs.Chains.{topPlace, Chained, halve-chained}
 
 -- ── A new root ──────────────────────────────────────────────────────────────────────────────────────────────────
 
 module _ {n c k : ℕ} {t : List ℕ} (w : Whole n c t) (s : Step) (st : Stands n k t s) (from : s .place .low ≡ 0) (to : s .place .high ≡ lastKey)
     (kind : s .page .view .kind < topKind) (g : ℕ) (page : 1 ≤ g) (below : g < n) (m : Session)
     (end : length (grow c s g (making t m 0) .table) ≤ length t) where
-  abbrev T : List ℕ
-  T = grow c s g (making t m 0) .table
-
   abbrev over : Page
   over = fresh c c 0 lastKey (rootOver s)
 
@@ -76,12 +75,7 @@ module _ {n c k : ℕ} {t : List ℕ} (w : Whole n c t) (s : Step) (st : Stands 
   reads-over = grow-new c (making t m 0) s g has end page wide-over
 
   previous-in : rootPrevious c s < n
-  unfolding rootPrevious
-  previous-in = go (eqb (s .page .built) c) refl
-    where
-      go : (b : Bool) → eqb (s .page .built) c ≡ b → rootPrevious c s < n
-      go true h = rw (h, rootPrevious) (st .previous)
-      go false h = rw (h, rootPrevious) (st .below)
+  previous-in = rootPrevious-below n c s (st .previous) (st .below)
 
   abbrev place : Place
   place = record { child = g; previous = rootPrevious c s; birth = c; low = 0; high = lastKey; want = 0 }
@@ -161,7 +155,7 @@ module _ {n c k : ℕ} {t : List ℕ} (m : Session) (w : Whole n c t) (bound : k
   stay-chained : (s : Step) (above : List Step) (ns : List ℕ) → full (s .page .view) ≡ false → Leads n k t (s ∷ above)
       → rootPlace t ≡ topPlace s above → Goal (numbers (s ∷ above)) ns (split c k (s ∷ above) ns (making t m 0))
   stay-chained s above ns f l r =
-      subst (Goal (numbers (s ∷ above)) ns) (sym (split-stays c k s above ns t m f))
+      subst (Goal (numbers (s ∷ above)) ns) (sym (split-none c k s above ns (making t m 0) f))
       (record {
         first = s;
         rest = above;
@@ -195,7 +189,7 @@ module _ {n c k : ℕ} {t : List ℕ} (m : Session) (w : Whole n c t) (bound : k
       M = grow c s g (making t m 0)
 
       q : split c k (s ∷ []) (a ∷ (b ∷ (g ∷ ns))) (making t m 0) ≡ halve c k s a b M
-      q = split-root c k s (a ∷ (b ∷ (g ∷ ns))) (making t m 0) f
+      q = split-one c k s (a ∷ (b ∷ (g ∷ ns))) (making t m 0) f
 
       kind : s .page .view .kind < topKind
       kind = short s a b g ns m w l f x
@@ -223,7 +217,7 @@ module _ {n c k : ℕ} {t : List ℕ} (m : Session) (w : Whole n c t) (bound : k
       subst (Goal (s .place .child ∷ numbers (u ∷ above)) (a ∷ (b ∷ ns))) (sym q)
       (halve-chained M s (s .place) (G .whole) (stands-below s u above a b ns M l f x G) f (sites s u above a b ns M l f x G) C picks
       (sym (l .0 .fits .low)) (sym (l .0 .fits .high))
-      (want-is s (l .0 .fits) (want-below u (first-stands n k t u above (l .3)) (s .place) (l .2) .0))
+      (want-is s (l .0 .fits) (want-below u (leads-first u above (l .3)) (s .place) (l .2) .0))
       (G .onward .roomy) end
       (mem-rest a (s .place .child) (numbers (u ∷ above)) (all-head (x .fresh) .apart)) (mem-rest a b ns (distinct-head a (b ∷ ns) (x .apart)))
       (mem-rest b (s .place .child) (numbers (u ∷ above)) (all-head (all-tail (x .fresh)) .apart))
@@ -233,13 +227,13 @@ module _ {n c k : ℕ} {t : List ℕ} (m : Session) (w : Whole n c t) (bound : k
       M = split c k (u ∷ above) ns (making t m 0)
 
       q : split c k (s ∷ (u ∷ above)) (a ∷ (b ∷ ns)) (making t m 0) ≡ halve c k s a b M
-      q = split-below c k s u above (a ∷ (b ∷ ns)) (making t m 0) f
+      q = split-more c k s u above (a ∷ (b ∷ ns)) (making t m 0) f
 
       G : Gone n c k t u above ns M
       G = split-gone m w u above ns (omega arith) (l .3) (chosen-above s u above a b ns few f x)
 
       F : Stands n k (M .table) (C .first)
-      F = first-stands n k (M .table) (C .first) (C .rest) (C .leads)
+      F = leads-first (C .first) (C .rest) (C .leads)
 
       same : read (M .table) (M .at) ≡ C .first .page
       same = ap (read (M .table)) (sym (C .child)) ∙ F .reads
@@ -277,6 +271,6 @@ module _ {n c k : ℕ} {t : List ℕ} (m : Session) (w : Whole n c t) (bound : k
           → ((is : List ℕ) → Chosen n (u ∷ above) is → Goal (numbers (u ∷ above)) is (split c k (u ∷ above) is (making t m 0)))
           → Goal (numbers (s ∷ (u ∷ above))) ns (split c k (s ∷ (u ∷ above)) ns (making t m 0))
       go ns x false f ih = stay-chained s (u ∷ above) ns f l r
-      go [] x true f ih = absurd (omega (arith, x .enough, pages-more s (u ∷ above) f))
-      go (a ∷ []) x true f ih = absurd (omega (arith, x .enough, pages-more s (u ∷ above) f))
+      go [] x true f ih = absurd (omega (arith, x .enough, newPages-full s (u ∷ above) f))
+      go (a ∷ []) x true f ih = absurd (omega (arith, x .enough, newPages-full s (u ∷ above) f))
       go (a ∷ (b ∷ ns)) x true f ih = below-chained s u above a b ns few f l x (ih ns (chosen-above s u above a b ns few f x))

@@ -8,49 +8,40 @@ use mathlib.Core.Bool.{Bool, true, false}
 use mathlib.Core.List.{List, [], _∷_}
 use lib.Dec.{eqb}
 use lib.ListN.{length, take}
-use borrow.Author.Tests.{eqb-true, eqb-false, eq-eqb, ne-eqb}
+use borrow.Author.Tests.{eqb-true, eqb-false, ne-eqb}
 use Rattle.rules.specs.Layout.{pageSize}
 use Rattle.rules.specs.Test.{mem}
 use Rattle.rules.specs.Table.{pageAt}
 use Rattle.rules.specs.Walk.{Step, numbers}
 use Rattle.rules.specs.Insert.{full, splitting, rootSplits, newPages, Making, making, grow, halve, split}
 use Rattle.rules.specs.declared.Session.{Session}
-use Rattle.rules.proofs.Tests.{same-test, not-both}
+use Rattle.rules.proofs.Tests.{not-both}
 use Rattle.rules.proofs.All.{all-head, all-tail}
 use Rattle.rules.proofs.Tables.{Has, has-page}
+use Rattle.rules.proofs.Plans.{rootSplits-full, newPages-full, newPages-none}
+use Rattle.rules.proofs.SplitWay.{split-one, split-more, split-none}
 use Rattle.apply.specs.Leads.{Whole, Leads, Chosen}
-use Rattle.apply.proofs.Going.{Gone, apart-by, mem-rest, mem-not, splitting-more, pages-more, chosen-above}
-use Rattle.apply.proofs.Splits.{split-stays, split-root, split-below}
-use Rattle.apply.proofs.Whole.{root-splits, pages-none, split-gone}
+use Rattle.apply.proofs.Going.{Gone, apart-by, mem-rest, mem-not, chosen-above}
+use Rattle.apply.proofs.Whole.{root-splits, split-gone}
 use Rattle.reading.proofs.Writing.{halve-longer, halve-other, grow-longer, grow-other}
 
 -- ── How many numbers are taken ──────────────────────────────────────────────────────────────────────────────────
 
 pub pages-root : (s : Step) → full (s .page .view) ≡ true → newPages (s ∷ []) ≡ 3
-pages-root s f = pages-more s [] f ∙ ap (λ (j : ℕ). 2 + j) pages-none
+pages-root s f = newPages-full s [] f ∙ ap (λ (j : ℕ). 2 + j) newPages-none
 
 splitting-less : (s : Step) (above : List Step) → full (s .page .view) ≡ false → splitting (s ∷ above) ≡ []
 unfolding splitting
 splitting-less s above f = rw (f, splitting)
 
 pub pages-below : (s : Step) (above : List Step) → full (s .page .view) ≡ true → newPages (s ∷ above) ≡ suc (suc (newPages above))
-pages-below s above f = omega (arith, pages-more s above f)
+pages-below s above f = omega (arith, newPages-full s above f)
 
 pub pages-stay : (s : Step) (above : List Step) → full (s .page .view) ≡ false → newPages (s ∷ above) ≡ 0
 unfolding newPages rootSplits
 pages-stay s above f =
     let q : eqb 0 (length (s ∷ above)) ≡ false = ne-eqb 0 (length (s ∷ above)) (λ e. omega arith) in
     rw (splitting-less s above f, q)
-
-eqb-suc : (a b : ℕ) → eqb (suc a) (suc b) ≡ eqb a b
-eqb-suc a b =
-    same-test (eqb (suc a) (suc b)) (eqb a b) (λ h. eq-eqb a b (omega (arith, eqb-true (suc a) (suc b) h)))
-    (λ h. eq-eqb (suc a) (suc b) (ap suc (eqb-true a b h)))
-
-pub root-above : (s : Step) (above : List Step) → full (s .page .view) ≡ true → rootSplits (s ∷ above) ≡ rootSplits above
-unfolding rootSplits
-root-above s above f =
-    ap (λ (ss : List Step). eqb (length ss) (suc (length above))) (splitting-more s above f) ∙ eqb-suc (length (splitting above)) (length above)
 
 -- more numbers than are needed make no difference
 module _ (c k : ℕ) (t : List ℕ) (m : Session) where
@@ -60,14 +51,14 @@ module _ (c k : ℕ) (t : List ℕ) (m : Session) where
     where
       go : (ns : List ℕ) → newPages (s ∷ []) ≤ length ns → (b : Bool) → full (s .page .view) ≡ b
           → split c k (s ∷ []) ns (making t m 0) ≡ split c k (s ∷ []) (take (newPages (s ∷ [])) ns) (making t m 0)
-      go ns e false f = split-stays c k s [] ns t m f ∙ sym (split-stays c k s [] (take (newPages (s ∷ [])) ns) t m f)
+      go ns e false f = split-none c k s [] ns (making t m 0) f ∙ sym (split-none c k s [] (take (newPages (s ∷ [])) ns) (making t m 0) f)
       go [] e true f = absurd (omega (arith, e, pages-root s f))
       go (a ∷ []) e true f = absurd (omega (arith, e, pages-root s f))
       go (a ∷ (b ∷ [])) e true f = absurd (omega (arith, e, pages-root s f))
       go (a ∷ (b ∷ (g ∷ ns))) e true f =
           subst (λ (j : ℕ). split c k (s ∷ []) (a ∷ (b ∷ (g ∷ ns))) (making t m 0) ≡ split c k (s ∷ []) (take j (a ∷ (b ∷ (g ∷ ns)))) (making t m 0))
           (sym (pages-root s f))
-          (split-root c k s (a ∷ (b ∷ (g ∷ ns))) (making t m 0) f ∙ sym (split-root c k s (a ∷ (b ∷ (g ∷ []))) (making t m 0) f))
+          (split-one c k s (a ∷ (b ∷ (g ∷ ns))) (making t m 0) f ∙ sym (split-one c k s (a ∷ (b ∷ (g ∷ []))) (making t m 0) f))
   split-take s (u ∷ above) new e = go new e (full (s .page .view)) refl (split-take u above)
     where
       Rest : Type 0
@@ -77,15 +68,15 @@ module _ (c k : ℕ) (t : List ℕ) (m : Session) where
       go : (ns : List ℕ) → newPages (s ∷ (u ∷ above)) ≤ length ns → (b : Bool) → full (s .page .view) ≡ b → Rest
           → split c k (s ∷ (u ∷ above)) ns (making t m 0) ≡ split c k (s ∷ (u ∷ above)) (take (newPages (s ∷ (u ∷ above))) ns) (making t m 0)
       go ns e false f ih =
-          split-stays c k s (u ∷ above) ns t m f ∙ sym (split-stays c k s (u ∷ above) (take (newPages (s ∷ (u ∷ above))) ns) t m f)
-      go [] e true f ih = absurd (omega (arith, e, pages-more s (u ∷ above) f))
-      go (a ∷ []) e true f ih = absurd (omega (arith, e, pages-more s (u ∷ above) f))
+          split-none c k s (u ∷ above) ns (making t m 0) f ∙ sym (split-none c k s (u ∷ above) (take (newPages (s ∷ (u ∷ above))) ns) (making t m 0) f)
+      go [] e true f ih = absurd (omega (arith, e, newPages-full s (u ∷ above) f))
+      go (a ∷ []) e true f ih = absurd (omega (arith, e, newPages-full s (u ∷ above) f))
       go (a ∷ (b ∷ ns)) e true f ih =
           subst (λ (j : ℕ). split c k (s ∷ (u ∷ above)) (a ∷ (b ∷ ns)) (making t m 0) ≡ split c k (s ∷ (u ∷ above)) (take j (a ∷ (b ∷ ns))) (making t m 0))
           (sym (pages-below s (u ∷ above) f))
-          (split-below c k s u above (a ∷ (b ∷ ns)) (making t m 0) f
-          ∙ (ap (halve c k s a b) (ih ns (omega (arith, e, pages-more s (u ∷ above) f)))
-          ∙ sym (split-below c k s u above (a ∷ (b ∷ take (newPages (u ∷ above)) ns)) (making t m 0) f)))
+          (split-more c k s u above (a ∷ (b ∷ ns)) (making t m 0) f
+          ∙ (ap (halve c k s a b) (ih ns (omega (arith, e, newPages-full s (u ∷ above) f)))
+          ∙ sym (split-more c k s u above (a ∷ (b ∷ take (newPages (u ∷ above)) ns)) (making t m 0) f)))
 
 -- ── Which pages change ──────────────────────────────────────────────────────────────────────────────────────────
 
@@ -108,7 +99,7 @@ module _ {n c : ℕ} (k : ℕ) {t : List ℕ} (m : Session) (w : Whole n c t) wh
       M = grow c s g (making t m 0)
 
       q : split c k (s ∷ []) (a ∷ (b ∷ (g ∷ ns))) (making t m 0) ≡ halve c k s a b M
-      q = split-root c k s (a ∷ (b ∷ (g ∷ ns))) (making t m 0) f
+      q = split-one c k s (a ∷ (b ∷ (g ∷ ns))) (making t m 0) f
 
       ina : a < n
       ina = all-head (x .fresh) .below
@@ -161,7 +152,7 @@ module _ {n c : ℕ} (k : ℕ) {t : List ℕ} (m : Session) (w : Whole n c t) wh
       M = split c k (u ∷ above) ns (making t m 0)
 
       q : split c k (s ∷ (u ∷ above)) (a ∷ (b ∷ ns)) (making t m 0) ≡ halve c k s a b M
-      q = split-below c k s u above (a ∷ (b ∷ ns)) (making t m 0) f
+      q = split-more c k s u above (a ∷ (b ∷ ns)) (making t m 0) f
 
       G : Gone n c k t u above ns M
       G = split-gone m w u above ns (omega arith) (l .3) (chosen-above s u above a b ns few f x)
@@ -177,7 +168,7 @@ module _ {n c : ℕ} (k : ℕ) {t : List ℕ} (m : Session) (w : Whole n c t) wh
 
   stay-others : (s : Step) (above : List Step) (ns : List ℕ) → full (s .page .view) ≡ false → (i : ℕ)
       → pageAt (split c k (s ∷ above) ns (making t m 0) .table) i ≡ pageAt t i
-  stay-others s above ns f i = ap (λ (y : Making). pageAt (y .table) i) (split-stays c k s above ns t m f)
+  stay-others s above ns f i = ap (λ (y : Making). pageAt (y .table) i) (split-none c k s above ns (making t m 0) f)
 
   pub split-others : (s : Step) (above : List Step) (new : List ℕ) → length (s ∷ above) ≤ 3 → Leads n k t (s ∷ above)
       → Chosen n (s ∷ above) new → (i : ℕ) → (i ≡ 0 → rootSplits (s ∷ above) ≡ false) → mem i (numbers (s ∷ above)) ≡ false
@@ -203,10 +194,10 @@ module _ {n c : ℕ} (k : ℕ) {t : List ℕ} (m : Session) (w : Whole n c t) wh
       go : (ns : List ℕ) → Chosen n (s ∷ (u ∷ above)) ns → mem i ns ≡ false → (b : Bool) → full (s .page .view) ≡ b → Rest
           → pageAt (split c k (s ∷ (u ∷ above)) ns (making t m 0) .table) i ≡ pageAt t i
       go ns x r false f ih = stay-others s (u ∷ above) ns f i
-      go [] x r true f ih = absurd (omega (arith, x .enough, pages-more s (u ∷ above) f))
-      go (a ∷ []) x r true f ih = absurd (omega (arith, x .enough, pages-more s (u ∷ above) f))
+      go [] x r true f ih = absurd (omega (arith, x .enough, newPages-full s (u ∷ above) f))
+      go (a ∷ []) x r true f ih = absurd (omega (arith, x .enough, newPages-full s (u ∷ above) f))
       go (a ∷ (b ∷ ns)) x r true f ih =
           let y′ = mem-rest i (s .place .child) (numbers (u ∷ above)) y in
           below-others s u above a b ns few l x f i y′ r
-          (ih ns (chosen-above s u above a b ns few f x) i (λ e. sym (root-above s (u ∷ above) f) ∙ z e) y′
+          (ih ns (chosen-above s u above a b ns few f x) i (λ e. sym (rootSplits-full s (u ∷ above) f) ∙ z e) y′
           (mem-rest i b ns (mem-rest i a (b ∷ ns) r)))

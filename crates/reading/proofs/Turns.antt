@@ -44,15 +44,6 @@ turn n c above t e = go (mem (e .child) above) refl (fits n e (read t (e .child)
     go false a false g true h = built a g h (rw (enter, a, g, mend, h))
     go false a false g false h = stopped (rw (enter, a, g, mend, h)) (rw (enter, a, g, mend, h))
 
--- what is entered is none of the pages above
-pub entered-apart : (n c : ℕ) (above t : List ℕ) (e : Place) (p : Page) → enter n c above t e .page ≡ some p → mem (e .child) above ≡ false
-entered-apart n c above t e p h = go (turn n c above t e)
-  where
-    go : Turn n c above t e (enter n c above t e) → mem (e .child) above ≡ false
-    go (stopped q o) = absurd (Option·none-ne-some p (sym o ∙ h))
-    go (kept a q) = a
-    go (built a f m q) = a
-
 -- ── A page's fate goes with its bytes ───────────────────────────────────────────────────────────────────────────
 
 left-same : {n c : ℕ} {places : List Place} {w t u : List ℕ} {i : ℕ} → pageAt u i ≡ pageAt t i → PageLeft n c places w t i → PageLeft n c places w u i

@@ -16,6 +16,7 @@ use Rattle.rules.specs.Walk.{Step, Way, numbers, descend, wayOf}
 use Rattle.rules.specs.declared.Place.{Place}
 use Rattle.rules.proofs.Tests.{not-both, fails, mem-nil, mem-head, mem-tail}
 use Rattle.rules.proofs.All.{nil}
+use Rattle.rules.proofs.WalkSteps.{descend-damaged, descend-ends, descend-below}
 use Rattle.way.proofs.Stood.{ready-root, ready-long, ready-bytes}
 use Rattle.reading.specs.Leaving.{askedFrom, askedFor, PageLeft, as-it-was}
 use Rattle.reading.proofs.Turns.{Going, turn-others, ends-here, goes-on}
@@ -43,23 +44,6 @@ module _ (level n c k : ℕ) (above : List Step) (t : List ℕ) (e : Place) (p :
       ≡ e ∷ askedFrom level n c k (record { place = e; page = p } ∷ above) (enter n c (numbers above) t e .table) d
   unfolding askedFrom
   asked-below d q = rw (askedFrom, h, q)
-
-  descend-below : (d : Place) → pick k (kids e (p .view)) ≡ some d
-      → descend (suc level) n c k above t e
-      ≡ descend level n c k (record { place = e; page = p } ∷ above) (enter n c (numbers above) t e .table) d
-  unfolding descend
-  descend-below d q = rw (descend, h, q)
-
-  descend-ends : pick k (kids e (p .view)) ≡ none
-      → descend (suc level) n c k above t e
-      ≡ record { table = enter n c (numbers above) t e .table; steps = some (record { place = e; page = p } ∷ above) }
-  unfolding descend
-  descend-ends q = rw (descend, h, q)
-
-descend-stops : (level n c k : ℕ) (above : List Step) (t : List ℕ) (e : Place) → enter n c (numbers above) t e .page ≡ none
-    → descend (suc level) n c k above t e ≡ record { table = enter n c (numbers above) t e .table; steps = none }
-unfolding descend
-descend-stops level n c k above t e h = rw (descend, h)
 
 -- ── From a place down ───────────────────────────────────────────────────────────────────────────────────────────
 
@@ -114,7 +98,7 @@ descend-left (suc level) n c k places w above t e g a =
 
     found : (o : Option Page) → r .page ≡ o → Rest → WayLeft n c places w (descend (suc level) n c k above t e)
     found none f ih =
-        subst (WayLeft n c places w) (sym (descend-stops level n c k above t e f))
+        subst (WayLeft n c places w) (sym (descend-damaged level n c k above t e f))
         (record {
           long = ready-long (g .ready) (numbers above);
           bytes = ready-bytes (g .ready) (numbers above);
