@@ -1,25 +1,24 @@
 -- Splits down a way: each page that is halved stands below one that takes its two entries, and the page at the end has
 -- room, leads the key on and finds as the page did that stood there. Assumes nothing.
-use Prim.Native.Nat.{ℕ, suc, _+_, _*_, _≤_}
+use Prim.Native.Nat.{ℕ, _≤_}
 use native.Mathlib.Omega.{arith}
 use mathlib.Core.Path.{_≡_, refl, sym, ap, _∙_, subst}
 use mathlib.Core.Logic.{_⊎_, inl, _≢_}
-use mathlib.Core.Bool.{Bool, true, false}
+use mathlib.Core.Bool.{true, false}
 use mathlib.Core.List.{List, [], _∷_}
-use lib.Dec.{eqb}
 use lib.ListN.{length}
-use borrow.Author.Tests.{eqb-true, eqb-false, eq-eqb, ne-eqb}
 use Rattle.rules.specs.Test.{mem}
 use Rattle.rules.specs.Entry.{find}
 use Rattle.rules.specs.Page.{Page}
 use Rattle.rules.specs.Table.{read}
 use Rattle.rules.specs.Place.{kids, pick}
 use Rattle.rules.specs.Walk.{Step, numbers}
-use Rattle.rules.specs.Insert.{full, splitting, rootSplits, tooHigh, newPages, divide, Making, making, halve}
+use Rattle.rules.specs.Insert.{full, tooHigh, divide, Making, making, halve}
 use Rattle.rules.specs.declared.Session.{Session}
 use Rattle.rules.proofs.Tests.{not-both, fails, mem-head, mem-tail, distinct-tail}
 use Rattle.rules.proofs.All.{all-tail, all-map}
 use Rattle.rules.proofs.Places.{Fits}
+use Rattle.rules.proofs.Plans.{rootSplits-full, newPages-full}
 use Rattle.edit.specs.Takes.{TakesTwins}
 use Rattle.split.specs.Split.{stepAt}
 use Rattle.apply.specs.Leads.{Whole, Stands, Leads, Fresh, Chosen}
@@ -117,42 +116,11 @@ module _ {n c k : ℕ} (M : Making) (s : Step) (w : Whole n c (M .table)) (st : 
 
 -- ── The numbers for the pages above ─────────────────────────────────────────────────────────────────────────────
 
-abbrev bit : Bool → ℕ
-bit b = elim b [ true ↦ 1 | false ↦ 0 ]
-
-eqb-suc : (i j : ℕ) → eqb (suc i) (suc j) ≡ eqb i j
-eqb-suc i j = go (eqb i j) refl
-  where
-    go : (b : Bool) → eqb i j ≡ b → eqb (suc i) (suc j) ≡ eqb i j
-    go true e = eq-eqb (suc i) (suc j) (ap suc (eqb-true i j e)) ∙ sym e
-    go false e = ne-eqb (suc i) (suc j) (λ q. eqb-false i j e (omega (arith, q))) ∙ sym e
-
 pub mem-rest : (i x : ℕ) (xs : List ℕ) → mem i (x ∷ xs) ≡ false → mem i xs ≡ false
 mem-rest i x xs h = fails (mem i xs) (λ q. not-both (mem-tail i x xs q) h)
 
 pub mem-not : (i x : ℕ) (xs : List ℕ) → mem i (x ∷ xs) ≡ false → i ≢ x
 mem-not i x xs h q = not-both (ap (λ (j : ℕ). mem j (x ∷ xs)) q ∙ mem-head x xs) h
-
-pages-of : (way : List Step) → newPages way ≡ 2 * length (splitting way) + bit (rootSplits way)
-unfolding newPages
-pages-of way = refl
-
-pub splitting-more : (s : Step) (above : List Step) → full (s .page .view) ≡ true → splitting (s ∷ above) ≡ s ∷ splitting above
-unfolding splitting
-splitting-more s above f = rw (f, splitting)
-
-root-more : (s : Step) (above : List Step) → full (s .page .view) ≡ true → rootSplits (s ∷ above) ≡ rootSplits above
-unfolding rootSplits
-root-more s above f =
-    ap (λ (ss : List Step). eqb (length ss) (suc (length above))) (splitting-more s above f) ∙ eqb-suc (length (splitting above)) (length above)
-
-pub pages-more : (s : Step) (above : List Step) → full (s .page .view) ≡ true → newPages (s ∷ above) ≡ 2 + newPages above
-pages-more s above f =
-    let a = pages-of (s ∷ above) in
-    let b = pages-of above in
-    let l = ap length (splitting-more s above f) in
-    let r = ap bit (root-more s above f) in
-    omega (arith, a, b, l, r)
 
 high-more : (s u : Step) (above : List Step) → length (s ∷ (u ∷ above)) ≤ 3 → tooHigh (s ∷ (u ∷ above)) ≡ tooHigh (u ∷ above)
 unfolding tooHigh
@@ -173,6 +141,6 @@ pub chosen-above : {n : ℕ} (s u : Step) (above : List Step) (a b : ℕ) (new :
 chosen-above s u above a b new l f x = record {
   fresh = all-map (fresh-above s (u ∷ above)) (all-tail (all-tail (x .fresh)));
   apart = distinct-tail b new (distinct-tail a (b ∷ new) (x .apart));
-  enough = omega (arith, x .enough, pages-more s (u ∷ above) f);
-  room = λ r. sym (high-more s u above l) ∙ x .room (root-more s (u ∷ above) f ∙ r);
+  enough = omega (arith, x .enough, newPages-full s (u ∷ above) f);
+  room = λ r. sym (high-more s u above l) ∙ x .room (rootSplits-full s (u ∷ above) f ∙ r);
 }

@@ -1,7 +1,7 @@
 -- What is handed over to an insert that goes on: numbers for its new pages, free and each another. Assumes nothing.
 use Prim.Native.Nat.{ℕ, zero, suc, _≤_}
 use native.Mathlib.Omega.{arith}
-use mathlib.Core.Path.{_≡_, refl, sym, ap, _∙_, subst}
+use mathlib.Core.Path.{_≡_, refl, sym, subst}
 use mathlib.Core.Logic.{_≢_}
 use mathlib.Core.Bool.{Bool, true, false, _&&_}
 use mathlib.Core.List.{List, [], _∷_}
@@ -16,7 +16,7 @@ use Rattle.rules.specs.declared.Session.{Session}
 use Rattle.rules.proofs.All.{All, all-at, all-take, all-map}
 use Rattle.rules.proofs.Rises.{rising-take, rising-distinct}
 use Rattle.rules.proofs.Numbers.{FreePage, all-freePages, rising-freePages}
-use Rattle.edit.proofs.Put.{or-none}
+use Rattle.rules.proofs.Tests.{or-none, and-other}
 use Rattle.way.specs.declared.Step.{Step}
 use Rattle.way.specs.declared.Way.{Way}
 use Rattle.apply.specs.Leads.{Leads, Fresh, Chosen, Ready, listed, stepsIn, ReadyWay, Level}
@@ -46,9 +46,6 @@ agree-long m a b h q w = go (ltb (length a) m) refl
         let some = all-at w (length a) 0 (omega arith) in
         absurd (omega (arith, h (length a) l))
 
-and-false : (b d : Bool) → (b && d) ≡ false → b ≡ true → d ≡ false
-and-false b d h e = sym (ap (λ (z : Bool). z && d) e) ∙ h
-
 module _ {k : ℕ} {t : List ℕ} {s : Session} {steps : List rules.Step} {pages : List ℕ} (R : Ready k t s steps pages) where
   abbrev free : List ℕ
   free = freePages s (rules.numbers steps)
@@ -77,7 +74,7 @@ module _ {k : ℕ} {t : List ℕ} {s : Session} {steps : List rules.Step} {pages
     fresh = all-take need (all-map fresh (all-freePages s (rules.numbers steps)));
     apart = rising-distinct (take need free) (rising-take need free (rising-freePages s (rules.numbers steps)));
     enough = omega (arith, length-take-le need free enough);
-    room = and-false (rootSplits steps) (tooHigh steps) (room .1);
+    room = and-other (rootSplits steps) (tooHigh steps) (room .1);
   }
 
   pub ready-chosen : Chosen (s .n) steps (take need pages)

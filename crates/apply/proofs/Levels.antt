@@ -11,14 +11,16 @@ use Rattle.rules.specs.Walk as rules
 use Rattle.rules.specs.Insert.{full, newPages, divide, Making, making, halve, split}
 use Rattle.rules.specs.declared.Session.{Session}
 use Rattle.rules.proofs.All.{all-head, all-tail}
+use Rattle.rules.proofs.Plans.{newPages-full}
+use Rattle.rules.proofs.SplitWay.{split-more, split-none}
 use Rattle.edit.specs.Takes.{TakesTwins}
 use Rattle.head.proofs.Headers.{headOf}
 use Rattle.split.specs.Split.{stepAt, Halves}
 use Rattle.way.specs.declared.Step.{Step}
 use Rattle.apply.specs.Leads.{Stands, Chosen, stepsIn, Level}
 use Rattle.apply.proofs.Halving.{halves}
-use Rattle.apply.proofs.Going.{Gone, step-here, pages-more, chosen-above}
-use Rattle.apply.proofs.Splits.{split-stays, split-below, stands-below, sites, takes-below}
+use Rattle.apply.proofs.Going.{Gone, step-here, chosen-above}
+use Rattle.apply.proofs.Splits.{stands-below, sites, takes-below}
 use Rattle.apply.proofs.Whole.{split-gone}
 use Rattle.apply.proofs.Same.{agree-take, split-same}
 
@@ -30,7 +32,7 @@ steps-long t (x ∷ xs) = ap suc (steps-long t xs)
 pub level-stays : (c k : ℕ) (t : List ℕ) (x : Step) (above : List Step) (new : List ℕ) (m : Session)
     → full (read t (x .place .child) .view) ≡ false
     → making t m (x .place .child) ≡ split c k (stepsIn t (x ∷ above)) new (making t m 0)
-level-stays c k t x above new m f = sym (split-stays c k (stepAt t (x .place)) (stepsIn t above) new t m f)
+level-stays c k t x above new m f = sym (split-none c k (stepAt t (x .place)) (stepsIn t above) new (making t m 0) f)
 
 module _ {c k : ℕ} {t : List ℕ} {x y : Step} {above : List Step} {a b : ℕ} {new : List ℕ}
     (L : Level c k t (x ∷ (y ∷ above)) (a ∷ (b ∷ new))) (f : full (read t (x .place .child) .view) ≡ true) where
@@ -49,7 +51,7 @@ module _ {c k : ℕ} {t : List ℕ} {x y : Step} {above : List Step} {a b : ℕ}
 
   chosen : Chosen (L .n) (s ∷ (u ∷ us)) (a ∷ (b ∷ ns))
   chosen =
-      let q : newPages (s ∷ (u ∷ us)) ≡ suc (suc (newPages (u ∷ us))) = omega (arith, pages-more s (u ∷ us) f) in
+      let q : newPages (s ∷ (u ∷ us)) ≡ suc (suc (newPages (u ∷ us))) = omega (arith, newPages-full s (u ∷ us) f) in
       subst (λ (m : ℕ). Chosen (L .n) (s ∷ (u ∷ us)) (take m (a ∷ (b ∷ new)))) q (L .new)
 
   few : length (s ∷ (u ∷ us)) ≤ 3
@@ -102,4 +104,4 @@ module _ {c k : ℕ} {t : List ℕ} {x y : Step} {above : List Step} {a b : ℕ}
     level-split t′ m′ i r q z =
         z ∙ (ap (λ (w : Making). halve c k (stepAt (w .table) (x .place)) a b w) q
         ∙ (ap (λ (p : Page). halve c k (record { place = x .place; page = p }) a b M) same
-        ∙ sym (split-below c k s u us (a ∷ (b ∷ new)) (making t m 0) f)))
+        ∙ sym (split-more c k s u us (a ∷ (b ∷ new)) (making t m 0) f)))

@@ -13,13 +13,12 @@ use Rattle.rules.specs.Insert.{full, newPages, Making, making, grow, halve, spl
 use Rattle.rules.specs.declared.Session.{Session}
 use Rattle.rules.proofs.All.{all-head}
 use Rattle.rules.proofs.Views.{shaped-read}
+use Rattle.rules.proofs.Plans.{newPages-full, newPages-none}
 use Rattle.split.specs.Split.{stepAt, Halves, Grows}
 use Rattle.plan.specs.Plan.{fullBy}
 use Rattle.plan.proofs.Pages.{full-by}
 use Rattle.way.specs.declared.Step.{Step}
 use Rattle.apply.specs.Leads.{HeadRead, stepsIn, Level}
-use Rattle.apply.proofs.Going.{pages-more}
-use Rattle.apply.proofs.Whole.{pages-none}
 use Rattle.apply.proofs.Levels.{level-above, level-halves, level-split}
 use Rattle.apply.proofs.Root.{root-grows, root-halves, root-split}
 
@@ -67,7 +66,7 @@ module _ {c k : ℕ} {t : List ℕ} {x y : Step} {above : List Step} (i : ℕ) (
   two = getD pages i 0 ∷ (getD pages (i + 1) 0 ∷ drop (i + 2) pages)
 
   are-two : drop i pages ≡ two
-  are-two = first-two i pages (omega (arith, enough L q, pages-more (stepAt t (x .place)) (stepsIn t (y ∷ above)) below-full))
+  are-two = first-two i pages (omega (arith, enough L q, newPages-full (stepAt t (x .place)) (stepsIn t (y ∷ above)) below-full))
 
   L₂ : Level c k t (x ∷ (y ∷ above)) two
   L₂ = subst (Level c k t (x ∷ (y ∷ above))) are-two L
@@ -99,7 +98,7 @@ module _ {c k : ℕ} {t : List ℕ} {x : Step} (i : ℕ) (pages : List ℕ) (L :
   three = getD pages i 0 ∷ (getD pages (i + 1) 0 ∷ (getD pages (i + 2) 0 ∷ drop (i + 3) pages))
 
   are-three : drop i pages ≡ three
-  are-three = first-three i pages (omega (arith, enough L q, pages-more (stepAt t (x .place)) [] top-full, pages-none))
+  are-three = first-three i pages (omega (arith, enough L q, newPages-full (stepAt t (x .place)) [] top-full, newPages-none))
 
   L₃ : Level c k t (x ∷ []) three
   L₃ = subst (Level c k t (x ∷ [])) are-three L

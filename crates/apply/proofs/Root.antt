@@ -11,6 +11,8 @@ use Rattle.rules.specs.Walk as rules
 use Rattle.rules.specs.Insert.{full, newPages, divide, Making, making, grow, halve, split}
 use Rattle.rules.specs.declared.Session.{Session}
 use Rattle.rules.proofs.All.{all-head, all-tail}
+use Rattle.rules.proofs.Plans.{newPages-full, newPages-none}
+use Rattle.rules.proofs.SplitWay.{split-one}
 use Rattle.edit.specs.Takes.{TakesTwins}
 use Rattle.head.proofs.Headers.{headOf}
 use Rattle.split.specs.Split.{stepAt, Halves, Grows}
@@ -18,9 +20,8 @@ use Rattle.way.specs.declared.Step.{Step}
 use Rattle.apply.specs.Leads.{Stands, Chosen, stepsIn, Level}
 use Rattle.apply.proofs.Halving.{halves}
 use Rattle.apply.proofs.Growing.{grows}
-use Rattle.apply.proofs.Going.{step-here, pages-more}
-use Rattle.apply.proofs.Splits.{split-root}
-use Rattle.apply.proofs.Whole.{pages-none, short, root-whole, root-stands, root-sites, takes-root}
+use Rattle.apply.proofs.Going.{step-here}
+use Rattle.apply.proofs.Whole.{short, root-whole, root-stands, root-sites, takes-root}
 
 module _ {c k : ℕ} {t : List ℕ} {x : Step} {a b g : ℕ} {new : List ℕ} (L : Level c k t (x ∷ []) (a ∷ (b ∷ (g ∷ new))))
     (f : full (read t (x .place .child) .view) ≡ true) (m : Session) where
@@ -32,7 +33,7 @@ module _ {c k : ℕ} {t : List ℕ} {x : Step} {a b g : ℕ} {new : List ℕ} (L
 
   chosen : Chosen (L .n) (s ∷ []) (a ∷ (b ∷ (g ∷ [])))
   chosen =
-      let q : newPages (s ∷ []) ≡ 3 = omega (arith, pages-more s [] f, pages-none) in
+      let q : newPages (s ∷ []) ≡ 3 = omega (arith, newPages-full s [] f, newPages-none) in
       subst (λ (i : ℕ). Chosen (L .n) (s ∷ []) (take i (a ∷ (b ∷ (g ∷ new))))) q (L .new)
 
   pub root-grows : Grows t (x .place) (x .head) g
@@ -66,4 +67,4 @@ module _ {c k : ℕ} {t : List ℕ} {x : Step} {a b g : ℕ} {new : List ℕ} (L
   root-split t′ m′ i r q z =
       z ∙ (ap (λ (w : Making). halve c k (stepAt (w .table) (x .place)) a b w) q
       ∙ (ap (λ (p : Page). halve c k (record { place = x .place; page = p }) a b M) same
-      ∙ sym (split-root c k s (a ∷ (b ∷ (g ∷ new))) (making t m 0) f)))
+      ∙ sym (split-one c k s (a ∷ (b ∷ (g ∷ new))) (making t m 0) f)))

@@ -8,9 +8,8 @@ use lib.ListN.{take, drop, getD}
 use lib.Seq.{getD-drop, getD-take}
 use Rattle.rules.specs.Walk.{Step}
 use Rattle.rules.specs.Insert.{full, newPages, Making, split}
-use Rattle.apply.proofs.Going.{pages-more}
-use Rattle.apply.proofs.Splits.{split-root, split-below}
-use Rattle.apply.proofs.Whole.{pages-none}
+use Rattle.rules.proofs.Plans.{newPages-full, newPages-none}
+use Rattle.rules.proofs.SplitWay.{split-one, split-more}
 
 -- two lists have the same first numbers
 abbrev pub Agree : ℕ → List ℕ → List ℕ → Type 0
@@ -37,11 +36,11 @@ split-same c k (s ∷ []) a b m h = go (full (s .page .view)) refl
     go : (f : Bool) → full (s .page .view) ≡ f → split c k (s ∷ []) a m ≡ split c k (s ∷ []) b m
     go false f = split-idle c k s [] a b m f
     go true f =
-        let q = pages-more s [] f in
-        let h₀ = h 0 (omega (arith, pages-none)) in
-        let h₁ = h 1 (omega (arith, pages-none)) in
-        let h₂ = h 2 (omega (arith, pages-none)) in
-        split-root c k s a m f ∙ (rw (h₀, h₁, h₂) (sym (split-root c k s b m f)))
+        let q = newPages-full s [] f in
+        let h₀ = h 0 (omega (arith, newPages-none)) in
+        let h₁ = h 1 (omega (arith, newPages-none)) in
+        let h₂ = h 2 (omega (arith, newPages-none)) in
+        split-one c k s a m f ∙ (rw (h₀, h₁, h₂) (sym (split-one c k s b m f)))
 split-same c k (s ∷ (u ∷ above)) a b m h = go (full (s .page .view)) refl (split-same c k (u ∷ above) (drop 2 a) (drop 2 b) m)
   where
     go : (f : Bool) → full (s .page .view) ≡ f
@@ -49,8 +48,8 @@ split-same c k (s ∷ (u ∷ above)) a b m h = go (full (s .page .view)) refl (s
         → split c k (s ∷ (u ∷ above)) a m ≡ split c k (s ∷ (u ∷ above)) b m
     go false f ih = split-idle c k s (u ∷ above) a b m f
     go true f ih =
-        let q = pages-more s (u ∷ above) f in
+        let q = newPages-full s (u ∷ above) f in
         let h₀ = h 0 (omega arith) in
         let h₁ = h 1 (omega arith) in
         let up = ih (agree-drop (newPages (u ∷ above)) a b (λ j l. h j (omega arith))) in
-        split-below c k s u above a m f ∙ (rw (h₀, h₁, up) (sym (split-below c k s u above b m f)))
+        split-more c k s u above a m f ∙ (rw (h₀, h₁, up) (sym (split-more c k s u above b m f)))

@@ -5,14 +5,12 @@ use mathlib.Core.Logic.{_⊎_, inl, inr, _≢_}
 use mathlib.Core.Bool.{true, false}
 use mathlib.Core.List.{List, [], _∷_}
 use mathlib.Core.Option.{some, Option·none-ne-some}
-use lib.ListN.{drop, getD}
 use Rattle.rules.specs.Test.{mem}
 use Rattle.rules.specs.Page.{Page, isLeaf}
 use Rattle.rules.specs.Table.{read}
 use Rattle.rules.specs.Place.{kids, pick}
 use Rattle.rules.specs.Walk.{Step, numbers}
-use Rattle.rules.specs.Insert.{full, divide, Making, making, grow, halve, split}
-use Rattle.rules.specs.declared.Session.{Session}
+use Rattle.rules.specs.Insert.{full, divide, Making, halve}
 use Rattle.rules.proofs.Tests.{fails, mem-nil, mem-head, mem-tail, mem-cases, distinct-head, distinct-tail}
 use Rattle.rules.proofs.All.{All, all-head, all-tail}
 use Rattle.rules.proofs.Views.{Shaped, shaped-read}
@@ -21,24 +19,6 @@ use Rattle.edit.specs.Takes.{TakesTwins}
 use Rattle.apply.specs.Leads.{Stands, Leads, Fresh, Chosen}
 use Rattle.apply.proofs.Halving.{takes, Sites}
 use Rattle.apply.proofs.Going.{Gone, apart-by, stands-still, leads-first, halved-whole, halved-onward, halved-others, halved-at, mem-rest, mem-not}
-
--- ── The rules' split, by what is full ───────────────────────────────────────────────────────────────────────────
-
-pub split-stays : (c k : ℕ) (s : Step) (above : List Step) (new : List ℕ) (t : List ℕ) (m : Session) → full (s .page .view) ≡ false
-    → split c k (s ∷ above) new (making t m 0) ≡ making t m (s .place .child)
-unfolding split
-split-stays c k s [] new t m f = rw (f, split)
-split-stays c k s (u ∷ above) new t m f = rw (f, split)
-
-pub split-root : (c k : ℕ) (s : Step) (new : List ℕ) (m : Making) → full (s .page .view) ≡ true
-    → split c k (s ∷ []) new m ≡ halve c k s (getD new 0 0) (getD new 1 0) (grow c s (getD new 2 0) m)
-unfolding split
-split-root c k s new m f = rw (f, split)
-
-pub split-below : (c k : ℕ) (s u : Step) (above : List Step) (new : List ℕ) (m : Making) → full (s .page .view) ≡ true
-    → split c k (s ∷ (u ∷ above)) new m ≡ halve c k s (getD new 0 0) (getD new 1 0) (split c k (u ∷ above) (drop 2 new) m)
-unfolding split
-split-below c k s u above new m f = rw (f, split)
 
 -- ── A page below another ────────────────────────────────────────────────────────────────────────────────────────
 

@@ -14,27 +14,24 @@ use Rattle.rules.specs.Test.{mem}
 use Rattle.rules.specs.Page.{Page}
 use Rattle.rules.specs.Table.{read}
 use Rattle.rules.specs.Walk.{Step, numbers}
-use Rattle.rules.specs.Insert.{full, splitting, rootSplits, tooHigh, newPages, divide, Making, making, grow, halve, split}
+use Rattle.rules.specs.Insert.{full, rootSplits, tooHigh, divide, Making, making, grow, halve, split}
 use Rattle.rules.specs.declared.Session.{Session}
 use Rattle.rules.proofs.Tests.{mem-head, mem-tail, distinct-head, distinct-tail}
 use Rattle.rules.proofs.All.{all-head, all-tail}
+use Rattle.rules.proofs.Plans.{rootSplits-full, newPages-full, rootSplits-none, newPages-none}
+use Rattle.rules.proofs.SplitWay.{split-one, split-more, split-none}
 use Rattle.edit.specs.Takes.{TakesTwins}
 use Rattle.split.specs.Split.{stepAt}
 use Rattle.apply.specs.Leads.{Whole, Stands, Leads, Fresh, Chosen}
 use Rattle.apply.proofs.Halving.{Sites}
 use Rattle.apply.proofs.Growing.{grown-whole, grown-others, grown-takes}
-use Rattle.apply.proofs.Going.{Gone, step-here, stands-still, stays, halved-whole, halved-onward, halved-others, halved-at, mem-rest, mem-not, splitting-more, pages-more, chosen-above}
-use Rattle.apply.proofs.Splits.{split-stays, split-root, split-below, gone-below}
+use Rattle.apply.proofs.Going.{Gone, step-here, stands-still, stays, halved-whole, halved-onward, halved-others, halved-at, mem-rest, mem-not, chosen-above}
+use Rattle.apply.proofs.Splits.{gone-below}
 
 -- ── The root ────────────────────────────────────────────────────────────────────────────────────────────────────
 
 pub root-splits : (s : Step) → full (s .page .view) ≡ true → rootSplits (s ∷ []) ≡ true
-unfolding rootSplits splitting
-root-splits s f = ap (λ (ss : List Step). eqb (length ss) 1) (splitting-more s [] f)
-
-pub pages-none : newPages [] ≡ 1
-unfolding newPages rootSplits splitting
-pages-none = refl
+root-splits s f = rootSplits-full s [] f ∙ rootSplits-none
 
 high-root : (s : Step) → tooHigh (s ∷ []) ≡ eqb (s .page .view .kind) topKind
 unfolding tooHigh
@@ -143,12 +140,12 @@ module _ {n c k : ℕ} {t : List ℕ} (s : Step) (a b g : ℕ) (new : List ℕ) 
 module _ {n c k : ℕ} {t : List ℕ} (m : Session) (w : Whole n c t) where
   root-gone : (s : Step) (new : List ℕ) → Leads n k t (s ∷ []) → Chosen n (s ∷ []) new → (b : Bool) → full (s .page .view) ≡ b
       → Gone n c k t s [] new (split c k (s ∷ []) new (making t m 0))
-  root-gone s new l x false f = subst (Gone n c k t s [] new) (sym (split-stays c k s [] new t m f)) (stays s [] new m w (l .0) f)
-  root-gone s [] l x true f = absurd (omega (arith, x .enough, pages-more s [] f))
-  root-gone s (a ∷ []) l x true f = absurd (omega (arith, x .enough, pages-more s [] f))
-  root-gone s (a ∷ (b ∷ [])) l x true f = absurd (omega (arith, x .enough, pages-more s [] f, pages-none))
+  root-gone s new l x false f = subst (Gone n c k t s [] new) (sym (split-none c k s [] new (making t m 0) f)) (stays s [] new m w (l .0) f)
+  root-gone s [] l x true f = absurd (omega (arith, x .enough, newPages-full s [] f))
+  root-gone s (a ∷ []) l x true f = absurd (omega (arith, x .enough, newPages-full s [] f))
+  root-gone s (a ∷ (b ∷ [])) l x true f = absurd (omega (arith, x .enough, newPages-full s [] f, newPages-none))
   root-gone s (a ∷ (b ∷ (g ∷ new))) l x true f =
-      subst (Gone n c k t s [] (a ∷ (b ∷ (g ∷ new)))) (sym (split-root c k s (a ∷ (b ∷ (g ∷ new))) (making t m 0) f))
+      subst (Gone n c k t s [] (a ∷ (b ∷ (g ∷ new)))) (sym (split-one c k s (a ∷ (b ∷ (g ∷ new))) (making t m 0) f))
       (gone-root s a b g new m w l f x)
 
   pub split-gone : (s : Step) (above : List Step) (new : List ℕ) → length (s ∷ above) ≤ 3 → Leads n k t (s ∷ above)
@@ -162,11 +159,11 @@ module _ {n c k : ℕ} {t : List ℕ} (m : Session) (w : Whole n c t) where
       go : (ns : List ℕ) → Chosen n (s ∷ (u ∷ above)) ns → (b : Bool) → full (s .page .view) ≡ b → Above
           → Gone n c k t s (u ∷ above) ns (split c k (s ∷ (u ∷ above)) ns (making t m 0))
       go ns y false f ih =
-          subst (Gone n c k t s (u ∷ above) ns) (sym (split-stays c k s (u ∷ above) ns t m f)) (stays s (u ∷ above) ns m w (l .0) f)
-      go [] y true f ih = absurd (omega (arith, y .enough, pages-more s (u ∷ above) f))
-      go (a ∷ []) y true f ih = absurd (omega (arith, y .enough, pages-more s (u ∷ above) f))
+          subst (Gone n c k t s (u ∷ above) ns) (sym (split-none c k s (u ∷ above) ns (making t m 0) f)) (stays s (u ∷ above) ns m w (l .0) f)
+      go [] y true f ih = absurd (omega (arith, y .enough, newPages-full s (u ∷ above) f))
+      go (a ∷ []) y true f ih = absurd (omega (arith, y .enough, newPages-full s (u ∷ above) f))
       go (a ∷ (b ∷ ns)) y true f ih =
           subst (Gone n c k t s (u ∷ above) (a ∷ (b ∷ ns)))
-          (sym (split-below c k s u above (a ∷ (b ∷ ns)) (making t m 0) f))
+          (sym (split-more c k s u above (a ∷ (b ∷ ns)) (making t m 0) f))
           (gone-below s u above a b ns (split c k (u ∷ above) ns (making t m 0)) l f y
           (ih ns (chosen-above s u above a b ns few f y)))

@@ -37,6 +37,7 @@ use Rattle.plan.specs.Plan.{headsOf, splitsBy, chosenBy, Planning, planOf}
 use Rattle.plan.proofs.Plans.{splits-within, need-few}
 use Rattle.plan.proofs.Pages.{need-is, chosen-is}
 use Rattle.apply.specs.Leads.{Stands, Leads, EndsInLeaf, HeadRead, listed, stepsIn, ReadyWay, done}
+use Rattle.apply.proofs.Going.{leads-first}
 use Rattle.insert.specs.Inserts.{leaving, presentIn, answerOf, stepsOf, Walked, decidedOn}
 
 -- ── The rules' chain, by the plan ───────────────────────────────────────────────────────────────────────────────
@@ -141,10 +142,6 @@ is-found (some y) x e = refl
 take-first : (len : ℕ) (x : Step) (xs : List Step) → 1 ≤ len → (ys : List Step) × (take len (x ∷ xs) ≡ x ∷ ys)
 take-first zero x xs h = absurd (omega arith)
 take-first (suc len) x xs h = (take len xs, refl)
-
-leads-first : {n k : ℕ} {t : List ℕ} (s : rules.Step) (above : List rules.Step) → Leads n k t (s ∷ above) → Stands n k t s
-leads-first s [] l = l .0
-leads-first s (u ∷ above) l = l .0
 
 -- no pages, a damaged place
 pub decided-nowhere : (k : ℕ) (s : Session) (w : Way) (t : List ℕ) → w .len ≡ 0 → Inserted.Damaged ≡ decidedOn k s w t
