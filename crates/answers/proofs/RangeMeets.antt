@@ -16,9 +16,10 @@ use Rattle.rules.specs.Walk.{Walked, enters, finds, stops, walkEach, walk, walk
 use Rattle.rules.specs.declared.Place.{Place}
 use Rattle.rules.specs.declared.Asked.{Asked}
 use Rattle.rules.proofs.Tests.{not-both}
+use Rattle.rules.proofs.WalkSteps.{walk-past, walk-entered}
 use Rattle.answers.specs.Range.{Parent, numbersOf, Comes, MeetsDamageIn}
 use Rattle.answers.proofs.Deep.{Deep, not-out, enter-shows, kid-deep}
-use Rattle.answers.proofs.RangeSteps.{mem-here, mem-before, each-append, none-walked, finds-whole, walk-passed, walk-damaged, walk-below, passed-same, parent, next-comes, next-deep, next-walked}
+use Rattle.answers.proofs.RangeSteps.{mem-here, mem-before, each-append, none-walked, finds-whole, walk-broken, passed-same, parent, next-comes, next-deep, next-walked}
 
 -- ── What is not whole stays so ──────────────────────────────────────────────────────────────────────────────────
 
@@ -87,7 +88,7 @@ module _ (n c : ℕ) (a : Asked) (t : List ℕ) where
       walked : walk (suc level) n c a (numbersOf above) (s .place) v
           ≡ walkEach (walk level n c a (numbersOf (s ∷ above))) (s .later) (walk level n c a (numbersOf (s ∷ above)) e w)
       walked =
-          walk-below level n c a (numbersOf above) (s .place) v p (s .page) page
+          walk-entered level n c a (numbersOf above) (s .place) v p (s .page) page
           ∙ (ap (λ (r : Entered). walkEach (walk level n c a (numbersOf (s ∷ above))) (kids (s .place) (s .page .view))
           (finds a (s .page .view) v (r .table))) h
           ∙ (ap (λ (es : List Place). walkEach (walk level n c a (numbersOf (s ∷ above))) es start) q
@@ -115,7 +116,7 @@ module _ (n c : ℕ) (a : Asked) (t : List ℕ) where
           → walkOf n c a t .whole ≡ false
       at zero deep leads = absurd (not-out (m .place) deep)
       at (suc level) deep leads =
-          leads (walk-damaged level n c a (numbersOf (m .above)) (m .place) (m .found) (m .entered) (m .damaged))
+          leads (walk-broken level n c a (numbersOf (m .above)) (m .place) (m .found) (m .entered) (m .damaged))
 
       go : Standing (m .above) (m .found) (m .place) → walkOf n c a t .whole ≡ false
       go x = at (x .level) (x .deep) (x .leads)
@@ -164,7 +165,7 @@ module _ (n c : ℕ) (a : Asked) (t : List ℕ) where
       go : (b : Bool) → enters a e w ≡ b → (o : Option Page) → enter n c (numbersOf above) (w .table) e .page ≡ o
           → MeetsDamageIn n c a t
       go false p o h =
-          absurd (not-both g (ap (λ (r : Walked). r .whole) (sym (walk-passed level n c a (numbersOf above) e w p)) ∙ f))
+          absurd (not-both g (ap (λ (r : Walked). r .whole) (sym (walk-past level n c a (numbersOf above) e w p)) ∙ f))
       go true p none h =
           record { above = above; found = w; place = e; comes = comes; entered = p; damaged = h }
       go true p (some x) h =
@@ -172,7 +173,7 @@ module _ (n c : ℕ) (a : Asked) (t : List ℕ) where
           each-tells level over sum rest above w e comes deep p x h (kids e (x .view)) [] refl start
           (none-walked (walk topKind n c a (e .child ∷ numbersOf above)) start)
           (finds-whole a x w (enter n c (numbersOf above) (w .table) e .table))
-          (ap (λ (r : Walked). r .whole) (sym (walk-below level n c a (numbersOf above) e w p x h)) ∙ f)
+          (ap (λ (r : Walked). r .whole) (sym (walk-entered level n c a (numbersOf above) e w p x h)) ∙ f)
 
   tells : (level over : ℕ) → over + level ≡ topKind → Tells level
   tells zero over sum = λ above w e comes deep g f. absurd (not-out e deep)

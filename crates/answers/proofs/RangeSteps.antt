@@ -14,6 +14,7 @@ use Rattle.rules.specs.Enter.{enter}
 use Rattle.rules.specs.Walk.{Walked, enters, finds, stops, walkEach, walk}
 use Rattle.rules.specs.declared.Place.{Place}
 use Rattle.rules.specs.declared.Asked.{Asked}
+use Rattle.rules.proofs.WalkSteps.{walk-damaged}
 use Rattle.answers.specs.Range.{Parent, numbersOf, Comes}
 use Rattle.answers.proofs.Deep.{Deep, enter-shows, kid-deep}
 use Rattle.answers.proofs.Levels.{each-same, range-more}
@@ -70,26 +71,15 @@ walk-top j level n c a above e w q deep =
 -- ── One page entered ────────────────────────────────────────────────────────────────────────────────────────────
 
 module _ (level n c : ℕ) (a : Asked) (above : List ℕ) (e : Place) (w : Walked) where
-  pub walk-passed : enters a e w ≡ false → walk (suc level) n c a above e w ≡ w
-  unfolding walk
-  walk-passed p = rw (walk, p)
-
-  pub walk-damaged : enters a e w ≡ true → enter n c above (w .table) e .page ≡ none
+  pub walk-broken : enters a e w ≡ true → enter n c above (w .table) e .page ≡ none
       → walk (suc level) n c a above e w .whole ≡ false
-  unfolding walk stops
-  walk-damaged p h = rw (walk, p, h)
+  unfolding stops
+  walk-broken p h = ap (λ (r : Walked). r .whole) (walk-damaged level n c a above e w p h)
 
   pub walk-stopped : enters a e w ≡ true → enter n c above (w .table) e .page ≡ none
       → walk (suc level) n c a above e w .table ≡ enter n c above (w .table) e .table
-  unfolding walk stops
-  walk-stopped p h = rw (walk, p, h)
-
-  pub walk-below : enters a e w ≡ true → (x : Page) → enter n c above (w .table) e .page ≡ some x
-      → walk (suc level) n c a above e w
-      ≡ walkEach (walk level n c a (e .child ∷ above)) (kids e (x .view))
-      (finds a (x .view) w (enter n c above (w .table) e .table))
-  unfolding walk
-  walk-below p x h = rw (walk, p, h)
+  unfolding stops
+  walk-stopped p h = ap (λ (r : Walked). r .table) (walk-damaged level n c a above e w p h)
 
 -- the places of a page, walked at the level below the page or at the top one
 pub passed-same : (j level n c : ℕ) (a : Asked) (above : List ℕ) (es : List Place) (w : Walked) → j + level ≡ topKind

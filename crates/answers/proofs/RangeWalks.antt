@@ -16,9 +16,10 @@ use Rattle.rules.specs.Enter.{mend, enter}
 use Rattle.rules.specs.Walk.{Walked, enters, finds, walkEach, walk, walkOf}
 use Rattle.rules.specs.declared.Place.{Place}
 use Rattle.rules.specs.declared.Asked.{Asked}
+use Rattle.rules.proofs.WalkSteps.{walk-past, walk-entered}
 use Rattle.answers.specs.Range.{Parent, numbersOf, Comes, MendedIn, nothing, also}
 use Rattle.answers.proofs.Deep.{Deep, not-out}
-use Rattle.answers.proofs.RangeSteps.{none-walked, finds-table, walk-passed, walk-stopped, walk-below, parent, next-comes, next-deep, next-walked}
+use Rattle.answers.proofs.RangeSteps.{none-walked, finds-table, walk-stopped, parent, next-comes, next-deep, next-walked}
 
 module _ (n c : ℕ) (a : Asked) (t : List ℕ) where
   enter-mended : (above : List Parent) (w : Walked) (e : Place) → Comes n c a t above w e → enters a e w ≡ true
@@ -69,12 +70,12 @@ module _ (n c : ℕ) (a : Asked) (t : List ℕ) where
     where
       go : (b : Bool) → enters a e w ≡ b → (o : Option Page) → enter n c (numbersOf above) (w .table) e .page ≡ o
           → MendedIn n c a t (walk (suc level) n c a (numbersOf above) e w .table)
-      go false p o h = rw (walk-passed level n c a (numbersOf above) e w p) m
+      go false p o h = rw (walk-past level n c a (numbersOf above) e w p) m
       go true p none h =
           rw (walk-stopped level n c a (numbersOf above) e w p h) (enter-mended above w e comes p m)
       go true p (some x) h =
           let u = enter n c (numbersOf above) (w .table) e .table in
-          rw (walk-below level n c a (numbersOf above) e w p x h)
+          rw (walk-entered level n c a (numbersOf above) e w p x h)
           (each-leaves level over sum rest above w e comes deep p x h (kids e (x .view)) [] refl (finds a (x .view) w u)
           (none-walked (walk topKind n c a (e .child ∷ numbersOf above)) (finds a (x .view) w u))
           (rw (finds-table a x w u) (enter-mended above w e comes p m)))

@@ -1,7 +1,7 @@
 -- Where an entry is put among others: at the spot of its key, or over the one of the same key.
 -- Assumes nothing.
 use mathlib.Core.Path.{_≡_, refl}
-use mathlib.Core.Bool.{Bool, true, false, _||_}
+use mathlib.Core.Bool.{Bool, true, false}
 use mathlib.Core.List.{List, [], _∷_, _++_}
 use Prim.Native.Nat.{ℕ, suc, _-_, _≤_, _<_}
 use native.Mathlib.Omega.{arith}
@@ -12,11 +12,8 @@ use Rattle.rules.specs.Test.{mem}
 use Rattle.rules.specs.Entry.{Entry, keys, put, risesFrom, rising}
 use Rattle.entries.specs.Spot.{spotOf}
 use Rattle.rules.proofs.Rises.{rises-head, rises-mem, rising-from, rising-of-rises}
+use Rattle.rules.proofs.Tests.{or-none}
 use Rattle.entries.proofs.Cut.{spot-cons, spot-first}
-
-pub or-none : (s t : Bool) → s || t ≡ false → (s ≡ false) × (t ≡ false)
-or-none true t h = absurd (let z : _≡_ {A = ℕ} 0 1 = cc in omega arith)
-or-none false t h = (refl, h)
 
 spot-above : (k : ℕ) (xs : List ℕ) → risesFrom k xs ≡ true → spotOf k xs ≡ 0
 unfolding spotOf

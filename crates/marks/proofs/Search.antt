@@ -7,16 +7,9 @@ use native.Mathlib.Numerals.{add-one}
 use native.Mathlib.Omega.{arith}
 use Rattle.rules.specs.Marks.{numbersFrom, freePages}
 use Rattle.rules.specs.declared.Session.{Session}
+use Rattle.rules.proofs.Numbers.{numbersFrom-here, numbersFrom-past}
 use Rattle.marks.specs.Lowest.{countsFree, freeFrom, firstOf}
 use Rattle.marks.specs.declared.Free.{Free}
-
-numbers-here : (mark : ℕ → Bool) (i k : ℕ) → mark i ≡ true → numbersFrom mark i (suc k) ≡ i ∷ numbersFrom mark (suc i) k
-unfolding numbersFrom
-numbers-here mark i k e = rw (e, numbersFrom)
-
-numbers-later : (mark : ℕ → Bool) (i k : ℕ) → mark i ≡ false → numbersFrom mark i (suc k) ≡ numbersFrom mark (suc i) k
-unfolding numbersFrom
-numbers-later mark i k e = rw (e, numbersFrom)
 
 -- the first number of a list of numbers, and the numbers behind it
 record First (mark : ℕ → Bool) (i k x : ℕ) : Type 0 where
@@ -40,20 +33,20 @@ numbers-first mark i (suc k) x e = go (mark i) refl (numbers-first mark (suc i) 
   where
     go : (b : Bool) → mark i ≡ b → (firstOf (numbersFrom mark (suc i) k) ≡ Free.Page x → First mark (suc i) k x) → First mark i (suc k) x
     go true f ih =
-        let p : i ≡ x = page-same (ap firstOf (sym (numbers-here mark i k f)) ∙ e) in
+        let p : i ≡ x = page-same (ap firstOf (sym (numbersFrom-here mark i k f)) ∙ e) in
         let q : k ≡ i + suc k - (i + 1) = omega arith in
         record {
           below = omega arith;
           above = omega arith;
-          list = numbers-here mark i k f ∙ rw (← p, ← q, add-one);
+          list = numbersFrom-here mark i k f ∙ rw (← p, ← q, add-one);
         }
     go false f ih =
-        let r : First mark (suc i) k x = ih (ap firstOf (sym (numbers-later mark i k f)) ∙ e) in
+        let r : First mark (suc i) k x = ih (ap firstOf (sym (numbersFrom-past mark i k f)) ∙ e) in
         let q : suc i + k ≡ i + suc k = omega arith in
         record {
           below = omega (arith, r .below);
           above = omega (arith, r .above);
-          list = numbers-later mark i k f ∙ (r .list ∙ rw q);
+          list = numbersFrom-past mark i k f ∙ (r .list ∙ rw q);
         }
 
 module _ (s : Session) (entered : List ℕ) where
@@ -66,13 +59,13 @@ module _ (s : Session) (entered : List ℕ) where
     unfolding freeFrom
     free-here h e =
         let k : s .n - i ≡ suc (s .n - (i + 1)) = omega arith in
-        rw (k, numbers-here (countsFree s entered) i (s .n - (i + 1)) e, add-one)
+        rw (k, numbersFrom-here (countsFree s entered) i (s .n - (i + 1)) e, add-one)
 
     pub free-later : i < s .n → countsFree s entered i ≡ false → freeFrom s entered i ≡ freeFrom s entered (i + 1)
     unfolding freeFrom
     free-later h e =
         let k : s .n - i ≡ suc (s .n - (i + 1)) = omega arith in
-        rw (k, numbers-later (countsFree s entered) i (s .n - (i + 1)) e, add-one)
+        rw (k, numbersFrom-past (countsFree s entered) i (s .n - (i + 1)) e, add-one)
 
     pub free-end : s .n ≤ i → freeFrom s entered i ≡ []
     unfolding freeFrom numbersFrom
