@@ -36,11 +36,11 @@ use Rattle.way.proofs.Stood.{way-stands}
 use Rattle.apply.specs.Leads.{Whole, Leads, Fresh, Chosen}
 use Rattle.apply.proofs.Going.{Gone, apart-by}
 use Rattle.apply.proofs.Whole.{split-gone}
-use Rattle.reading.specs.Leaving.{askedFor}
+use Rattle.reading.specs.Leaving.{askedFor, Typed}
 use Rattle.reading.specs.Inserting.{takenFor, FewChange, InsertChanges}
 use Rattle.reading.proofs.WayLeft.{WayLeft, way-left}
 use Rattle.reading.proofs.Refused.{key-bound}
-use Rattle.reading.proofs.Leading.{WayLeads, way-leads}
+use Rattle.reading.proofs.Leading.{WayLeads, way-leads, topOf}
 use Rattle.reading.proofs.Splitting.{split-take, split-others}
 use Rattle.reading.proofs.Marking.{split-marks, split-taken}
 use Rattle.reading.proofs.Counts.{counts}
@@ -252,26 +252,58 @@ module _ (w t : List ℕ) (s : Session) (k x : ℕ) (table : Tables (s .n) w t) 
 
 -- ── The call ────────────────────────────────────────────────────────────────────────────────────────────────────
 
+-- an insert that is done, with the way that it went
+pub record Went (w t : List ℕ) (s : Session) (k x : ℕ) (r : Left Inserted) : Type 0 where
+  pub tables : Tables (s .n) w t
+  pub fit : fit0 (s .n) w ≡ true
+  pub first : Step
+  pub rest : List Step
+  pub way : wayOf (s .n) (s .c) k w .steps ≡ some (first ∷ rest)
+  pub leads : Leads (s .n) k (wayOf (s .n) (s .c) k w .table) (first ∷ rest)
+  pub top : topOf rest (first .place) ≡ rootPlace w
+  pub short : length (first ∷ rest) ≤ topKind
+  pub leaf : isLeaf (first .page .view) ≡ true
+  pub roomy : noRoom (first ∷ rest) (freePages s (numbers (first ∷ rest))) ≡ false
+  pub is : r ≡ insertDone k x s (first ∷ rest) (wayOf (s .n) (s .c) k w .table) t
+
+module _ (w t : List ℕ) (s : Session) (model serial issue x : ℕ) (y : Typed w s model serial issue)
+    (h : insert w t s model serial issue x .answer ≡ Inserted.Done) where
+  abbrev k : ℕ
+  k = keyOf model serial issue
+
+  D : Along k x s w t (insert w t s model serial issue x)
+  D = insert-done w t s model serial issue x h
+
+  T : Tables (s .n) w t
+  T = lengthsFor-true s w t (D .lengths)
+
+  WL : WayLeads (s .n) k topKind (rootPlace w) (wayOf (s .n) (s .c) k w .table) (D .steps)
+  WL = way-leads (s .n) (s .c) k w (T .working) (D .fit) (y .bytes) (y .counter) (key-bound y) (D .steps) (D .way)
+
+  pub insert-went : Went w t s k x (insert w t s model serial issue x)
+  insert-went =
+      let q = WL .are in
+      let v = way-stands (s .n) (s .c) k w (T .working) (D .fit) (y .bytes) (y .counter) (key-bound y) (D .steps) (D .way) in
+      let e : v .leaf ≡ WL .first = cc (sym (v .are) ∙ q) in
+      record {
+        tables = T;
+        fit = D .fit;
+        first = WL .first;
+        rest = WL .rest;
+        way = D .way ∙ ap some q;
+        leads = WL .leads;
+        top = WL .top;
+        short = omega (arith, ap length q, WL .short);
+        leaf = subst (λ (z : Step). isLeaf (z .page .view) ≡ true) e (v .ends);
+        roomy = subst (λ (ss : List Step). noRoom ss (freePages s (numbers ss)) ≡ false) q (D .roomy);
+        is = D .is ∙ ap (λ (ss : List Step). insertDone k x s ss (wayOf (s .n) (s .c) k w .table) t) q;
+      }
+
 pub insert-changes : InsertChanges
 unfolding InsertChanges
-insert-changes w t s model serial issue x y h = go (WL .are)
-  where
-    D : Along (keyOf model serial issue) x s w t (insert w t s model serial issue x)
-    D = insert-done w t s model serial issue x h
-
-    T : Tables (s .n) w t
-    T = lengthsFor-true s w t (D .lengths)
-
-    WL : WayLeads (s .n) (keyOf model serial issue) topKind (rootPlace w) (wayOf (s .n) (s .c) (keyOf model serial issue) w .table) (D .steps)
-    WL = way-leads (s .n) (s .c) (keyOf model serial issue) w (T .working) (D .fit) (y .bytes) (y .counter) (key-bound y) (D .steps) (D .way)
-
-    go : D .steps ≡ WL .first ∷ WL .rest → FewChange w s (keyOf model serial issue) (insert w t s model serial issue x)
-    go q =
-        let k = keyOf model serial issue in
-        let v = way-stands (s .n) (s .c) k w (T .working) (D .fit) (y .bytes) (y .counter) (key-bound y) (D .steps) (D .way) in
-        let e : v .leaf ≡ WL .first = cc (sym (v .are) ∙ q) in
-        subst (FewChange w s k) (sym (D .is ∙ ap (λ (ss : List Step). insertDone k x s ss (wayOf (s .n) (s .c) k w .table) t) q))
-        (few-change w t s k x T (way-left (s .n) (s .c) k w (T .working) (D .fit) (y .bytes) (y .counter) (key-bound y)) (y .counter)
-        (WL .first) (WL .rest) (D .way ∙ ap some q) (WL .leads) (omega (arith, ap length q, WL .short))
-        (subst (λ (z : Step). isLeaf (z .page .view) ≡ true) e (v .ends))
-        (subst (λ (ss : List Step). noRoom ss (freePages s (numbers ss)) ≡ false) q (D .roomy)))
+insert-changes w t s model serial issue x y h =
+    let k = keyOf model serial issue in
+    let g = insert-went w t s model serial issue x y h in
+    subst (FewChange w s k) (sym (g .is))
+    (few-change w t s k x (g .tables) (way-left (s .n) (s .c) k w (g .tables .working) (g .fit) (y .bytes) (y .counter) (key-bound y))
+    (y .counter) (g .first) (g .rest) (g .way) (g .leads) (g .short) (g .leaf) (g .roomy))

@@ -22,9 +22,8 @@ use Rattle.rules.specs.declared.Session.{Session}
 use Rattle.rules.specs.declared.Inserted.{Inserted}
 use Rattle.rules.specs.declared.Looked.{Looked}
 use Rattle.rules.proofs.Keys.{goodKey-keyOf}
-use Rattle.rules.proofs.Lengths.{Tables, lengthsFor-true, tables-lengthsFor}
+use Rattle.rules.proofs.Lengths.{Tables, tables-lengthsFor}
 use Rattle.rules.proofs.Tests.{every-true}
-use Rattle.way.proofs.Stood.{way-stands}
 use Rattle.rules.proofs.PageZero.{Same0, same0, rootPlace-same}
 use Rattle.apply.specs.Leads.{Leads}
 use Rattle.apply.proofs.Going.{Gone}
@@ -32,8 +31,7 @@ use Rattle.reading.specs.Leaving.{askedFor, Typed}
 use Rattle.reading.specs.Inserting.{takenFor, FoundThen, InsertFound}
 use Rattle.reading.proofs.WayLeft.{WayLeft, way-left}
 use Rattle.reading.proofs.Refused.{key-bound}
-use Rattle.reading.proofs.Leading.{WayLeads, way-leads}
-use Rattle.reading.proofs.Changes.{Along, insert-done, made, done, gone, whole, chosen, same-done, zero-stays, put-length}
+use Rattle.reading.proofs.Changes.{made, done, gone, whole, chosen, same-done, zero-stays, put-length, insert-went}
 use Rattle.reading.proofs.Chains.{topPlace, Chained}
 use Rattle.reading.proofs.SplitChain.{split-chained}
 use Rattle.reading.proofs.Found.{put-steps, put-way, put-fit, put-found}
@@ -149,25 +147,8 @@ module _ (w t : List ℕ) (s : Session) (model serial issue x : ℕ) (y : Typed 
 
 pub insert-found : InsertFound
 unfolding InsertFound
-insert-found w t s model serial issue x y small h = go (WL .are)
-  where
-    D : Along (keyOf model serial issue) x s w t (insert w t s model serial issue x)
-    D = insert-done w t s model serial issue x h
-
-    T : Tables (s .n) w t
-    T = lengthsFor-true s w t (D .lengths)
-
-    WL : WayLeads (s .n) (keyOf model serial issue) topKind (rootPlace w) (wayOf (s .n) (s .c) (keyOf model serial issue) w .table) (D .steps)
-    WL = way-leads (s .n) (s .c) (keyOf model serial issue) w (T .working) (D .fit) (y .bytes) (y .counter) (key-bound y) (D .steps) (D .way)
-
-    go : D .steps ≡ WL .first ∷ WL .rest → FoundThen (insert w t s model serial issue x) model serial issue x
-    go q =
-        let k = keyOf model serial issue in
-        let v = way-stands (s .n) (s .c) k w (T .working) (D .fit) (y .bytes) (y .counter) (key-bound y) (D .steps) (D .way) in
-        let e : v .leaf ≡ WL .first = cc (sym (v .are) ∙ q) in
-        subst (λ (r : Left Inserted). FoundThen r model serial issue x)
-        (sym (D .is ∙ ap (λ (ss : List Step). insertDone k x s ss (wayOf (s .n) (s .c) k w .table) t) q))
-        (found-then w t s model serial issue x y small (done-good w t s model serial issue x h) T (D .fit) (WL .first) (WL .rest)
-        (D .way ∙ ap some q) (WL .leads) (WL .top) (omega (arith, ap length q, WL .short))
-        (subst (λ (z : Step). isLeaf (z .page .view) ≡ true) e (v .ends))
-        (subst (λ (ss : List Step). noRoom ss (freePages s (numbers ss)) ≡ false) q (D .roomy)))
+insert-found w t s model serial issue x y small h =
+    let g = insert-went w t s model serial issue x y h in
+    subst (λ (r : Left Inserted). FoundThen r model serial issue x) (sym (g .is))
+    (found-then w t s model serial issue x y small (done-good w t s model serial issue x h) (g .tables) (g .fit) (g .first) (g .rest)
+    (g .way) (g .leads) (g .top) (g .short) (g .leaf) (g .roomy))
