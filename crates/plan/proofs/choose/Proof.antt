@@ -1,8 +1,4 @@
-use mathlib.Core.Path.{_≡_, ap, _∙_}
-use Rattle.rules.specs.Marks.{freePages}
-use Rattle.marks.specs.Lowest.{enteredBy, lowestOf}
-use Rattle.marks.specs.declared.Entered.{Entered}
-use Rattle.plan.specs.Plan.{headsOf, splitsBy, needBy, chosenBy}
+use mathlib.Core.Path.{_∙_}
 use Rattle.plan.proofs.Plans.{splits-within, chosen-asks, chosen-of}
 use native.Mathlib.Omega.{arith}
 use borrow.Author.Needs.{needs}
