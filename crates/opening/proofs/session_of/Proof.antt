@@ -1,3 +1,4 @@
+-- `opening::session_of`: the session is the one that `marks::opened` makes of the walk's two lists.
 use borrow.Author.Needs.{needs}
 use Rattle.opening.proofs.session_of.Statement.{statement}
 use Rattle.opening.proofs.session_of.Tie as tie

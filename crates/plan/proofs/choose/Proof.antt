@@ -1,3 +1,4 @@
+-- `plan::choose`: what `marks::lowest` chooses for as many pages as the splits need.
 use mathlib.Core.Path.{_∙_}
 use Rattle.plan.proofs.Plans.{splits-within, chosen-asks, chosen-of}
 use native.Mathlib.Omega.{arith}

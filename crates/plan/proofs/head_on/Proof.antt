@@ -1,3 +1,4 @@
+-- `plan::head_on`: the way's headers by their number.
 use Rattle.plan.proofs.Heads.{head-first, head-second, head-third}
 use Rattle.plan.proofs.head_on.Statement.{statement}
 use Rattle.plan.proofs.head_on.Tie as tie

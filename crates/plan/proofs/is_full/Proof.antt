@@ -1,3 +1,4 @@
+-- `plan::is_full`: the header's count and the room of its kind.
 use Rattle.plan.proofs.Heads.{full-leaf, full-inner}
 use Rattle.plan.proofs.is_full.Statement.{statement}
 use Rattle.plan.proofs.is_full.Tie as tie

@@ -1,3 +1,4 @@
+-- `plan::is_late`: a leaf is never late; of an inner page touched decides.
 use Rattle.plan.proofs.Heads.{late-leaf, late-inner}
 use Rattle.plan.proofs.is_late.Statement.{statement}
 use Rattle.plan.proofs.is_late.Tie as tie

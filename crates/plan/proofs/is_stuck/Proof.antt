@@ -1,3 +1,4 @@
+-- `plan::is_stuck`: where all pages split the root's kind decides; else there is no new root.
 use Rattle.plan.proofs.Plans.{stuck-root, stuck-never}
 use borrow.Author.Needs.{needs}
 use Rattle.plan.proofs.is_stuck.Statement.{statement}

@@ -1,3 +1,4 @@
+-- `plan::need`: two new pages for each split, and a root where all split. At most seven, so the numbers fit.
 use Rattle.plan.proofs.Plans.{need-root, need-none}
 use borrow.Author.Needs.{needs}
 use Rattle.plan.proofs.need.Statement.{statement}

@@ -1,3 +1,4 @@
+-- `plan::plan`: each return is one step of the rules' plan, in document 01's order.
 use Rattle.plan.proofs.Plans.{splits-within}
 use Rattle.plan.proofs.Steps.{few, present-planned, soon-planned, stuck-planned, few-planned, go-planned}
 use native.Mathlib.Omega.{arith}

@@ -1,3 +1,4 @@
+-- `plan::splits`: the loop's invariant says that the pages passed are full.
 use Prim.Native.Nat.{_+_, _-_, _≤_}
 use mathlib.Core.Path.{_≡_, sym, _∙_}
 use borrow.Author.Tests.{not-true, not-false}

@@ -1,3 +1,4 @@
+-- `plan::too_soon`: the loop's invariant says that of the pages that split those passed are not late.
 use Prim.Native.Nat.{_-_, _≤_}
 use mathlib.Core.Path.{_≡_, refl, sym, _∙_}
 use lib.ListN.{take, drop}
