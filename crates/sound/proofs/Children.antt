@@ -1,10 +1,10 @@
 -- An inner page's entries as code tests them: what one names, and that the first starts at low. Assumes nothing.
-use Prim.Native.Nat.{ℕ, _-_, _≤_, _<_}
+use Prim.Native.Nat.{ℕ, _+_, _-_, _≤_, _<_}
 use mathlib.Core.Path.{_≡_, refl, sym}
-use mathlib.Core.Bool.{Bool, true, false, not, and-false}
+use mathlib.Core.Bool.{Bool, true, false, not, _&&_, and-false}
 use mathlib.Core.List.{List}
 use native.Mathlib.Omega.{arith}
-use lib.Dec.{eqb, ltb}
+use lib.Dec.{leb, ltb, eqb}
 use lib.ListN.{drop}
 use borrow.Author.Tests.{eq-eqb, ne-eqb}
 use Rattle.rules.specs.Layout.{headerSize, childSize}
@@ -13,8 +13,9 @@ use Rattle.rules.specs.Page.{readEach, childIn}
 use Rattle.rules.specs.Sound.{startsAt, namesPages}
 use Rattle.rules.proofs.Tests.{between-of, between-below, between-above}
 use Rattle.sound.specs.Pass.{childrenPass}
-use Rattle.head.proofs.Left.{entry, left-all, left-more}
-use Rattle.sound.proofs.Turn.{after, first-bad, first-on}
+use Rattle.head.specs.Head.{childAt}
+use Rattle.head.proofs.Left.{left-all, left-more}
+use Rattle.sound.proofs.Turn.{after, first-bad, first-on, turn-stop, turn-on, turns-end}
 
 -- ── What an entry names ─────────────────────────────────────────────────────────────────────────────────────────
 
@@ -34,26 +35,44 @@ module _ (n : ℕ) (x : Child) {child : ℕ} (e : child ≡ x .value .child) whe
 -- ── The first entry ─────────────────────────────────────────────────────────────────────────────────────────────
 
 module _ (b : List ℕ) (count low high n : ℕ) where
-  abbrev pub answer : Bool
+  abbrev answer : Bool
   answer = childrenPass n low high (readEach childIn childSize count (drop headerSize b))
+
+  -- the answer is what is left to test from j on, behind the key `last`
+  abbrev pub ChildrenLeft : ℕ → ℕ → Type 0
+  ChildrenLeft last j = answer ≡ after childIn childSize (namesPages n) b count low high last j
 
   pub no-child : count ≡ 0 → false ≡ answer
   unfolding childrenPass startsAt readEach
   no-child h = rw (h, readEach, startsAt)
 
-  module _ (k : ℕ) (h : 0 < count) (e : k ≡ entry childIn childSize b count 0 .key) where
+  module _ (k : ℕ) (h : 0 < count) (e : k ≡ childAt b 0 .key) where
     starts : startsAt low (readEach childIn childSize count (drop headerSize b)) ≡ eqb k low
-    unfolding startsAt
+    unfolding startsAt childAt
     starts = rw (left-all childIn childSize b count, left-more childIn childSize b count 0 h, startsAt, e)
 
     pub starts-elsewhere : (k ≡ low → ⊥) → false ≡ answer
     unfolding childrenPass
     starts-elsewhere d = sym (rw (starts, ne-eqb k low d))
 
-    pub starts-bad : {g : Bool} → g ≡ namesPages n (entry childIn childSize b count 0) → not g ≡ true → false ≡ answer
-    unfolding childrenPass
+    pub starts-bad : {g : Bool} → g ≡ namesPages n (childAt b 0) → not g ≡ true → false ≡ answer
+    unfolding childrenPass childAt
     starts-bad f y = rw (← first-bad childIn childSize (namesPages n) b count low high 0 h e f refl y, and-false)
 
-    pub starts-on : {g : Bool} → g ≡ namesPages n (entry childIn childSize b count 0) → k ≡ low → not g ≡ false → answer ≡ after childIn childSize (namesPages n) b count low high k 1
-    unfolding childrenPass
+    pub starts-on : {g : Bool} → g ≡ namesPages n (childAt b 0) → k ≡ low → not g ≡ false → ChildrenLeft k 1
+    unfolding childrenPass childAt
     starts-on f q y = rw (starts, eq-eqb k low q) (first-on childIn childSize (namesPages n) b count low high 0 h e f refl (omega arith) y)
+
+  -- ── Each one behind it ────────────────────────────────────────────────────────────────────────────────────────
+
+  module _ (last j k : ℕ) {f : Bool} (h : j < count) (e : k ≡ childAt b j .key) (q : f ≡ (ltb last k && namesPages n (childAt b j))) (a : ChildrenLeft last j) where
+    pub children-stop : not f ≡ true → false ≡ answer
+    unfolding childAt
+    children-stop y = turn-stop childIn childSize (namesPages n) b count low high j last h e q a y
+
+    pub children-on : (next : ℕ) → next ≡ j + 1 → not f ≡ false → ChildrenLeft k next
+    unfolding childAt
+    children-on next s y = rw s (turn-on childIn childSize (namesPages n) b count low high j last h e q a y)
+
+  pub children-end : (last j : ℕ) → count ≤ j → ChildrenLeft last j → leb last high ≡ answer
+  children-end last j h a = turns-end childIn childSize (namesPages n) b count low high j last h a

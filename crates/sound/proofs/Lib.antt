@@ -2,6 +2,7 @@
 pub mod Scan
 pub mod Turn
 pub mod GoodKey
+pub mod Certs
 pub mod Children
 pub mod ByKind
 pub mod Fitting

@@ -2,11 +2,11 @@
 -- knows the answer or leaves one entry less. Assumes nothing.
 use Prim.Native.Nat.{ℕ, _+_, _≤_, _<_}
 use mathlib.Core.Path.{_≡_, sym, _∙_}
-use mathlib.Core.Bool.{Bool, true, false, not, _&&_, and-false}
+use mathlib.Core.Bool.{Bool, true, false, not, _&&_, and-false, and-assoc}
 use mathlib.Core.List.{List}
 use lib.Dec.{leb, ltb}
 use lib.ListN.{drop}
-use borrow.Author.Tests.{lt-ltb, le-ltb, le-leb, lt-leb, not-true, not-false}
+use borrow.Author.Tests.{le-leb, lt-leb, not-true, not-false}
 use Rattle.rules.specs.Layout.{headerSize}
 use Rattle.rules.specs.Test.{all}
 use Rattle.rules.specs.Entry.{Entry, keys, rising}
@@ -45,19 +45,17 @@ module _ {B : Type 0} (read : List ℕ → Entry B) (size : ℕ) (good : Entry B
     pub first-on : j ≡ 0 → low ≤ k → not g ≡ false → passes ≡ after k (j + 1)
     first-on z l y = first z ∙ rw (le-leb low k l, not-false g y)
 
-    module _ {answer : Bool} (last : ℕ) (a : answer ≡ after last j) where
-      turn : answer ≡ (ltb last k && (g && after k (j + 1)))
-      unfolding risen
-      turn = a ∙ rw (e, f, left-more read size b count j h, risen)
+  -- a turn: an entry that follows the one before it, or not
+  module _ (j : ℕ) {k : ℕ} {f : Bool} (last : ℕ) (h : j < count) (e : k ≡ entry read size b count j .key) (q : f ≡ (ltb last k && good (entry read size b count j))) {answer : Bool} (a : answer ≡ after last j) where
+    turn : answer ≡ (f && after k (j + 1))
+    unfolding risen
+    turn = a ∙ rw (q, e, left-more read size b count j h, risen, and-assoc)
 
-      pub turn-low : k ≤ last → false ≡ answer
-      turn-low l = sym (turn ∙ rw (le-ltb last k l))
+    pub turn-stop : not f ≡ true → false ≡ answer
+    turn-stop n = sym (turn ∙ rw (not-true f n))
 
-      pub turn-bad : not g ≡ true → false ≡ answer
-      turn-bad n = sym (turn ∙ rw (not-true g n, and-false))
-
-      pub turn-on : last < k → not g ≡ false → answer ≡ after k (j + 1)
-      turn-on l y = turn ∙ rw (lt-ltb last k l, not-false g y)
+    pub turn-on : not f ≡ false → answer ≡ after k (j + 1)
+    turn-on y = turn ∙ rw (not-false f y)
 
   pub turns-end : (j : ℕ) {answer : Bool} (last : ℕ) → count ≤ j → answer ≡ after last j → leb last high ≡ answer
   unfolding risen

@@ -2,7 +2,8 @@
 //
 // Each function answers exactly the rules' test of the same bytes. Entries are read once, in order: keys that rise
 // strictly from one that is not below low to one that is not above high lie all within, so each entry costs one
-// comparison with the one before it, and high is looked at once.
+// comparison with the one before it, and high is looked at once. Two entries are tested in a round, since every page on
+// every way is tested and a round has a cost of its own.
 //
 // Below stand `head`, which reads headers and entries, and `rules`, the definitions.
 use head::cert_key;
@@ -19,6 +20,8 @@ use rules::Place;
 use rules::SERIAL;
 use rules::TOP;
 ghost use mathlib.Core.Path.{_≡_};
+ghost use mathlib.Core.Bool.{_&&_};
+ghost use lib.Dec.{ltb};
 ghost use Prim.Native.Nat.{_+_, _*_, _≤_};
 ghost use lib.ListN.{length, drop};
 ghost use Rattle.rules.specs.Layout.{pageSize, headerSize, certSize, childSize};
@@ -48,6 +51,16 @@ fn good_key(key: u64) -> bool
     key % SERIAL != 0
 }
 
+// A leaf's key stands behind the one before it, and no part of it is zero.
+fn cert_follows(last: u64, key: u64) -> bool
+    ensures { λ r. ⌜ r ≡ (ltb last key && goodKey key) ⌝ }
+{
+    if key <= last {
+        return false;
+    }
+    good_key(key)
+}
+
 // The leaf's keys rise strictly within low to high, and none has a part that is zero.
 fn certs_pass(page: &[u8], count: usize, low: u64, high: u64) -> bool
     requires { ⌜ headerSize + certSize * count ≤ length (now page) ⌝ }
@@ -64,18 +77,25 @@ fn certs_pass(page: &[u8], count: usize, low: u64, high: u64) -> bool
         return false;
     }
     let mut j = 1;
-    while j < count {
+    while j + 1 < count {
         let key = cert_key(page, j);
-        if key <= last {
+        if !cert_follows(last, key) {
             return false;
         }
-        if !good_key(key) {
+        last = cert_key(page, j + 1);
+        if !cert_follows(key, last) {
             return false;
         }
-        last = key;
-        j += 1;
+        j += 2;
     }
-    last <= high
+    if j == count {
+        return last <= high;
+    }
+    let key = cert_key(page, j);
+    if !cert_follows(last, key) {
+        return false;
+    }
+    key <= high
 }
 
 // A child is a page other than page 0, and its previous is a page or 0.
@@ -91,6 +111,17 @@ fn names_pages(page: &[u8], j: usize, n: usize) -> bool
         return false;
     }
     (child_previous(page, j) as usize) < n
+}
+
+// An inner page's key stands behind the one before it, and its entry names pages.
+fn child_follows(page: &[u8], j: usize, last: u64, key: u64, n: usize) -> bool
+    requires { ⌜ headerSize + childSize * (j + 1) ≤ length (now page) ⌝ }
+    ensures { λ r. ⌜ r ≡ (ltb last key && namesPages n (childAt (now (page .entry)) j)) ⌝ }
+{
+    if key <= last {
+        return false;
+    }
+    names_pages(page, j, n)
 }
 
 // The inner page's first key is its low, its keys rise strictly up to high, and every entry names pages.
@@ -109,18 +140,25 @@ fn children_pass(page: &[u8], count: usize, low: u64, high: u64, n: usize) -> bo
         return false;
     }
     let mut j = 1;
-    while j < count {
+    while j + 1 < count {
         let key = child_key(page, j);
-        if key <= last {
+        if !child_follows(page, j, last, key, n) {
             return false;
         }
-        if !names_pages(page, j, n) {
+        last = child_key(page, j + 1);
+        if !child_follows(page, j + 1, key, last, n) {
             return false;
         }
-        last = key;
-        j += 1;
+        j += 2;
     }
-    last <= high
+    if j == count {
+        return last <= high;
+    }
+    let key = child_key(page, j);
+    if !child_follows(page, j, last, key, n) {
+        return false;
+    }
+    key <= high
 }
 
 // The page is sound, whoever asks for it.

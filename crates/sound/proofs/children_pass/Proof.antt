@@ -1,20 +1,15 @@
--- `sound::children_pass`: before each turn the answer is what is left to test after the last key.
+-- `sound::children_pass`: before each round the answer is what is left to test after the last key.
 -- Assumes nothing.
-use Prim.Native.Nat.{_≤_, _-_}
-use mathlib.Core.Path.{_≡_, refl}
-use Rattle.rules.specs.Layout.{childSize}
-use Rattle.rules.specs.Page.{childIn}
-use Rattle.rules.specs.Sound.{namesPages}
-use Rattle.head.specs.Head.{childAt}
-use Rattle.sound.proofs.Turn.{after, turn-low, turn-bad, turn-on, turns-end}
-use Rattle.sound.proofs.Children.{answer, no-child, starts-elsewhere, starts-bad, starts-on}
+use Prim.Native.Nat.{_≤_, _+_, _-_}
+use mathlib.Core.Path.{refl}
 use native.Mathlib.Omega.{arith}
 use borrow.Author.Needs.{needs}
+use Rattle.sound.proofs.Children.{ChildrenLeft, no-child, starts-elsewhere, starts-bad, starts-on, children-stop, children-on, children-end}
 use Rattle.sound.proofs.children_pass.Statement.{statement}
 use Rattle.sound.proofs.children_pass.Tie as tie
 
 abbrev Inv-loop : tie.InvT-loop
-Inv-loop page count low high n last₀ j₀ last j = (1 ≤ j) × (j ≤ count) × (answer page count low high n ≡ after childIn childSize (namesPages n) page count low high last j)
+Inv-loop page count low high n last₀ j₀ last j = (1 ≤ j) × (j ≤ count) × ChildrenLeft page count low high n last j
 
 abbrev μ-loop : tie.MeasureT-loop
 μ-loop page count low high n last₀ j₀ last j = count - j
@@ -28,7 +23,6 @@ child-key-requires : tie.Need-child-key-requires Inv-loop μ-loop
 child-key-requires c κs = search needs
 
 returns-2 : tie.Need-returns-2 Inv-loop μ-loop
-unfolding childAt
 returns-2 c =
     let a = c .before .before .before .before .args in
     starts-elsewhere (a .page .now) (a .count) (a .low) (a .high) (a .n) (c .before .child-key .result) (omega arith) (c .before .child-key .ensures) (c .if2 .taken)
@@ -37,36 +31,48 @@ names-pages-requires : tie.Need-names-pages-requires Inv-loop μ-loop
 names-pages-requires c κs = search needs
 
 returns-3 : tie.Need-returns-3 Inv-loop μ-loop
-unfolding childAt
 returns-3 c =
     let a = c .before .before .before .before .before .before .args in
     starts-bad (a .page .now) (a .count) (a .low) (a .high) (a .n) (c .before .before .before .child-key .result) (omega arith) (c .before .before .before .child-key .ensures) (c .before .names-pages .ensures) (c .if3 .taken)
 
 loop-holds : tie.Need-loop-holds Inv-loop μ-loop
-unfolding childAt
 loop-holds c =
     let a = c .before .before .before .before .before .before .args in
     (search needs, omega arith, starts-on (a .page .now) (a .count) (a .low) (a .high) (a .n) (c .before .before .before .child-key .result) (omega arith) (c .before .before .before .child-key .ensures) (c .before .names-pages .ensures) (c .before .before .if2 .left) (c .if3 .left))
 
+add-loop : tie.Need-add-loop Inv-loop μ-loop
+add-loop c = search needs
+
 child-key-requires-2 : tie.Need-child-key-requires-2 Inv-loop μ-loop
 child-key-requires-2 c κs = search needs
 
-returns-4 : tie.Need-returns-4 Inv-loop μ-loop
-unfolding childAt
-returns-4 c =
-    let a = c .before .before .before .before .before .before .before .before .before .before .args in
-    let l = c .before .before .before .loop in
-    turn-low childIn childSize (namesPages (a .n)) (a .page .now) (a .count) (a .low) (a .high) (l .j) (c .before .before .loop-test .taken) (c .before .child-key2 .ensures) refl (l .last) (l .inv .2) (c .if4 .taken)
+child-follows-requires : tie.Need-child-follows-requires Inv-loop μ-loop
+child-follows-requires c κs = search needs
 
-names-pages-requires-2 : tie.Need-names-pages-requires-2 Inv-loop μ-loop
-names-pages-requires-2 c κs = search needs
+returns-4 : tie.Need-returns-4 Inv-loop μ-loop
+returns-4 c =
+    let a = c .before .before .before .before .before .before .before .before .before .before .before .args in
+    let l = c .before .before .before .before .loop in
+    children-stop (a .page .now) (a .count) (a .low) (a .high) (a .n) (l .last) (l .j) (c .before .before .child-key2 .result) (omega (arith, c .before .before .before .loop-test .taken)) (c .before .before .child-key2 .ensures) (c .before .child-follows .ensures) (l .inv .2) (c .if4 .taken)
+
+add-child-key : tie.Need-add-child-key Inv-loop μ-loop
+add-child-key c = search needs
+
+child-key-requires-3 : tie.Need-child-key-requires-3 Inv-loop μ-loop
+child-key-requires-3 c κs = search needs
+
+add-child-follows : tie.Need-add-child-follows Inv-loop μ-loop
+add-child-follows c = search needs
+
+child-follows-requires-2 : tie.Need-child-follows-requires-2 Inv-loop μ-loop
+child-follows-requires-2 c κs = search needs
 
 returns-5 : tie.Need-returns-5 Inv-loop μ-loop
-unfolding childAt
 returns-5 c =
-    let a = c .before .before .before .before .before .before .before .before .before .before .before .before .args in
-    let l = c .before .before .before .before .before .loop in
-    turn-bad childIn childSize (namesPages (a .n)) (a .page .now) (a .count) (a .low) (a .high) (l .j) (c .before .before .before .before .loop-test .taken) (c .before .before .before .child-key2 .ensures) (c .before .names-pages2 .ensures) (l .last) (l .inv .2) (c .if5 .taken)
+    let a = c .before .before .before .before .before .before .before .before .before .before .before .before .before .before .args in
+    let l = c .before .before .before .before .before .before .before .loop in
+    let on = children-on (a .page .now) (a .count) (a .low) (a .high) (a .n) (l .last) (l .j) (c .before .before .before .before .before .child-key2 .result) (omega (arith, c .before .before .before .before .before .before .loop-test .taken)) (c .before .before .before .before .before .child-key2 .ensures) (c .before .before .before .before .child-follows .ensures) (l .inv .2) (l .j + 1) refl (c .before .before .before .if4 .left) in
+    children-stop (a .page .now) (a .count) (a .low) (a .high) (a .n) (c .before .before .before .before .before .child-key2 .result) (l .j + 1) (c .before .before .child-key3 .result) (omega (arith, c .before .before .before .before .before .before .loop-test .taken)) (c .before .before .child-key3 .ensures) (c .before .child-follows2 .ensures) on (c .if5 .taken)
 
 add-j : tie.Need-add-j Inv-loop μ-loop
 add-j c = search needs
@@ -75,18 +81,35 @@ loop-less : tie.Need-loop-less Inv-loop μ-loop
 loop-less c = search needs
 
 loop-again : tie.Need-loop-again Inv-loop μ-loop
-unfolding childAt
 loop-again c =
-    let a = c .before .before .before .before .before .before .before .before .before .before .before .before .args in
-    let l = c .before .before .before .before .before .loop in
-    (omega arith, omega arith, turn-on childIn childSize (namesPages (a .n)) (a .page .now) (a .count) (a .low) (a .high) (l .j) (c .before .before .before .before .loop-test .taken) (c .before .before .before .child-key2 .ensures) (c .before .names-pages2 .ensures) (l .last) (l .inv .2) (c .before .before .if4 .left) (c .if5 .left))
+    let a = c .before .before .before .before .before .before .before .before .before .before .before .before .before .before .args in
+    let l = c .before .before .before .before .before .before .before .loop in
+    let on = children-on (a .page .now) (a .count) (a .low) (a .high) (a .n) (l .last) (l .j) (c .before .before .before .before .before .child-key2 .result) (omega (arith, c .before .before .before .before .before .before .loop-test .taken)) (c .before .before .before .before .before .child-key2 .ensures) (c .before .before .before .before .child-follows .ensures) (l .inv .2) (l .j + 1) refl (c .before .before .before .if4 .left) in
+    (omega arith, omega arith, children-on (a .page .now) (a .count) (a .low) (a .high) (a .n) (c .before .before .before .before .before .child-key2 .result) (l .j + 1) (c .before .before .child-key3 .result) (omega (arith, c .before .before .before .before .before .before .loop-test .taken)) (c .before .before .child-key3 .ensures) (c .before .child-follows2 .ensures) on (l .j + 2) (omega arith) (c .if5 .left))
 
 returns-6 : tie.Need-returns-6 Inv-loop μ-loop
-unfolding childAt
 returns-6 c =
-    let a = c .before .before .before .before .before .before .before .before .args in
-    let l = c .before .loop in
-    turns-end childIn childSize (namesPages (a .n)) (a .page .now) (a .count) (a .low) (a .high) (l .j) (l .last) (c .loop-test .left) (l .inv .2)
+    let a = c .before .before .before .before .before .before .before .before .before .args in
+    let l = c .before .before .loop in
+    children-end (a .page .now) (a .count) (a .low) (a .high) (a .n) (l .last) (l .j) (omega (arith, c .if6 .taken)) (l .inv .2)
+
+child-key-requires-4 : tie.Need-child-key-requires-4 Inv-loop μ-loop
+child-key-requires-4 c κs = search needs
+
+child-follows-requires-3 : tie.Need-child-follows-requires-3 Inv-loop μ-loop
+child-follows-requires-3 c κs = search needs
+
+returns-7 : tie.Need-returns-7 Inv-loop μ-loop
+returns-7 c =
+    let a = c .before .before .before .before .before .before .before .before .before .before .before .before .args in
+    let l = c .before .before .before .before .before .loop in
+    children-stop (a .page .now) (a .count) (a .low) (a .high) (a .n) (l .last) (l .j) (c .before .before .child-key4 .result) (omega arith) (c .before .before .child-key4 .ensures) (c .before .child-follows3 .ensures) (l .inv .2) (c .if7 .taken)
+
+returns-8 : tie.Need-returns-8 Inv-loop μ-loop
+returns-8 c =
+    let a = c .before .before .before .before .before .before .before .before .before .before .before .before .args in
+    let l = c .before .before .before .before .before .loop in
+    children-end (a .page .now) (a .count) (a .low) (a .high) (a .n) (c .before .before .child-key4 .result) (l .j + 1) (omega arith) (children-on (a .page .now) (a .count) (a .low) (a .high) (a .n) (l .last) (l .j) (c .before .before .child-key4 .result) (omega arith) (c .before .before .child-key4 .ensures) (c .before .child-follows3 .ensures) (l .inv .2) (l .j + 1) refl (c .if7 .left))
 
 pub children-pass-spec : {M : Type 1} → statement M
 children-pass-spec =
@@ -100,11 +123,20 @@ children-pass-spec =
     names-pages-requires
     returns-3
     loop-holds
+    add-loop
     child-key-requires-2
+    child-follows-requires
     returns-4
-    names-pages-requires-2
+    add-child-key
+    child-key-requires-3
+    add-child-follows
+    child-follows-requires-2
     returns-5
     add-j
     loop-less
     loop-again
-    returns-6)
+    returns-6
+    child-key-requires-4
+    child-follows-requires-3
+    returns-7
+    returns-8)
