@@ -1,3 +1,4 @@
 pub mod Spots
+pub mod Halving
 pub mod Found
 pub mod Tight

@@ -2,14 +2,13 @@
 use mathlib.Core.Path.{_≡_, refl, sym, _∙_}
 use mathlib.Core.Bool.{Bool, true, false}
 use mathlib.Core.List.{List, [], _∷_}
-use Prim.Native.Nat.{ℕ, zero, suc, _+_, _*_, _-_, _/_, _%_, _^_, _≤_, _<_}
+use Prim.Native.Nat.{ℕ, zero, suc, _+_, _*_, _-_, _≤_, _<_}
 use native.Mathlib.Omega.{arith}
-use borrow.Author.Tests.{leb-true, leb-false}
-use mir.Val.{boolByte}
-use lib.Dec.{leb}
+use borrow.Author.Tests.{leb-true, leb-false, le-leb, lt-leb, ltb-true, ltb-false, eq-eqb, ne-eqb}
+use lib.Dec.{leb, ltb, eqb}
 use lib.ListN.{length, getD}
 use Rattle.fields.specs.Field.{leAt}
-use Rattle.rules.specs.Layout.{headerSize, pageSize}
+use Rattle.rules.specs.Layout.{headerSize}
 use Rattle.rules.specs.Entry.{rising}
 use Rattle.rules.proofs.Rises.{rising-tail, rising-at-le}
 use Rattle.entries.specs.Spot.{keysIn, spotOf}
@@ -35,63 +34,58 @@ spot-below k (suc j) (x ∷ xs) h l = go (leb x k) refl (spot-below k j xs (omeg
     go true e ih = rw (spot-cons k x xs (leb-true x k e)) (omega arith)
     go false e ih = rw (spot-first k x xs (leb-false x k e)) (omega arith)
 
--- the spot lies from low on, within the `left` entries there
-pub record Among (k low left : ℕ) (ks : List ℕ) : Type 0 where
-  pub inside : low + left ≤ length ks
-  pub least : low ≤ spotOf k ks
-  pub most : spotOf k ks ≤ low + left
+-- ── A number of entries beside the spot ─────────────────────────────────────────────────────────────────────────
 
--- one step: half the entries left are passed if the last of them is not above k
-pub among-step : (k low left x : ℕ) (ks : List ℕ) → rising ks ≡ true → 0 < left → Among k low left ks
-    → x ≡ getD ks (low + (left - left / 2) - 1) 0
-    → Among k (low + (left - left / 2) * boolByte (leb x k)) (left - (left - left / 2)) ks
-among-step k low left x ks r o a e = go (leb x k) refl
-  where
-    go : (t : Bool) → leb x k ≡ t → Among k (low + (left - left / 2) * boolByte t) (left - (left - left / 2)) ks
-    go true q =
-        let up = spot-above k (low + (left - left / 2) - 1) ks r (omega (arith, a .inside)) (omega (arith, e, leb-true x k q)) in
-        record { inside = omega (arith, a .inside); least = omega (arith, up); most = omega (arith, a .most) }
-    go false q =
-        let down = spot-below k (low + (left - left / 2) - 1) ks (omega (arith, a .inside)) (omega (arith, e, leb-false x k q)) in
-        record { inside = omega (arith, a .inside); least = omega (arith, a .least); most = omega (arith, down) }
+module _ (k size count s : ℕ) (b : List ℕ) where
+  pub beyond-all : count < s → false ≡ eqb s (spotOf k (keysIn size count b))
+  beyond-all h =
+      sym (ne-eqb s (spotOf k (keysIn size count b))
+      (λ q. omega (arith, q, spot-bound k (keysIn size count b), length-keysIn size count b)))
 
--- ── Halving over the bytes of a page ────────────────────────────────────────────────────────────────────────────
+  -- no entry is always passed
+  pub reached-none : s ≡ 0 → true ≡ leb s (spotOf k (keysIn size count b))
+  reached-none z = sym (le-leb s (spotOf k (keysIn size count b)) (omega arith))
 
-pub among-all : (k size count : ℕ) (b : List ℕ) → Among k 0 count (keysIn size count b)
-among-all k size count b =
-    record {
-      inside = omega (arith, length-keysIn size count b);
-      least = omega arith;
-      most = omega (arith, spot-bound k (keysIn size count b), length-keysIn size count b);
-    }
+  pub reached-last : rising (keysIn size count b) ≡ true → s ≤ count → (s ≡ 0 → ⊥) → (x : ℕ)
+      → x ≡ leAt b (headerSize + size * (s - 1)) 8 → leb x k ≡ leb s (spotOf k (keysIn size count b))
+  reached-last r h o x e = go (leb x k) refl
+    where
+      here : x ≡ getD (keysIn size count b) (s - 1) 0
+      here = e ∙ sym (key-at size count (s - 1) b (omega arith))
 
--- the last of the next half lies on the page
-pub half-inside : (k low left size count : ℕ) (b : List ℕ) → 0 < left → Among k low left (keysIn size count b)
-    → low + (left - left / 2) - 1 < count
-half-inside k low left size count b o a = omega (arith, a .inside, length-keysIn size count b)
+      go : (t : Bool) → leb x k ≡ t → leb x k ≡ leb s (spotOf k (keysIn size count b))
+      go true q =
+          let up = spot-above k (s - 1) (keysIn size count b) r (omega (arith, length-keysIn size count b)) (omega (arith, here, leb-true x k q)) in
+          q ∙ sym (le-leb s (spotOf k (keysIn size count b)) (omega (arith, up)))
+      go false q =
+          let down = spot-below k (s - 1) (keysIn size count b) (omega (arith, length-keysIn size count b)) (omega (arith, here, leb-false x k q)) in
+          q ∙ sym (lt-leb s (spotOf k (keysIn size count b)) (omega (arith, down)))
 
-pub one-most : (t : Bool) → boolByte t ≤ 1
-one-most true = omega arith
-one-most false = omega arith
+  pub not-reached : leb s (spotOf k (keysIn size count b)) ≡ false → false ≡ eqb s (spotOf k (keysIn size count b))
+  not-reached f =
+      sym (ne-eqb s (spotOf k (keysIn size count b)) (λ q. omega (arith, q, leb-false s (spotOf k (keysIn size count b)) f)))
 
-pub step-most : (n : ℕ) (t : Bool) → n * boolByte t ≤ n
-step-most n true = omega arith
-step-most n false = omega arith
+  module _ (f : leb s (spotOf k (keysIn size count b)) ≡ true) where
+    least : s ≤ spotOf k (keysIn size count b)
+    least = leb-true s (spotOf k (keysIn size count b)) f
 
--- a step is taken or not without a jump: shifted by the answer it is doubled or not, and one is taken away again
-pub shifted : (n : ℕ) (t : Bool) → n ≤ pageSize
-    → (n ≤ (n * 2 ^ boolByte t) % 18446744073709551616) × ((n * 2 ^ boolByte t) % 18446744073709551616 - n ≡ n * boolByte t)
-shifted n true h = (omega arith, omega arith)
-shifted n false h = (omega arith, omega arith)
+    pub reached-all : s ≡ count → true ≡ eqb s (spotOf k (keysIn size count b))
+    reached-all q =
+        sym (eq-eqb s (spotOf k (keysIn size count b))
+        (omega (arith, least, spot-bound k (keysIn size count b), length-keysIn size count b)))
 
--- a page holds fewer entries than bytes
-pub few : (size count : ℕ) → 8 ≤ size → headerSize + size * count ≤ pageSize → count ≤ pageSize
-few zero count o h = absurd (omega arith)
-few (suc size) count o h = omega arith
+    -- the next entry decides
+    pub reached-next : rising (keysIn size count b) ≡ true → s < count → (x : ℕ) → x ≡ leAt b (headerSize + size * s) 8
+        → ltb k x ≡ eqb s (spotOf k (keysIn size count b))
+    reached-next r h x e = go (ltb k x) refl
+      where
+        here : x ≡ getD (keysIn size count b) s 0
+        here = e ∙ sym (key-at size count s b h)
 
-pub among-read : (k low left size count x : ℕ) (b : List ℕ) → rising (keysIn size count b) ≡ true → 0 < left
-    → Among k low left (keysIn size count b) → x ≡ leAt b (headerSize + size * (low + (left - left / 2) - 1)) 8
-    → Among k (low + (left - left / 2) * boolByte (leb x k)) (left - (left - left / 2)) (keysIn size count b)
-among-read k low left size count x b r o a e =
-    among-step k low left x (keysIn size count b) r o a
-    (e ∙ sym (key-at size count (low + (left - left / 2) - 1) b (half-inside k low left size count b o a)))
+        go : (t : Bool) → ltb k x ≡ t → ltb k x ≡ eqb s (spotOf k (keysIn size count b))
+        go true q =
+            let down = spot-below k s (keysIn size count b) (omega (arith, length-keysIn size count b)) (omega (arith, here, ltb-true k x q)) in
+            q ∙ sym (eq-eqb s (spotOf k (keysIn size count b)) (omega (arith, least, down)))
+        go false q =
+            let up = spot-above k s (keysIn size count b) r (omega (arith, length-keysIn size count b)) (omega (arith, here, ltb-false k x q)) in
+            q ∙ sym (ne-eqb s (spotOf k (keysIn size count b)) (λ z. omega (arith, z, up)))

@@ -1,84 +1,17 @@
--- `seek::seek`: the spot lies among the entries left, and in the end none is left.
+-- `seek::seek`: among keys that rise halving ends at the spot.
 -- Assumes nothing.
-use Prim.Native.Nat.{_-_, _+_, _/_}
-use lib.Dec.{leb}
+use mathlib.Core.Path.{_∙_}
 use Rattle.entries.specs.Spot.{keysIn}
-use Rattle.entries.proofs.Passed.{within}
-use Rattle.seek.proofs.Spots.{Among, among-all, among-read, few, half-inside, one-most, shifted, step-most}
+use Rattle.seek.proofs.Halving.{guess-spot}
 use borrow.Author.Needs.{needs}
-use native.Mathlib.Omega.{arith}
 use Rattle.seek.proofs.seek.Statement.{statement}
 use Rattle.seek.proofs.seek.Tie as tie
 
-abbrev Inv-loop : tie.InvT-loop
-Inv-loop page size count key low₀ left₀ low left = Among key low left (keysIn size count page)
+guess-requires : tie.Need-guess-requires
+guess-requires c κs = search needs
 
-abbrev μ-loop : tie.MeasureT-loop
-μ-loop page size count key low₀ left₀ low left = left
-
-loop-holds : tie.Need-loop-holds Inv-loop μ-loop
-loop-holds c = among-all (c .before .args .key) (c .before .args .size) (c .before .args .count) (c .before .args .page .now)
-
-sub-step : tie.Need-sub-step Inv-loop μ-loop
-sub-step c = omega arith
-
-add-get64 : tie.Need-add-get64 Inv-loop μ-loop
-add-get64 c = omega (arith, half-inside (c .before .before .before .args .key) (c .before .loop .low) (c .before .loop .left) (c .before .before .before .args .size) (c .before .before .before .args .count) (c .before .before .before .args .page .now) (omega arith) (c .before .loop .inv))
-
-sub-get64 : tie.Need-sub-get64 Inv-loop μ-loop
-sub-get64 c = omega (arith, half-inside (c .before .before .before .args .key) (c .before .loop .low) (c .before .loop .left) (c .before .before .before .args .size) (c .before .before .before .args .count) (c .before .before .before .args .page .now) (omega arith) (c .before .loop .inv))
-
-mul-get64 : tie.Need-mul-get64 Inv-loop μ-loop
-mul-get64 c = omega (arith, within (c .before .before .before .args .size) (c .before .loop .low + (c .before .loop .left - c .before .loop .left / 2) - 1) (c .before .before .before .args .count) (half-inside (c .before .before .before .args .key) (c .before .loop .low) (c .before .loop .left) (c .before .before .before .args .size) (c .before .before .before .args .count) (c .before .before .before .args .page .now) (omega arith) (c .before .loop .inv)))
-
-add-get64-2 : tie.Need-add-get64-2 Inv-loop μ-loop
-add-get64-2 c = omega (arith, within (c .before .before .before .args .size) (c .before .loop .low + (c .before .loop .left - c .before .loop .left / 2) - 1) (c .before .before .before .args .count) (half-inside (c .before .before .before .args .key) (c .before .loop .low) (c .before .loop .left) (c .before .before .before .args .size) (c .before .before .before .args .count) (c .before .before .before .args .page .now) (omega arith) (c .before .loop .inv)))
-
-get64-requires : tie.Need-get64-requires Inv-loop μ-loop
-get64-requires c κs = omega (arith, within (c .before .before .before .args .size) (c .before .loop .low + (c .before .loop .left - c .before .loop .left / 2) - 1) (c .before .before .before .args .count) (half-inside (c .before .before .before .args .key) (c .before .loop .low) (c .before .loop .left) (c .before .before .before .args .size) (c .before .before .before .args .count) (c .before .before .before .args .page .now) (omega arith) (c .before .loop .inv)))
-
-cast-low : tie.Need-cast-low Inv-loop μ-loop
-cast-low c = search needs
-
-shl-low : tie.Need-shl-low Inv-loop μ-loop
-shl-low c = omega (arith, one-most (leb (c .get64 .result) (c .before .before .before .before .args .key)))
-
-sub-low : tie.Need-sub-low Inv-loop μ-loop
-sub-low c = shifted (c .before .before .loop .left - c .before .before .loop .left / 2) (leb (c .get64 .result) (c .before .before .before .before .args .key)) (omega (arith, few (c .before .before .before .before .args .size) (c .before .before .before .before .args .count) (c .before .before .before .before .pre .0) (omega arith), half-inside (c .before .before .before .before .args .key) (c .before .before .loop .low) (c .before .before .loop .left) (c .before .before .before .before .args .size) (c .before .before .before .before .args .count) (c .before .before .before .before .args .page .now) (omega arith) (c .before .before .loop .inv))) .0
-
-add-low : tie.Need-add-low Inv-loop μ-loop
-add-low c = rw (shifted (c .before .before .loop .left - c .before .before .loop .left / 2) (leb (c .get64 .result) (c .before .before .before .before .args .key)) (omega (arith, few (c .before .before .before .before .args .size) (c .before .before .before .before .args .count) (c .before .before .before .before .pre .0) (omega arith), half-inside (c .before .before .before .before .args .key) (c .before .before .loop .low) (c .before .before .loop .left) (c .before .before .before .before .args .size) (c .before .before .before .before .args .count) (c .before .before .before .before .args .page .now) (omega arith) (c .before .before .loop .inv))) .1) (omega (arith, step-most (c .before .before .loop .left - c .before .before .loop .left / 2) (leb (c .get64 .result) (c .before .before .before .before .args .key)), few (c .before .before .before .before .args .size) (c .before .before .before .before .args .count) (c .before .before .before .before .pre .0) (omega arith), half-inside (c .before .before .before .before .args .key) (c .before .before .loop .low) (c .before .before .loop .left) (c .before .before .before .before .args .size) (c .before .before .before .before .args .count) (c .before .before .before .before .args .page .now) (omega arith) (c .before .before .loop .inv)))
-
-sub-left : tie.Need-sub-left Inv-loop μ-loop
-sub-left c = omega arith
-
-loop-less : tie.Need-loop-less Inv-loop μ-loop
-loop-less c = omega arith
-
-loop-again : tie.Need-loop-again Inv-loop μ-loop
-loop-again c = rw (shifted (c .before .before .loop .left - c .before .before .loop .left / 2) (leb (c .get64 .result) (c .before .before .before .before .args .key)) (omega (arith, few (c .before .before .before .before .args .size) (c .before .before .before .before .args .count) (c .before .before .before .before .pre .0) (omega arith), half-inside (c .before .before .before .before .args .key) (c .before .before .loop .low) (c .before .before .loop .left) (c .before .before .before .before .args .size) (c .before .before .before .before .args .count) (c .before .before .before .before .args .page .now) (omega arith) (c .before .before .loop .inv))) .1) (among-read (c .before .before .before .before .args .key) (c .before .before .loop .low) (c .before .before .loop .left) (c .before .before .before .before .args .size) (c .before .before .before .before .args .count) (c .get64 .result) (c .before .before .before .before .args .page .now) (c .before .before .before .before .pre .3) (omega arith) (c .before .before .loop .inv) (c .get64 .ensures))
-
-returns : tie.Need-returns Inv-loop μ-loop
-returns c = omega (arith, c .before .loop .inv .least, c .before .loop .inv .most)
+returns : tie.Need-returns
+returns c = c .guess .ensures ∙ guess-spot (c .before .before .args .key) (keysIn (c .before .before .args .size) (c .before .before .args .count) (c .before .before .args .page .now)) (c .before .before .pre .3)
 
 pub seek-spec : {M : Type 1} → statement M
-seek-spec =
-    tie.close
-    (tie.spec
-    Inv-loop
-    μ-loop
-    loop-holds
-    sub-step
-    add-get64
-    sub-get64
-    mul-get64
-    add-get64-2
-    get64-requires
-    cast-low
-    shl-low
-    sub-low
-    add-low
-    sub-left
-    loop-less
-    loop-again
-    returns)
+seek-spec = tie.close (tie.spec guess-requires returns)
