@@ -28,9 +28,10 @@ use Rattle.rules.proofs.All.{All, all-head}
 use Rattle.head.proofs.Headers.{headOf}
 use Rattle.marks.specs.declared.Chosen.{Chosen}
 use Rattle.marks.proofs.Needed.{lowest-at}
+use Rattle.way.specs.Ways.{Holds}
 use Rattle.way.specs.declared.Step.{Step}
 use Rattle.way.specs.declared.Way.{Way}
-use Rattle.lookup.specs.Looks.{Holds, lookedIn}
+use Rattle.lookup.specs.Looks.{lookedIn}
 use Rattle.split.specs.Split.{stepAt}
 use Rattle.plan.specs.declared.Planned.{Planned}
 use Rattle.plan.specs.Plan.{headsOf, splitsBy, chosenBy, Planning, planOf}

@@ -24,7 +24,7 @@ ghost use Rattle.rules.specs.Table.{read};
 ghost use Rattle.rules.specs.Insert;
 ghost use Rattle.rules.specs.declared.Session.{Session};
 ghost use Rattle.head.proofs.Headers.{headOf};
-ghost use Rattle.lookup.specs.Looks.{Holds};
+ghost use Rattle.way.specs.Ways.{Holds};
 ghost use Rattle.insert.specs.Inserts.{leaving, presentIn, answerOf, decidedOn, Deciding, testedBy};
 
 // The key is in the leaf, with any record.

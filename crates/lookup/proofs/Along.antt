@@ -6,20 +6,21 @@ use mathlib.Core.Option.{Option, some, none}
 use Prim.Native.Nat.{ℕ, suc, _+_, _*_, _≤_, _<_}
 use native.Mathlib.Omega.{arith}
 use lib.ListN.{length}
-use Rattle.rules.specs.Layout.{pageSize}
+use Rattle.rules.specs.Layout.{leafRoom}
 use Rattle.rules.specs.Entry.{find}
-use Rattle.rules.specs.Page.{View, Page}
-use Rattle.rules.specs.Table.{read}
+use Rattle.rules.specs.Page.{Page, pageIn}
+use Rattle.rules.specs.Table.{pageAt, read}
 use Rattle.rules.specs.Walk as rules
 use Rattle.rules.specs.Lookup.{foundIn}
 use Rattle.rules.specs.declared.Looked.{Looked}
 use Rattle.rules.proofs.All.{All, all-head}
 use Rattle.head.proofs.Headers.{headOf}
-use Rattle.way.specs.Ways.{stepOf, wayFor, walking, wayOr, told, Walking}
+use Rattle.way.specs.Ways.{Holds, stepOf, wayFor, walking, wayOr, told, spotAt, Walking}
 use Rattle.way.specs.declared.Way.{Way}
 use Rattle.way.specs.declared.Step.{Step}
 use Rattle.way.proofs.Stood.{Stood, WayStands}
-use Rattle.lookup.specs.Looks.{Holds, lookedIn, looked, answerOn, lookedAlong}
+use Rattle.lookup.specs.Looks.{foundBefore, lookedIn, looked, answerOn, lookedAlong}
+use Rattle.lookup.proofs.Leaf.{spot-room, found-leaf}
 
 module _ (n k : ℕ) (x : rules.Way) (u : List ℕ) (w : Way) (h : walking u w ≡ told x)
     (a : (steps : List rules.Step) → x .steps ≡ some steps → WayStands n k (x .table) steps) where
@@ -93,8 +94,19 @@ module _ (n k : ℕ) (x : rules.Way) (u : List ℕ) (w : Way) (h : walking u w �
         go none q = rw (q, foundIn)
         go (some v) q = rw (q, foundIn)
 
-    pub looked-leaf : (r : Looked) → r ≡ lookedIn (find k (read u (w .leaf .place .child) .view .certs)) → looked u r ≡ lookedAlong k x
+    looked-leaf : (r : Looked) → r ≡ lookedIn (find k (read u (w .leaf .place .child) .view .certs)) → looked u r ≡ lookedAlong k x
     unfolding lookedAlong answerOn
     looked-leaf r e =
         let f : r ≡ foundIn k (d .steps) = e ∙ (ap (λ (p : Page). lookedIn (find k (p .view .certs))) page ∙ (found-in (d .stands .leaf) (d .stands .rest) ∙ ap (foundIn k) (sym (d .stands .are)))) in
         rw (d .found) (cc (table, f))
+
+    -- the key's spot in that leaf
+    module _ (s : ℕ) (e : s ≡ spotAt k u (w .leaf)) where
+      pub spot-within : s ≤ leafRoom
+      unfolding read pageIn spotAt
+      spot-within = spot-room (pageAt u (w .leaf .place .child)) (w .leaf .head) leaf-head leaf-holds k s e
+
+      pub looked-before : (r : Looked) → r ≡ foundBefore k s (pageAt u (w .leaf .place .child)) → looked u r ≡ lookedAlong k x
+      unfolding read pageIn spotAt
+      looked-before r f =
+          looked-leaf r (f ∙ found-leaf (pageAt u (w .leaf .place .child)) (w .leaf .head) leaf-head leaf-holds k s e)

@@ -5,31 +5,34 @@
 // behind a refusal. The record is that of an entry with the whole key: where the last key not above it is another one,
 // the certificate is missing.
 //
+// The way ends with the key's spot in its leaf, which was guessed before the leaf was tested and confirmed after it, so
+// that a lookup searches no page a second time.
+//
 // Below stand `tables`, which tests lengths, `keys`, `way`, which walks, and `seek`, which finds a key on a page.
 use rules::Looked;
 use rules::Looking;
+use rules::PAGE;
 use rules::Session;
 use way::Step;
 ghost use mathlib.Core.Path.{_≡_};
 ghost use mathlib.Core.Bool.{true};
 ghost use Prim.Native.Nat.{_+_, _*_, _≤_, _<_};
 ghost use lib.ListN.{length, drop};
-ghost use Rattle.rules.specs.Layout.{pageSize, headerSize, certSize};
+ghost use Rattle.rules.specs.Layout.{pageSize, headerSize, certSize, leafRoom};
 ghost use Rattle.rules.specs.Entry.{keys, find, rising};
 ghost use Rattle.rules.specs.Page.{readEach, certIn};
-ghost use Rattle.rules.specs.Table.{read, fit0};
+ghost use Rattle.rules.specs.Table.{pageAt, read, fit0};
 ghost use Rattle.rules.specs.Walk.{wayOf};
 ghost use Rattle.rules.specs.Lookup;
 ghost use Rattle.head.proofs.Headers.{headOf};
-ghost use Rattle.lookup.specs.Looks.{Holds, lookedIn, leaving, looked, lookedAlong};
+ghost use Rattle.way.specs.Ways.{Holds};
+ghost use Rattle.lookup.specs.Looks.{foundBefore, lookedIn, leaving, looked, lookedAlong};
 
-// What stands under a key in a leaf.
-fn find_in(page: &[u8], count: usize, key: u64) -> Looked
-    requires { ⌜ (headerSize + certSize * count ≤ length (now page)) × (length (now page) ≤ pageSize)
-        × (rising (keys (readEach certIn certSize count (drop headerSize (now page)))) ≡ true) ⌝ }
-    ensures { λ r. ⌜ r ≡ lookedIn (find key (readEach certIn certSize count (drop headerSize (now (page .entry))))) ⌝ }
+// What stands under a key in a leaf, by the key's spot: the entry before it has the key, or none has.
+fn find_in(page: &[u8], spot: usize, key: u64) -> Looked
+    requires { ⌜ headerSize + certSize * spot ≤ length (now page) ⌝ }
+    ensures { λ r. ⌜ r ≡ foundBefore key spot (now (page .entry)) ⌝ }
 {
-    let spot = seek::seek(page, rules::CERT, count, key);
     if spot == 0 {
         return Looked::Missing;
     }
@@ -39,15 +42,35 @@ fn find_in(page: &[u8], count: usize, key: u64) -> Looked
     Looked::Found(head::cert_record(page, spot - 1))
 }
 
+// The same on page i of a table.
+fn find_on(table: &[u8], i: u16, spot: usize, key: u64) -> Looked
+    requires { ⌜ ((i + 1) * pageSize ≤ length (now table)) × (spot ≤ leafRoom) ⌝ }
+    ensures { λ r. ⌜ r ≡ foundBefore key spot (pageAt (now (table .entry)) i) ⌝ }
+{
+    let from = i as usize * PAGE;
+    let to = from + PAGE;
+    find_in(&table[from..to], spot, key)
+}
+
+// What stands under a key in a leaf whose keys rise.
+fn seek_in(page: &[u8], count: usize, key: u64) -> Looked
+    requires { ⌜ (headerSize + certSize * count ≤ length (now page)) × (length (now page) ≤ pageSize)
+        × (rising (keys (readEach certIn certSize count (drop headerSize (now page)))) ≡ true) ⌝ }
+    ensures { λ r. ⌜ r ≡ lookedIn (find key (readEach certIn certSize count (drop headerSize (now (page .entry))))) ⌝ }
+{
+    let spot = seek::seek(page, rules::CERT, count, key);
+    find_in(page, spot, key)
+}
+
 // The same in the leaf at the end of a way.
 pub fn find_at(table: &[u8], leaf: Step, key: u64) -> Looked
     requires { ⌜ ((leaf .place .child + 1) * pageSize ≤ length (now table))
         × (leaf .head ≡ headOf (read (now table) (leaf .place .child))) × (Holds (read (now table) (leaf .place .child) .view)) ⌝ }
     ensures { λ r. ⌜ r ≡ lookedIn (find key (read (now (table .entry)) (leaf .place .child) .view .certs)) ⌝ }
 {
-    let from = leaf.place.child as usize * rules::PAGE;
-    let to = from + rules::PAGE;
-    find_in(&table[from..to], leaf.head.count as usize, key)
+    let from = leaf.place.child as usize * PAGE;
+    let to = from + PAGE;
+    seek_in(&table[from..to], leaf.head.count as usize, key)
 }
 
 // A key looked for along its way.
@@ -59,7 +82,7 @@ fn look(t: &mut [u8], n: usize, c: u32, key: u64) -> Looked
     if end.len == 0 {
         return Looked::Damaged;
     }
-    find_at(t, end.leaf, key)
+    find_on(t, end.leaf.place.child, end.spot, key)
 }
 
 pub fn lookup(

@@ -28,7 +28,7 @@ use Rattle.enter.specs.Entering as enters
 use Rattle.enter.specs.declared.Entered.{Entered}
 use Rattle.enter.specs.declared.Above.{Above}
 use Rattle.enter.proofs.Told.{enter-same, told-table, told-page, told-damaged}
-use Rattle.way.specs.Ways.{Leads, stepOf, firstOf, restOf, wayFor, thenOf, aboveIn, walking, wayOr, told}
+use Rattle.way.specs.Ways.{Leads, Holds, stepOf, firstOf, restOf, wayFor, thenOf, aboveIn, walking, wayOr, told}
 use Rattle.way.specs.declared.Step.{Step}
 use Rattle.way.specs.declared.Way.{Way}
 use Rattle.way.proofs.Stood.{Ready, ready-root, ready-next, Stood, stood-here}
@@ -162,6 +162,16 @@ module _ {n c k : ℕ} {t₀ t : List ℕ} {w : Way} {e : Place} {level : ℕ} (
         ap (λ (x : List ℕ). walking x (thenOf w (record { place = e; head = h }))) table
         ∙ (ap (walking (entry.enter n c (rules.numbers (d .above)) t e .table)) then-here
         ∙ sym (ap told (d .rest ∙ (one-level ∙ descend-leaf (level - 1) n c k (d .above) t e (page .0) (page .1) o))))
+
+    pub holds : h .kind ≡ leafKind → Holds (read u (e .child) .view)
+    holds q =
+        let s = stood .fits .sound in
+        let l : Holds (page .0 .view) = record {
+          leaf = leaf-of-kind (page .0 .view) (sym kind-here ∙ q);
+          room = s .certs-room;
+          rise = s .certs-rise;
+        } in
+        subst (λ (x : Page). Holds (x .view)) (sym here) l
 
     module _ (q : h .kind ≡ leafKind → ⊥) where
       inner-here : isLeaf (page .0 .view) ≡ false

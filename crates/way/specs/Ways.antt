@@ -5,13 +5,15 @@ use mathlib.Core.Bool.{true, false}
 use mathlib.Core.List.{List, [], _∷_}
 use mathlib.Core.Option.{Option, some, none}
 use lib.ListN.{length}
-use Rattle.rules.specs.Layout.{innerRoom}
+use Rattle.rules.specs.Layout.{certSize, leafRoom, innerRoom}
 use Rattle.rules.specs.Entry.{keys, rising}
 use Rattle.rules.specs.Page.{View, Page, isLeaf}
 use Rattle.rules.specs.Sound.{startsAt}
+use Rattle.rules.specs.Table.{pageAt}
 use Rattle.rules.specs.Walk as rules
 use Rattle.rules.specs.declared.Place.{Place}
 use Rattle.head.proofs.Headers.{headOf}
+use Rattle.entries.specs.Spot.{keysIn, spotOf}
 use Rattle.enter.specs.declared.Above.{Above}
 use Rattle.way.specs.declared.Step.{Step}
 use Rattle.way.specs.declared.Way.{Way}
@@ -66,7 +68,11 @@ told w = record { table = w .table; way = wayOr (w .steps) }
 -- ── The end of a way alone ──────────────────────────────────────────────────────────────────────────────────────
 
 abbrev pub noEnd : End
-noEnd = record { len = 0; leaf = noStep }
+noEnd = record { len = 0; leaf = noStep; spot = 0 }
+
+-- how many keys of the leaf of a step stand before the first one above k; of no step none
+unfoldable pub spotAt : ℕ → List ℕ → Step → ℕ
+spotAt k t s = spotOf k (keysIn certSize (s .head .count) (pageAt t (s .place .child)))
 
 pub record Ending : Type 0 where
   pub table : List ℕ
@@ -75,8 +81,16 @@ pub record Ending : Type 0 where
 abbrev pub ending : List ℕ → End → Ending
 ending t e = record { table = t; end = e }
 
-abbrev pub endIn : Walking → Ending
-endIn w = ending (w .table) (record { len = w .way .len; leaf = w .way .leaf })
+abbrev pub endIn : ℕ → Walking → Ending
+endIn k w = ending (w .table) (record { len = w .way .len; leaf = w .way .leaf; spot = spotAt k (w .table) (w .way .leaf) })
+
+-- ── A leaf ──────────────────────────────────────────────────────────────────────────────────────────────────────
+
+-- what a leaf must be for its keys to be sought by halving, as every sound leaf is
+pub record Holds (v : View) : Type 0 where
+  pub leaf : isLeaf v ≡ true
+  pub room : length (v .certs) ≤ leafRoom
+  pub rise : rising (keys (v .certs)) ≡ true
 
 -- ── An inner page that leads on ─────────────────────────────────────────────────────────────────────────────────
 

@@ -3,12 +3,23 @@
 // `way_of` leaves the table as the rules' `wayOf` leaves it, and hands back each page entered: the place that asked for
 // it and its header, the leaf first. A way is at most three pages long. A way of no pages met a damaged place.
 //
+// Each page is searched before it is tested: the processor then searches while it tests, and a search is mostly waiting.
+// What such a search finds is a guess, and nothing is done by it until the page is known to be sound and the guess is
+// confirmed there.
+//
 // Below stand `enter`, which enters one place, and `seek`, which finds a key on a page.
 use enter::Above;
 use enter::Entered;
 use head::Head;
+use rules::AT_COUNT;
+use rules::AT_KIND;
+use rules::CERT;
+use rules::CHILD;
+use rules::INNER_ROOM;
 use rules::LEAF;
+use rules::LEAF_ROOM;
 use rules::LEVELS;
+use rules::PAGE;
 use rules::Place;
 ghost use mathlib.Core.Path.{_≡_};
 ghost use mathlib.Core.Bool.{true};
@@ -24,7 +35,7 @@ ghost use Rattle.rules.specs.Place.{placesIn, kids, pick};
 ghost use Rattle.rules.specs.Walk.{wayOf};
 ghost use Rattle.entries.specs.Spot.{keysIn, spotOf};
 ghost use Rattle.head.proofs.Headers.{headOf};
-ghost use Rattle.way.specs.Ways.{Leads, noStep, wayFor, thenOf, aboveIn, walking, told, noEnd, ending, endIn};
+ghost use Rattle.way.specs.Ways.{Leads, Holds, noStep, wayFor, thenOf, aboveIn, walking, told, noEnd, spotAt, ending, endIn};
 
 // A page entered: the place that asked for it, and its header.
 pub struct Step {
@@ -41,10 +52,12 @@ pub struct Way {
     pub top: Step,
 }
 
-// The end of a way: its leaf, and how many pages were entered; none of a way that met a damaged place.
+// The end of a way: its leaf, how many pages were entered, and how many of the leaf's keys are not above the one sought;
+// no pages of a way that met a damaged place.
 pub struct End {
     pub len: usize,
     pub leaf: Step,
+    pub spot: usize,
 }
 
 fn no_step() -> Step
@@ -109,33 +122,72 @@ fn above(way: Way) -> Above
     }
 }
 
+// Where a key may stand on a page that nobody has tested. No contract says more than that the answer comes: a page that
+// is not sound may give any number, and every use of the number begins with its confirmation.
+fn look_in(page: &[u8], key: u64) -> usize
+    requires { ⌜ length (now page) ≡ pageSize ⌝ }
+{
+    let count = fields::get16(page, AT_COUNT);
+    if fields::get16(page, AT_KIND) == LEAF {
+        if count > LEAF_ROOM {
+            return 0;
+        }
+        return seek::guess(page, CERT, count as usize, key);
+    }
+    if count > INNER_ROOM {
+        return 0;
+    }
+    seek::guess(page, CHILD, count as usize, key)
+}
+
+// The same on page i of a table.
+fn look_ahead(table: &[u8], i: u16, key: u64) -> usize
+    requires { ⌜ (i + 1) * pageSize ≤ length (now table) ⌝ }
+{
+    let from = i as usize * PAGE;
+    let to = from + PAGE;
+    look_in(&table[from..to], key)
+}
+
 // The place that an inner page's entries ask for at a key.
-fn place_in(page: &[u8], kind: u16, count: usize, high: u64, key: u64) -> Place
+fn place_in(page: &[u8], kind: u16, count: usize, high: u64, key: u64, guess: usize) -> Place
     requires { ⌜ (1 ≤ kind) × (headerSize + childSize * count ≤ length (now page)) × (length (now page) ≤ pageSize)
         × (rising (keys (readEach childIn childSize count (drop headerSize (now page)))) ≡ true) × (key ≤ high)
         × (1 ≤ spotOf key (keysIn childSize count (now page))) ⌝ }
     ensures { λ r. ⌜ pick key (placesIn (kind - 1) high (readEach childIn childSize count (drop headerSize (now (page .entry)))))
         ≡ some r ⌝ }
 {
-    let spot = seek::seek(page, rules::CHILD, count, key);
+    let spot = seek::confirm(page, CHILD, count, key, guess);
     head::kid(page, count, spot - 1, kind - 1, high)
 }
 
 // The same below a page that was entered.
-fn place_below(table: &[u8], e: Place, head: Head, key: u64) -> Place
+fn place_below(table: &[u8], e: Place, head: Head, key: u64, guess: usize) -> Place
     requires { ⌜ ((e .child + 1) * pageSize ≤ length (now table)) × (head ≡ headOf (read (now table) (e .child)))
         × (Leads key e (read (now table) (e .child) .view)) ⌝ }
     ensures { λ r. ⌜ pick key (kids e (read (now (table .entry)) (e .child) .view)) ≡ some r ⌝ }
 {
-    let from = e.child as usize * rules::PAGE;
-    let to = from + rules::PAGE;
+    let from = e.child as usize * PAGE;
+    let to = from + PAGE;
     place_in(
         &table[from..to],
         head.kind,
         head.count as usize,
         e.high,
         key,
+        guess,
     )
+}
+
+// How many of a leaf's keys are not above this one, in a leaf that was entered.
+fn spot_at(table: &[u8], leaf: Step, key: u64, guess: usize) -> usize
+    requires { ⌜ ((leaf .place .child + 1) * pageSize ≤ length (now table))
+        × (leaf .head ≡ headOf (read (now table) (leaf .place .child))) × (Holds (read (now table) (leaf .place .child) .view)) ⌝ }
+    ensures { λ r. ⌜ r ≡ spotAt key (now (table .entry)) leaf ⌝ }
+{
+    let from = leaf.place.child as usize * PAGE;
+    let to = from + PAGE;
+    seek::confirm(&table[from..to], CERT, leaf.head.count as usize, key, guess)
 }
 
 pub fn way_of(t: &mut [u8], n: usize, c: u32, key: u64) -> Way
@@ -146,6 +198,7 @@ pub fn way_of(t: &mut [u8], n: usize, c: u32, key: u64) -> Way
     let mut e = head::root_place(t);
     let mut level = LEVELS;
     while 0 < level {
+        let guess = look_ahead(t, e.child, key);
         let Entered::Page(head) = enter::enter(t, n, c, above(way), e) else {
             return no_way();
         };
@@ -153,7 +206,7 @@ pub fn way_of(t: &mut [u8], n: usize, c: u32, key: u64) -> Way
         if head.kind == LEAF {
             return way;
         }
-        e = place_below(t, e, head, key);
+        e = place_below(t, e, head, key, guess);
         level -= 1;
     }
     no_way()
@@ -164,19 +217,24 @@ fn no_end() -> End
     ensures { λ r. ⌜ r ≡ noEnd ⌝ }
 {
     let leaf = no_step();
-    End { len: 0, leaf }
+    End {
+        len: 0,
+        leaf,
+        spot: 0,
+    }
 }
 
 // The same way for those who want its leaf alone: of the pages above only the numbers are kept, since a way has 272
 // bytes, and a lookup would build and pass on all of them.
 pub fn leaf_of(t: &mut [u8], n: usize, c: u32, key: u64) -> End
     requires { ⌜ (length (now t) ≡ n * pageSize) × (fit0 n (now t) ≡ true) ⌝ }
-    ensures { λ r. ⌜ ending (now (t .exit)) r ≡ endIn (told (wayOf n c key (now (t .entry)))) ⌝ }
+    ensures { λ r. ⌜ ending (now (t .exit)) r ≡ endIn key (told (wayOf n c key (now (t .entry)))) ⌝ }
 {
     let mut above = Above { parent: 0, top: 0 };
     let mut e = head::root_place(t);
     let mut level = LEVELS;
     while 0 < level {
+        let guess = look_ahead(t, e.child, key);
         let Entered::Page(page) = enter::enter(t, n, c, above, e) else {
             return no_end();
         };
@@ -185,17 +243,16 @@ pub fn leaf_of(t: &mut [u8], n: usize, c: u32, key: u64) -> End
                 place: e,
                 head: page,
             };
-            return End {
-                len: LEVELS - level + 1,
-                leaf,
-            };
+            let len = LEVELS - level + 1;
+            let spot = spot_at(t, leaf, key, guess);
+            return End { len, leaf, spot };
         }
         let top = above.parent;
         above = Above {
             parent: e.child,
             top,
         };
-        e = place_below(t, e, page, key);
+        e = place_below(t, e, page, key, guess);
         level -= 1;
     }
     no_end()

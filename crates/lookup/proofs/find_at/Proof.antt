@@ -7,7 +7,7 @@ use Rattle.rules.specs.Table.{pageAt, read}
 use Rattle.rules.proofs.Tables.{length-pageAt}
 use Rattle.entries.proofs.Part.{page-part}
 use Rattle.lookup.specs.Looks.{lookedIn}
-use Rattle.lookup.proofs.Leaf.{certs-are, holds-room, holds-rise}
+use Rattle.way.proofs.Leaf.{certs-are, holds-room, holds-rise}
 use native.Mathlib.Omega.{arith}
 use borrow.Author.Needs.{needs}
 use Rattle.lookup.proofs.find_at.Statement.{statement}
@@ -22,25 +22,25 @@ mul-from c = search needs
 add-to : tie.Need-add-to
 add-to c = search needs
 
-sub-find-in : tie.Need-sub-find-in
-sub-find-in c = search needs
+sub-seek-in : tie.Need-sub-seek-in
+sub-seek-in c = search needs
 
-part-find-in-start : tie.Need-part-find-in-start
-part-find-in-start c = search needs
+part-seek-in-start : tie.Need-part-seek-in-start
+part-seek-in-start c = search needs
 
-part-find-in-end : tie.Need-part-find-in-end
-part-find-in-end c = search needs
+part-seek-in-end : tie.Need-part-seek-in-end
+part-seek-in-end c = search needs
 
-cast-find-in : tie.Need-cast-find-in
-cast-find-in c = search needs
+cast-seek-in : tie.Need-cast-seek-in
+cast-seek-in c = search needs
 
-find-in-requires : tie.Need-find-in-requires
+seek-in-requires : tie.Need-seek-in-requires
 unfolding read pageIn
-find-in-requires c κs = let b = pageAt (c .before .before .before .before .args .table .now) (c .before .before .before .before .args .leaf .place .child) in let l = length-pageAt (c .before .before .before .before .args .table .now) (c .before .before .before .before .args .leaf .place .child) (omega arith) in rw (page-part (c .before .before .before .before .args .table .now) (c .before .before .before .before .args .leaf .place .child)) (omega (arith, l, holds-room b (c .before .before .before .before .args .leaf .head) (c .before .before .before .before .pre .1) (c .before .before .before .before .pre .2)), omega (arith, l), holds-rise b (c .before .before .before .before .args .leaf .head) (c .before .before .before .before .pre .1) (c .before .before .before .before .pre .2))
+seek-in-requires c κs = let b = pageAt (c .before .before .before .before .args .table .now) (c .before .before .before .before .args .leaf .place .child) in let l = length-pageAt (c .before .before .before .before .args .table .now) (c .before .before .before .before .args .leaf .place .child) (omega arith) in rw (page-part (c .before .before .before .before .args .table .now) (c .before .before .before .before .args .leaf .place .child)) (omega (arith, l, holds-room b (c .before .before .before .before .args .leaf .head) (c .before .before .before .before .pre .1) (c .before .before .before .before .pre .2)), omega (arith, l), holds-rise b (c .before .before .before .before .args .leaf .head) (c .before .before .before .before .pre .1) (c .before .before .before .before .pre .2))
 
 returns : tie.Need-returns
 unfolding read pageIn
-returns c = let b = pageAt (c .before .before .before .before .before .args .table .now) (c .before .before .before .before .before .args .leaf .place .child) in rw (page-part (c .before .before .before .before .before .args .table .now) (c .before .before .before .before .before .args .leaf .place .child)) at (c .find-in .ensures) ∙ ap (λ xs. lookedIn (find (c .before .before .before .before .before .args .key) xs)) (sym (certs-are b (c .before .before .before .before .before .args .leaf .head) (c .before .before .before .before .before .pre .1) (c .before .before .before .before .before .pre .2)))
+returns c = let b = pageAt (c .before .before .before .before .before .args .table .now) (c .before .before .before .before .before .args .leaf .place .child) in rw (page-part (c .before .before .before .before .before .args .table .now) (c .before .before .before .before .before .args .leaf .place .child)) at (c .seek-in .ensures) ∙ ap (λ xs. lookedIn (find (c .before .before .before .before .before .args .key) xs)) (sym (certs-are b (c .before .before .before .before .before .args .leaf .head) (c .before .before .before .before .before .pre .1) (c .before .before .before .before .before .pre .2)))
 
 pub find-at-spec : {M : Type 1} → statement M
 find-at-spec =
@@ -49,9 +49,9 @@ find-at-spec =
     cast-from
     mul-from
     add-to
-    sub-find-in
-    part-find-in-start
-    part-find-in-end
-    cast-find-in
-    find-in-requires
+    sub-seek-in
+    part-seek-in-start
+    part-seek-in-end
+    cast-seek-in
+    seek-in-requires
     returns)

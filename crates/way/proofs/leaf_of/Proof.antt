@@ -3,7 +3,7 @@
 use Rattle.enter.specs.Entering.{entering}
 use mathlib.Core.Path.{sym, ap, _∙_}
 use Rattle.way.specs.Ways.{ending}
-use Rattle.way.proofs.Descent.{head-here, leads, has-zero}
+use Rattle.way.proofs.Descent.{head-here, holds, leads, has-zero}
 use Rattle.way.proofs.Ending.{Seeking, begins, runs-out, damaged, ends, goes-on}
 use borrow.Author.Needs.{needs}
 use native.Mathlib.Omega.{arith}
@@ -22,8 +22,11 @@ root-place-requires c κs = has-zero (c .before .before .args .n) (c .before .be
 loop-holds : tie.Need-loop-holds Inv-loop μ-loop
 loop-holds c = begins (c .before .before .before .args .n) (c .before .before .before .args .c) (c .before .before .before .args .key) (c .before .before .before .args .t .now) (c .root-place .result) (c .before .before .before .pre .0) (c .before .before .before .pre .1) (c .before .before .slice-known .given) (c .root-place .ensures) (omega (arith, c .before .before .before .fits .c)) (omega (arith, c .before .before .before .fits .key))
 
+look-ahead-requires : tie.Need-look-ahead-requires Inv-loop μ-loop
+look-ahead-requires c κs = omega (arith, c .before .before .loop .inv .descent .ready .long, c .before .before .loop .inv .descent .ready .child-below)
+
 enter-requires : tie.Need-enter-requires Inv-loop μ-loop
-enter-requires c κs = (c .before .before .loop .inv .descent .ready .long, c .before .before .loop .inv .descent .ready .child-below)
+enter-requires c κs = (c .before .before .before .before .loop .inv .descent .ready .long, c .before .before .before .before .loop .inv .descent .ready .child-below)
 
 enum-known-page : tie.Need-enum-known-page Inv-loop μ-loop
 enum-known-page c = search needs
@@ -35,34 +38,37 @@ no-end-requires : tie.Need-no-end-requires Inv-loop μ-loop
 no-end-requires c κs = search needs
 
 same-length : tie.Need-same-length Inv-loop μ-loop
-same-length c = omega (arith, c .before .before .before .before .before .enter .kept .0, c .before .before .before .before .before .before .before .before .loop .inv .descent .ready .long, c .before .before .before .before .before .before .before .before .before .before .before .before .pre .0)
+same-length c = omega (arith, c .before .before .before .before .before .enter .kept .0, c .before .before .before .before .before .before .before .before .before .before .loop .inv .descent .ready .long, c .before .before .before .before .before .before .before .before .before .before .before .before .before .before .pre .0)
 
 returns : tie.Need-returns Inv-loop μ-loop
-returns c = ap (ending (c .before .before .before .before .before .enter .last .0)) (c .no-end .ensures) ∙ damaged (c .before .before .before .before .before .before .before .before .loop .inv) (c .before .before .before .before .before .before .before .loop-test .taken) (c .before .before .before .before .before .enter .last .0) (ap (entering (c .before .before .before .before .before .enter .last .0)) (sym (c .before .enum-told .given .1)) ∙ c .before .before .before .before .before .enter .ensures)
+returns c = ap (ending (c .before .before .before .before .before .enter .last .0)) (c .no-end .ensures) ∙ damaged (c .before .before .before .before .before .before .before .before .before .before .loop .inv) (c .before .before .before .before .before .before .before .before .before .loop-test .taken) (c .before .before .before .before .before .enter .last .0) (ap (entering (c .before .before .before .before .before .enter .last .0)) (sym (c .before .enum-told .given .1)) ∙ c .before .before .before .before .before .enter .ensures)
 
-sub-t17 : tie.Need-sub-t17 Inv-loop μ-loop
-sub-t17 c = omega (arith, c .before .before .before .before .before .before .before .before .before .before .loop .inv .descent .deep)
+sub-len : tie.Need-sub-len Inv-loop μ-loop
+sub-len c = omega (arith, c .before .before .before .before .before .before .before .before .before .before .before .before .loop .inv .descent .deep)
 
-add-t18 : tie.Need-add-t18 Inv-loop μ-loop
-add-t18 c = omega (arith, c .before .before .before .before .before .before .before .before .before .before .loop .inv .descent .deep)
+add-len : tie.Need-add-len Inv-loop μ-loop
+add-len c = omega (arith, c .before .before .before .before .before .before .before .before .before .before .before .before .loop .inv .descent .deep)
+
+spot-at-requires : tie.Need-spot-at-requires Inv-loop μ-loop
+spot-at-requires c κs = let f = ap (entering (c .before .before .before .before .before .before .before .before .enter .last .0)) (sym (c .before .before .before .before .page .given .1)) ∙ c .before .before .before .before .before .before .before .before .enter .ensures in (omega (arith, c .before .before .before .before .before .before .before .before .enter .kept .0, c .before .before .before .before .before .before .before .before .before .before .before .before .before .loop .inv .descent .ready .long, c .before .before .before .before .before .before .before .before .before .before .before .before .before .loop .inv .descent .ready .child-below), head-here (c .before .before .before .before .before .before .before .before .before .before .before .before .before .loop .inv .descent) (c .before .before .before .before .before .before .before .before .before .before .before .before .loop-test .taken) (c .before .before .before .before .before .before .before .before .before .before .before .before .before .loop .above) (c .before .before .before .before .before .before .before .before .before .before .before .before .before .loop .inv .above) (c .before .before .before .before .before .before .before .before .enter .last .0) (c .before .before .before .before .page .given .0 .0) f, holds (c .before .before .before .before .before .before .before .before .before .before .before .before .before .loop .inv .descent) (c .before .before .before .before .before .before .before .before .before .before .before .before .loop-test .taken) (c .before .before .before .before .before .before .before .before .before .before .before .before .before .loop .above) (c .before .before .before .before .before .before .before .before .before .before .before .before .before .loop .inv .above) (c .before .before .before .before .before .before .before .before .enter .last .0) (c .before .before .before .before .page .given .0 .0) f (c .before .if1 .taken))
 
 same-length-2 : tie.Need-same-length-2 Inv-loop μ-loop
-same-length-2 c = omega (arith, c .before .before .before .before .before .before .before .enter .kept .0, c .before .before .before .before .before .before .before .before .before .before .loop .inv .descent .ready .long, c .before .before .before .before .before .before .before .before .before .before .before .before .before .before .pre .0)
+same-length-2 c = omega (arith, c .before .before .before .before .before .before .before .before .before .enter .kept .0, c .before .before .before .before .before .before .before .before .before .before .before .before .before .before .loop .inv .descent .ready .long, c .before .before .before .before .before .before .before .before .before .before .before .before .before .before .before .before .before .before .pre .0)
 
 returns-2 : tie.Need-returns-2 Inv-loop μ-loop
-returns-2 c = ends (c .before .before .before .before .before .before .before .before .before .before .loop .inv) (c .before .before .before .before .before .before .before .before .before .loop-test .taken) (c .before .before .before .before .before .before .before .enter .last .0) (c .before .before .before .page .given .0 .0) (ap (entering (c .before .before .before .before .before .before .before .enter .last .0)) (sym (c .before .before .before .page .given .1)) ∙ c .before .before .before .before .before .before .before .enter .ensures) (c .if1 .taken)
+returns-2 c = ends (c .before .before .before .before .before .before .before .before .before .before .before .before .before .before .loop .inv) (c .before .before .before .before .before .before .before .before .before .before .before .before .before .loop-test .taken) (c .before .before .before .before .before .before .before .before .before .enter .last .0) (c .before .before .before .before .before .page .given .0 .0) (ap (entering (c .before .before .before .before .before .before .before .before .before .enter .last .0)) (sym (c .before .before .before .before .before .page .given .1)) ∙ c .before .before .before .before .before .before .before .before .before .enter .ensures) (c .before .before .if1 .taken) (c .spot-at .result) (c .spot-at .ensures)
 
 place-below-requires : tie.Need-place-below-requires Inv-loop μ-loop
-place-below-requires c κs = let f = ap (entering (c .before .before .before .before .before .before .before .before .enter .last .0)) (sym (c .before .before .before .before .page .given .1)) ∙ c .before .before .before .before .before .before .before .before .enter .ensures in (omega (arith, c .before .before .before .before .before .before .before .before .enter .kept .0, c .before .before .before .before .before .before .before .before .before .before .before .loop .inv .descent .ready .long, c .before .before .before .before .before .before .before .before .before .before .before .loop .inv .descent .ready .child-below), head-here (c .before .before .before .before .before .before .before .before .before .before .before .loop .inv .descent) (c .before .before .before .before .before .before .before .before .before .before .loop-test .taken) (c .before .before .before .before .before .before .before .before .before .before .before .loop .above) (c .before .before .before .before .before .before .before .before .before .before .before .loop .inv .above) (c .before .before .before .before .before .before .before .before .enter .last .0) (c .before .before .before .before .page .given .0 .0) f, leads (c .before .before .before .before .before .before .before .before .before .before .before .loop .inv .descent) (c .before .before .before .before .before .before .before .before .before .before .loop-test .taken) (c .before .before .before .before .before .before .before .before .before .before .before .loop .above) (c .before .before .before .before .before .before .before .before .before .before .before .loop .inv .above) (c .before .before .before .before .before .before .before .before .enter .last .0) (c .before .before .before .before .page .given .0 .0) f (c .before .if1 .left))
+place-below-requires c κs = let f = ap (entering (c .before .before .before .before .before .before .before .before .enter .last .0)) (sym (c .before .before .before .before .page .given .1)) ∙ c .before .before .before .before .before .before .before .before .enter .ensures in (omega (arith, c .before .before .before .before .before .before .before .before .enter .kept .0, c .before .before .before .before .before .before .before .before .before .before .before .before .before .loop .inv .descent .ready .long, c .before .before .before .before .before .before .before .before .before .before .before .before .before .loop .inv .descent .ready .child-below), head-here (c .before .before .before .before .before .before .before .before .before .before .before .before .before .loop .inv .descent) (c .before .before .before .before .before .before .before .before .before .before .before .before .loop-test .taken) (c .before .before .before .before .before .before .before .before .before .before .before .before .before .loop .above) (c .before .before .before .before .before .before .before .before .before .before .before .before .before .loop .inv .above) (c .before .before .before .before .before .before .before .before .enter .last .0) (c .before .before .before .before .page .given .0 .0) f, leads (c .before .before .before .before .before .before .before .before .before .before .before .before .before .loop .inv .descent) (c .before .before .before .before .before .before .before .before .before .before .before .before .loop-test .taken) (c .before .before .before .before .before .before .before .before .before .before .before .before .before .loop .above) (c .before .before .before .before .before .before .before .before .before .before .before .before .before .loop .inv .above) (c .before .before .before .before .before .before .before .before .enter .last .0) (c .before .before .before .before .page .given .0 .0) f (c .before .if1 .left))
 
 sub-level : tie.Need-sub-level Inv-loop μ-loop
-sub-level c = omega (arith, c .before .before .before .before .before .before .before .before .before .before .before .loop-test .taken)
+sub-level c = omega (arith, c .before .before .before .before .before .before .before .before .before .before .before .before .before .loop-test .taken)
 
 loop-less : tie.Need-loop-less Inv-loop μ-loop
-loop-less c = omega (arith, c .before .before .before .before .before .before .before .before .before .before .before .loop-test .taken)
+loop-less c = omega (arith, c .before .before .before .before .before .before .before .before .before .before .before .before .before .loop-test .taken)
 
 loop-again : tie.Need-loop-again Inv-loop μ-loop
-loop-again c = let f = ap (entering (c .before .before .before .before .before .before .before .before .before .enter .last .0)) (sym (c .before .before .before .before .before .page .given .1)) ∙ c .before .before .before .before .before .before .before .before .before .enter .ensures in goes-on (c .before .before .before .before .before .before .before .before .before .before .before .before .loop .inv) (c .before .before .before .before .before .before .before .before .before .before .before .loop-test .taken) (c .before .before .before .before .before .before .before .before .before .enter .last .0) (c .before .before .before .before .before .page .given .0 .0) f (c .before .before .if1 .left) (c .place-below .result) (c .place-below .ensures)
+loop-again c = let f = ap (entering (c .before .before .before .before .before .before .before .before .before .enter .last .0)) (sym (c .before .before .before .before .before .page .given .1)) ∙ c .before .before .before .before .before .before .before .before .before .enter .ensures in goes-on (c .before .before .before .before .before .before .before .before .before .before .before .before .before .before .loop .inv) (c .before .before .before .before .before .before .before .before .before .before .before .before .before .loop-test .taken) (c .before .before .before .before .before .before .before .before .before .enter .last .0) (c .before .before .before .before .before .page .given .0 .0) f (c .before .before .if1 .left) (c .place-below .result) (c .place-below .ensures)
 
 no-end-requires-2 : tie.Need-no-end-requires-2 Inv-loop μ-loop
 no-end-requires-2 c κs = search needs
@@ -81,14 +87,16 @@ leaf-of-spec =
     μ-loop
     root-place-requires
     loop-holds
+    look-ahead-requires
     enter-requires
     enum-known-page
     enum-told
     no-end-requires
     same-length
     returns
-    sub-t17
-    add-t18
+    sub-len
+    add-len
+    spot-at-requires
     same-length-2
     returns-2
     place-below-requires

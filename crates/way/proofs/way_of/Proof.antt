@@ -25,11 +25,14 @@ root-place-requires c κs = has-zero (c .before .before .before .args .n) (c .be
 loop-holds : tie.Need-loop-holds Inv-loop μ-loop
 loop-holds c = begins (c .before .before .before .before .args .n) (c .before .before .before .before .args .c) (c .before .before .before .before .args .key) (c .before .before .before .before .args .t .now) (c .root-place .result) (c .before .before .no-way .result) (c .before .before .before .before .pre .0) (c .before .before .before .before .pre .1) (c .before .before .before .slice-known .given) (c .root-place .ensures) (c .before .before .no-way .ensures) (omega (arith, c .before .before .before .before .fits .c)) (omega (arith, c .before .before .before .before .fits .key))
 
+look-ahead-requires : tie.Need-look-ahead-requires Inv-loop μ-loop
+look-ahead-requires c κs = omega (arith, c .before .before .loop .inv .ready .long, c .before .before .loop .inv .ready .child-below)
+
 above-requires : tie.Need-above-requires Inv-loop μ-loop
 above-requires c κs = search needs
 
 enter-requires : tie.Need-enter-requires Inv-loop μ-loop
-enter-requires c κs = (c .before .before .before .loop .inv .ready .long, c .before .before .before .loop .inv .ready .child-below)
+enter-requires c κs = (c .before .before .before .before .before .loop .inv .ready .long, c .before .before .before .before .before .loop .inv .ready .child-below)
 
 enum-known-head : tie.Need-enum-known-head Inv-loop μ-loop
 enum-known-head c = search needs
@@ -41,31 +44,31 @@ no-way-requires-2 : tie.Need-no-way-requires-2 Inv-loop μ-loop
 no-way-requires-2 c κs = search needs
 
 same-length : tie.Need-same-length Inv-loop μ-loop
-same-length c = omega (arith, c .before .before .before .before .before .enter .kept .0, c .before .before .before .before .before .before .before .before .before .loop .inv .ready .long, c .before .before .before .before .before .before .before .before .before .before .before .before .before .before .pre .0)
+same-length c = omega (arith, c .before .before .before .before .before .enter .kept .0, c .before .before .before .before .before .before .before .before .before .before .before .loop .inv .ready .long, c .before .before .before .before .before .before .before .before .before .before .before .before .before .before .before .before .pre .0)
 
 returns : tie.Need-returns Inv-loop μ-loop
-returns c = ap (walking (c .before .before .before .before .before .enter .last .0)) (c .no-way2 .ensures) ∙ damaged (c .before .before .before .before .before .before .before .before .before .loop .inv) (c .before .before .before .before .before .before .before .before .loop-test .taken) (c .before .before .before .before .before .before .above .result) (c .before .before .before .before .before .before .above .ensures) (c .before .before .before .before .before .enter .last .0) (ap (entering (c .before .before .before .before .before .enter .last .0)) (sym (c .before .enum-told .given .1)) ∙ c .before .before .before .before .before .enter .ensures)
+returns c = ap (walking (c .before .before .before .before .before .enter .last .0)) (c .no-way2 .ensures) ∙ damaged (c .before .before .before .before .before .before .before .before .before .before .before .loop .inv) (c .before .before .before .before .before .before .before .before .before .before .loop-test .taken) (c .before .before .before .before .before .before .above .result) (c .before .before .before .before .before .before .above .ensures) (c .before .before .before .before .before .enter .last .0) (ap (entering (c .before .before .before .before .before .enter .last .0)) (sym (c .before .enum-told .given .1)) ∙ c .before .before .before .before .before .enter .ensures)
 
 then-requires : tie.Need-then-requires Inv-loop μ-loop
-then-requires c κs = omega (arith, c .before .before .before .before .before .before .before .before .before .loop .inv .deep, ap (λ (w : Way). w .len) (c .before .before .before .before .before .before .before .before .before .loop .inv .way), c .before .before .before .before .before .before .before .before .loop-test .taken)
+then-requires c κs = omega (arith, c .before .before .before .before .before .before .before .before .before .before .before .loop .inv .deep, ap (λ (w : Way). w .len) (c .before .before .before .before .before .before .before .before .before .before .before .loop .inv .way), c .before .before .before .before .before .before .before .before .before .before .loop-test .taken)
 
 same-length-2 : tie.Need-same-length-2 Inv-loop μ-loop
-same-length-2 c = omega (arith, c .before .before .before .before .before .before .before .before .enter .kept .0, c .before .before .before .before .before .before .before .before .before .before .before .before .loop .inv .ready .long, c .before .before .before .before .before .before .before .before .before .before .before .before .before .before .before .before .before .pre .0)
+same-length-2 c = omega (arith, c .before .before .before .before .before .before .before .before .enter .kept .0, c .before .before .before .before .before .before .before .before .before .before .before .before .before .before .loop .inv .ready .long, c .before .before .before .before .before .before .before .before .before .before .before .before .before .before .before .before .before .before .before .pre .0)
 
 returns-2 : tie.Need-returns-2 Inv-loop μ-loop
-returns-2 c = ap (walking (c .before .before .before .before .before .before .before .before .enter .last .0)) (c .before .before .then .ensures) ∙ ends (c .before .before .before .before .before .before .before .before .before .before .before .before .loop .inv) (c .before .before .before .before .before .before .before .before .before .before .before .loop-test .taken) (c .before .before .before .before .before .before .before .before .before .above .result) (c .before .before .before .before .before .before .before .before .before .above .ensures) (c .before .before .before .before .before .before .before .before .enter .last .0) (c .before .before .before .before .head .given .0 .0) (ap (entering (c .before .before .before .before .before .before .before .before .enter .last .0)) (sym (c .before .before .before .before .head .given .1)) ∙ c .before .before .before .before .before .before .before .before .enter .ensures) (c .if1 .taken)
+returns-2 c = ap (walking (c .before .before .before .before .before .before .before .before .enter .last .0)) (c .before .before .then .ensures) ∙ ends (c .before .before .before .before .before .before .before .before .before .before .before .before .before .before .loop .inv) (c .before .before .before .before .before .before .before .before .before .before .before .before .before .loop-test .taken) (c .before .before .before .before .before .before .before .before .before .above .result) (c .before .before .before .before .before .before .before .before .before .above .ensures) (c .before .before .before .before .before .before .before .before .enter .last .0) (c .before .before .before .before .head .given .0 .0) (ap (entering (c .before .before .before .before .before .before .before .before .enter .last .0)) (sym (c .before .before .before .before .head .given .1)) ∙ c .before .before .before .before .before .before .before .before .enter .ensures) (c .if1 .taken)
 
 place-below-requires : tie.Need-place-below-requires Inv-loop μ-loop
-place-below-requires c κs = let f = ap (entering (c .before .before .before .before .before .before .before .before .before .enter .last .0)) (sym (c .before .before .before .before .before .head .given .1)) ∙ c .before .before .before .before .before .before .before .before .before .enter .ensures in (omega (arith, c .before .before .before .before .before .before .before .before .before .enter .kept .0, c .before .before .before .before .before .before .before .before .before .before .before .before .before .loop .inv .ready .long, c .before .before .before .before .before .before .before .before .before .before .before .before .before .loop .inv .ready .child-below), head-here (c .before .before .before .before .before .before .before .before .before .before .before .before .before .loop .inv) (c .before .before .before .before .before .before .before .before .before .before .before .before .loop-test .taken) (c .before .before .before .before .before .before .before .before .before .before .above .result) (c .before .before .before .before .before .before .before .before .before .before .above .ensures) (c .before .before .before .before .before .before .before .before .before .enter .last .0) (c .before .before .before .before .before .head .given .0 .0) f, leads (c .before .before .before .before .before .before .before .before .before .before .before .before .before .loop .inv) (c .before .before .before .before .before .before .before .before .before .before .before .before .loop-test .taken) (c .before .before .before .before .before .before .before .before .before .before .above .result) (c .before .before .before .before .before .before .before .before .before .before .above .ensures) (c .before .before .before .before .before .before .before .before .before .enter .last .0) (c .before .before .before .before .before .head .given .0 .0) f (c .before .if1 .left))
+place-below-requires c κs = let f = ap (entering (c .before .before .before .before .before .before .before .before .before .enter .last .0)) (sym (c .before .before .before .before .before .head .given .1)) ∙ c .before .before .before .before .before .before .before .before .before .enter .ensures in (omega (arith, c .before .before .before .before .before .before .before .before .before .enter .kept .0, c .before .before .before .before .before .before .before .before .before .before .before .before .before .before .before .loop .inv .ready .long, c .before .before .before .before .before .before .before .before .before .before .before .before .before .before .before .loop .inv .ready .child-below), head-here (c .before .before .before .before .before .before .before .before .before .before .before .before .before .before .before .loop .inv) (c .before .before .before .before .before .before .before .before .before .before .before .before .before .before .loop-test .taken) (c .before .before .before .before .before .before .before .before .before .before .above .result) (c .before .before .before .before .before .before .before .before .before .before .above .ensures) (c .before .before .before .before .before .before .before .before .before .enter .last .0) (c .before .before .before .before .before .head .given .0 .0) f, leads (c .before .before .before .before .before .before .before .before .before .before .before .before .before .before .before .loop .inv) (c .before .before .before .before .before .before .before .before .before .before .before .before .before .before .loop-test .taken) (c .before .before .before .before .before .before .before .before .before .before .above .result) (c .before .before .before .before .before .before .before .before .before .before .above .ensures) (c .before .before .before .before .before .before .before .before .before .enter .last .0) (c .before .before .before .before .before .head .given .0 .0) f (c .before .if1 .left))
 
 sub-level : tie.Need-sub-level Inv-loop μ-loop
-sub-level c = omega (arith, c .before .before .before .before .before .before .before .before .before .before .before .before .before .loop-test .taken)
+sub-level c = omega (arith, c .before .before .before .before .before .before .before .before .before .before .before .before .before .before .before .loop-test .taken)
 
 loop-less : tie.Need-loop-less Inv-loop μ-loop
-loop-less c = omega (arith, c .before .before .before .before .before .before .before .before .before .before .before .before .before .loop-test .taken)
+loop-less c = omega (arith, c .before .before .before .before .before .before .before .before .before .before .before .before .before .before .before .loop-test .taken)
 
 loop-again : tie.Need-loop-again Inv-loop μ-loop
-loop-again c = let f = ap (entering (c .before .before .before .before .before .before .before .before .before .before .enter .last .0)) (sym (c .before .before .before .before .before .before .head .given .1)) ∙ c .before .before .before .before .before .before .before .before .before .before .enter .ensures in rw (c .before .before .before .before .then .ensures) (goes-on (c .before .before .before .before .before .before .before .before .before .before .before .before .before .before .loop .inv) (c .before .before .before .before .before .before .before .before .before .before .before .before .before .loop-test .taken) (c .before .before .before .before .before .before .before .before .before .before .before .above .result) (c .before .before .before .before .before .before .before .before .before .before .before .above .ensures) (c .before .before .before .before .before .before .before .before .before .before .enter .last .0) (c .before .before .before .before .before .before .head .given .0 .0) f (c .before .before .if1 .left) (c .place-below .result) (c .place-below .ensures))
+loop-again c = let f = ap (entering (c .before .before .before .before .before .before .before .before .before .before .enter .last .0)) (sym (c .before .before .before .before .before .before .head .given .1)) ∙ c .before .before .before .before .before .before .before .before .before .before .enter .ensures in rw (c .before .before .before .before .then .ensures) (goes-on (c .before .before .before .before .before .before .before .before .before .before .before .before .before .before .before .before .loop .inv) (c .before .before .before .before .before .before .before .before .before .before .before .before .before .before .before .loop-test .taken) (c .before .before .before .before .before .before .before .before .before .before .before .above .result) (c .before .before .before .before .before .before .before .before .before .before .before .above .ensures) (c .before .before .before .before .before .before .before .before .before .before .enter .last .0) (c .before .before .before .before .before .before .head .given .0 .0) f (c .before .before .if1 .left) (c .place-below .result) (c .place-below .ensures))
 
 no-way-requires-3 : tie.Need-no-way-requires-3 Inv-loop μ-loop
 no-way-requires-3 c κs = search needs
@@ -85,6 +88,7 @@ way-of-spec =
     no-way-requires
     root-place-requires
     loop-holds
+    look-ahead-requires
     above-requires
     enter-requires
     enum-known-head
