@@ -7,10 +7,10 @@ use native.Mathlib.Omega.{arith}
 use borrow.Author.Tests.{ltb-true}
 use lib.ListN.{length, take}
 use Rattle.fields.specs.Field.{Bytes}
-use Rattle.rules.specs.Layout.{pageSize}
-use Rattle.rules.specs.Entry.{cut}
-use Rattle.rules.specs.Page.{View, Page, over}
-use Rattle.rules.specs.Table.{read}
+use Rattle.rules.specs.Layout.{pageSize, certSize, leafKind, leafRoom}
+use Rattle.rules.specs.Entry.{Cert, cut, rising}
+use Rattle.rules.specs.Page.{View, over}
+use Rattle.rules.specs.Table.{pageAt, read}
 use Rattle.rules.specs.Place.{rootPlace}
 use Rattle.rules.specs.Enter as entry
 use Rattle.rules.specs.Walk.{Walked, enters, finds, stops, walkEach, walk, walkOf}
@@ -18,16 +18,21 @@ use Rattle.rules.specs.declared.Asked.{Asked}
 use Rattle.rules.specs.declared.Place.{Place}
 use Rattle.rules.proofs.Tests.{every-true}
 use Rattle.head.specs.declared.Head.{Head}
+use Rattle.head.proofs.Headers.{headOf}
+use Rattle.entries.specs.Spot.{keysIn}
 use Rattle.enter.specs.Entering as entering
 use Rattle.enter.specs.declared.Entered.{Entered}
 use Rattle.enter.specs.declared.Above.{Above}
 use Rattle.sweep.specs.Sweeps.{entersBy, aboveAt, Deep, Ready, placesLeft, firstOf, restOf, runOf, Lies}
 use Rattle.sweep.specs.declared.Run.{Run}
+use Rattle.sweep.proofs.Tests.{run-leaf}
+use Rattle.sweep.proofs.Notes.{certs-inner}
 use Rattle.sweep.proofs.Steps as steps
 use Rattle.sweep.proofs.Roots.{nothingAbove}
-use Rattle.fill.specs.Fills.{Lists, listing, listsOf, Fill, filling, filledIn, Known, sofar, stopped, listed, asked, Sorted}
+use Rattle.fill.specs.Fills.{Lists, listing, listsOf, Fill, filling, filledIn, Known, sofar, stopped, certsFrom, listed, asked, Sorted}
 use Rattle.fill.specs.declared.Filled.{Filled}
-use Rattle.fill.proofs.Copies.{lists-more}
+use Rattle.fill.proofs.Copies.{listed-none, lists-more}
+use Rattle.fill.proofs.Leaves as leaves
 use Rattle.fill.proofs.Walks as walks
 
 -- ── The state, read ─────────────────────────────────────────────────────────────────────────────────────────────
@@ -106,30 +111,64 @@ module _ (level n c : ℕ) (a : Asked) (x : Above) (e : Place) (t : List ℕ) (s
           rise = steps.fits level n c a x e t (sofar s) o h l b d r u hd f .sound .certs-rise;
         }
 
+        here : hd ≡ headOf (read u (e .child))
+        here = steps.head-here level n c a x e t (sofar s) o h l b d r u hd f
+
         module _ (found : Filled) (ms ns : List ℕ) (g : listing found ms ns ≡ listed (asked a s (read u (e .child) .view .certs)) s us vs) where
           starts : (ks xs : List ℕ) (w : Walked) → filling t s us vs ≡ filledIn ks xs w
               → filling u found ms ns ≡ filledIn ks xs (finds a (read u (e .child) .view) w u)
           starts ks xs w q =
               finds-filled ks xs w q a (read u (e .child) .view) u found ms ns (whole-entered a e w (enters-filled ks xs w q a e ∙ h)) g
 
-          pub page-known : Known t s us vs → Known u found ms ns
-          page-known k = record {
-            keys = k .keys;
-            records = k .records;
-            walked = finds a (read u (e .child) .view) (k .walked) u;
-            is = starts (k .keys) (k .records) (k .walked) (k .is);
-          }
-
-          pub step-page : (run : Run) → run ≡ runOf e hd → (v : List ℕ) (z : Filled) (ps qs : List ℕ)
+          ends : (run : Run) → run ≡ runOf e hd → (v : List ℕ) (z : Filled) (ps qs : List ℕ)
               → ((ks xs : List ℕ) (w : Walked) → filling u found ms ns ≡ filledIn ks xs w
               → filling v z ps qs
               ≡ filledIn ks xs (walkEach (walk (level - 1) n c a (aboveAt (level - 1) (steps.belowOf x e))) (placesLeft u (e .child) run) w))
               → (ks xs : List ℕ) (w : Walked) → filling t s us vs ≡ filledIn ks xs w
               → filling v z ps qs ≡ filledIn ks xs (walk level n c a (aboveAt level x) e w)
-          step-page run i v z ps qs rest ks xs w q =
+          ends run i v z ps qs rest ks xs w q =
               rest ks xs (finds a (read u (e .child) .view) w u) (starts ks xs w q)
               ∙ ap (filledIn ks xs)
               (sym (walks.walks-page level n c a x e w o (enters-filled ks xs w q a e ∙ h) t (same-table ks xs w q) (sofar s) h l b d r u hd f run i))
+
+        -- a leaf has no entries to walk
+        module _ (k : hd .kind ≡ leafKind) where
+          pub leaf-room : hd .count ≤ leafRoom
+          leaf-room = leaves.leaf-room u (e .child) hd here k page-sorted
+
+          pub leaf-rise : rising (keysIn certSize (hd .count) (pageAt u (e .child))) ≡ true
+          leaf-rise = leaves.leaf-rise u (e .child) hd here k page-sorted
+
+          pub step-leaf : (found : Filled) (ms ns : List ℕ)
+              → listing found ms ns ≡ listed (asked a s (certsFrom (pageAt u (e .child)) 0 (hd .count))) s us vs
+              → (ks xs : List ℕ) (w : Walked) → filling t s us vs ≡ filledIn ks xs w
+              → filling u found ms ns ≡ filledIn ks xs (walk level n c a (aboveAt level x) e w)
+          step-leaf found ms ns g =
+              let certs = leaves.leaf-certs u (e .child) hd here k in
+              let none = ap (λ (m : Run). m .left) (sym (run-leaf e hd k)) in
+              ends found ms ns (g ∙ ap (λ (ys : List Cert). listed (asked a s ys) s us vs) (sym certs)) (runOf e hd) refl u found ms ns
+              (λ ks xs w q. q ∙ ap (filledIn ks xs) (sym (walks.walks-none (level - 1) n c a (steps.belowOf x e) (runOf e hd) u w none)))
+
+        -- an inner page has no certificates
+        module _ (k : hd .kind ≡ leafKind → ⊥) where
+          none-listed : listing s us vs ≡ listed (asked a s (read u (e .child) .view .certs)) s us vs
+          none-listed = listed-none a s us vs (read u (e .child) .view .certs) (certs-inner u (e .child) hd here k)
+
+          pub inner-known : Known t s us vs → Known u s us vs
+          inner-known y = record {
+            keys = y .keys;
+            records = y .records;
+            walked = finds a (read u (e .child) .view) (y .walked) u;
+            is = starts s us vs none-listed (y .keys) (y .records) (y .walked) (y .is);
+          }
+
+          pub step-inner : (run : Run) → run ≡ runOf e hd → (v : List ℕ) (z : Filled) (ps qs : List ℕ)
+              → ((ks xs : List ℕ) (w : Walked) → filling u s us vs ≡ filledIn ks xs w
+              → filling v z ps qs
+              ≡ filledIn ks xs (walkEach (walk (level - 1) n c a (aboveAt (level - 1) (steps.belowOf x e))) (placesLeft u (e .child) run) w))
+              → (ks xs : List ℕ) (w : Walked) → filling t s us vs ≡ filledIn ks xs w
+              → filling v z ps qs ≡ filledIn ks xs (walk level n c a (aboveAt level x) e w)
+          step-inner = ends s us vs none-listed
 
 -- ── The entry walk ──────────────────────────────────────────────────────────────────────────────────────────────
 

@@ -11,7 +11,6 @@
 // Below stand `sweep`, `enter`, which enters one place, `seek`, which finds a key on a page, and `head`.
 use enter::Above;
 use enter::Entered;
-use head::Head;
 use rules::Asked;
 use rules::CERT;
 use rules::LEAF;
@@ -25,14 +24,13 @@ ghost use mathlib.Core.Bool.{true};
 ghost use mathlib.Core.List.{List};
 ghost use Prim.Native.Nat.{ℕ, min, _+_, _-_, _*_, _≤_};
 ghost use lib.ListN.{length};
-ghost use Rattle.rules.specs.Layout.{pageSize, headerSize, certSize};
+ghost use Rattle.rules.specs.Layout.{pageSize, headerSize, certSize, leafRoom};
 ghost use Rattle.rules.specs.Entry.{rising};
-ghost use Rattle.rules.specs.Table.{read, fit0};
+ghost use Rattle.rules.specs.Table.{pageAt, fit0};
 ghost use Rattle.rules.specs.Walk.{Walked, walk, walkEach, walkOf};
 ghost use Rattle.entries.specs.Spot.{keysIn, spotOf, startOf};
-ghost use Rattle.head.proofs.Headers.{headOf};
 ghost use Rattle.sweep.specs.Sweeps.{entersBy, aboveAt, Deep, Ready, placesLeft, Lies};
-ghost use Rattle.fill.specs.Fills.{listing, filling, filledIn, Known, Roomy, sofar, stopped, certsFrom, listed, asked, Sorted};
+ghost use Rattle.fill.specs.Fills.{listing, filling, filledIn, Known, Roomy, sofar, stopped, certsFrom, listed, asked};
 
 // What a walk has come to: whether no damaged place was met, and how many certificates stand in the lists.
 pub struct Filled {
@@ -153,30 +151,28 @@ fn fill_leaf(
     copy(page, first, many, keys, records, s)
 }
 
-// The certificates of a page that was entered; an inner page has none.
-fn fill_page(
+// The same of a leaf in the table.
+fn fill_leaf_at(
     t: &[u8],
     page: usize,
-    head: Head,
+    count: usize,
     a: Asked,
     keys: &mut [u64],
     records: &mut [u32],
     s: Filled,
 ) -> Filled
-    requires { ⌜ ((page + 1) * pageSize ≤ length (now t)) × (head ≡ headOf (read (now t) page)) × Sorted (read (now t) page .view .certs)
+    requires { ⌜ ((page + 1) * pageSize ≤ length (now t)) × (count ≤ leafRoom) × (rising (keysIn certSize count (pageAt (now t) page)) ≡ true)
         × (s .count ≤ a .room) × Roomy a (now keys) (now records) ⌝ }
     ensures { λ r. ⌜ listing r (now (keys .exit)) (now (records .exit))
-        ≡ listed (asked a s (read (now (t .entry)) page .view .certs)) s (now (keys .entry)) (now (records .entry)) ⌝ }
+        ≡ listed (asked a s (certsFrom (pageAt (now (t .entry)) page) 0 count)) s (now (keys .entry)) (now (records .entry)) ⌝ }
 {
-    if head.kind != LEAF {
-        return s;
-    }
     let from = page * PAGE;
     let to = from + PAGE;
-    fill_leaf(&t[from..to], head.count as usize, a, keys, records, s)
+    fill_leaf(&t[from..to], count, a, keys, records, s)
 }
 
-// The page walk: a place is entered, and its entries are walked one level lower.
+// The page walk: a place is entered. The certificates of a leaf are written, and it has no entries; those of an inner
+// page are walked one level lower.
 fn walk_page(
     t: &mut [u8],
     n: usize,
@@ -203,13 +199,16 @@ fn walk_page(
     let Entered::Page(head) = enter::enter(t, n, c, above, e) else {
         return stop(s);
     };
-    let found = fill_page(t, e.child as usize, head, a, keys, records, s);
+    let page = e.child as usize;
+    if head.kind == LEAF {
+        return fill_leaf_at(t, page, head.count as usize, a, keys, records, s);
+    }
     let below = Above {
         parent: e.child,
         top: above.parent,
     };
     let run = sweep::run_of(e, head);
-    walk_entries(t, n, c, level - 1, a, below, run, keys, records, found)
+    walk_entries(t, n, c, level - 1, a, below, run, keys, records, s)
 }
 
 // The entry walk: the first entry's page, then the entries behind it.

@@ -8,10 +8,10 @@ use Rattle.sweep.specs.declared.Run.{Run}
 use Rattle.sweep.proofs.Steps as sweeps
 use Rattle.fill.specs.Fills.{filling, Roomy, sofar}
 use Rattle.fill.specs.declared.Filled.{Filled}
-use Rattle.fill.proofs.Steps.{room-entered, step-deep, step-past, step-damaged, page-sorted, page-known, step-page, step-none, first-ready, rest-lies, rest-known, step-more}
+use Rattle.fill.proofs.Steps.{room-entered, step-deep, step-past, step-damaged, leaf-room, leaf-rise, step-leaf, inner-known, step-inner, step-none, first-ready, rest-lies, rest-known, step-more}
 use borrow.Author.Needs.{needs}
 use native.Mathlib.Omega.{arith}
-use Prim.Native.Nat.{ℕ, _≤_, _<_, _+_, _*_}
+use Prim.Native.Nat.{ℕ, _<_, _≤_, _+_, _*_}
 use borrow.Fn.Kinds.{In}
 use borrow.Fn.PlainCycle.{Measures, is, falls, and}
 use Rattle.fill.proofs.walk_entries.Reads as walk-entries
@@ -22,7 +22,7 @@ use Rattle.fill.proofs.walk_page.Kinds as walk-page-kinds
 use Rattle.fill.proofs.+walk_entries+walk_page.Lts-walk_page as walk-page-lts
 use Rattle.enter.proofs.enter.Reads as enter-reads
 use Rattle.fill.proofs.enters.Reads as enters-reads
-use Rattle.fill.proofs.fill_page.Reads as fill-page-reads
+use Rattle.fill.proofs.fill_leaf_at.Reads as fill-leaf-at-reads
 use Rattle.fill.proofs.stop.Reads as stop-reads
 use Rattle.sweep.proofs.first_of.Reads as first-of-reads
 use Rattle.sweep.proofs.rest_of.Reads as rest-of-reads
@@ -59,7 +59,7 @@ abbrev walk-entries-in : ℕ → walk-entries-lts.Claims
 walk-entries-in t = (first-of-reads.Asked, first-of-reads.Learnt, walk-page-below t, walk-page.Post, rest-of-reads.Asked, rest-of-reads.Learnt, walk-entries-below t, walk-entries.Post)
 
 abbrev walk-page-in : ℕ → walk-page-lts.Claims
-walk-page-in t = (stop-reads.Asked, stop-reads.Learnt, enters-reads.Asked, enters-reads.Learnt, enter-reads.Asked, enter-reads.Learnt, fill-page-reads.Asked, fill-page-reads.Learnt, run-of-reads.Asked, run-of-reads.Learnt, walk-entries-below t, walk-entries.Post)
+walk-page-in t = (stop-reads.Asked, stop-reads.Learnt, enters-reads.Asked, enters-reads.Learnt, enter-reads.Asked, enter-reads.Learnt, fill-leaf-at-reads.Asked, fill-leaf-at-reads.Learnt, run-of-reads.Asked, run-of-reads.Learnt, walk-entries-below t, walk-entries.Post)
 
 walk-entries-returns : (t : ℕ) → walk-entries-lts.Need-returns (walk-entries-in t) (walk-entries-at t) walk-entries.Post
 walk-entries-returns t c =
@@ -177,84 +177,101 @@ walk-page-returns-3 t c =
     ∙ step-damaged (args .level) (args .n) (args .c) (args .a) (args .above) (args .e) (args .t .now) (args .s) (args .keys .now) (args .records .now)
     deep meets (pre .0) (c .before .before .before .before .before .before .before .before .before .before .before .before .slice-known .given) (pre .1) (pre .2) table told ks xs w q
 
-walk-page-cast-fill-page : (t : ℕ) → walk-page-lts.Need-cast-fill-page (walk-page-in t) (walk-page-at t) walk-page.Post
-walk-page-cast-fill-page t c = search needs
+walk-page-cast-page : (t : ℕ) → walk-page-lts.Need-cast-page (walk-page-in t) (walk-page-at t) walk-page.Post
+walk-page-cast-page t c = search needs
 
-walk-page-fill-page-requires : (t : ℕ) → walk-page-lts.Need-fill-page-requires (walk-page-in t) (walk-page-at t) walk-page.Post
-walk-page-fill-page-requires t c κs =
-    let args = c .before .before .before .before .before .before .before .before .before .before .before .before .before .before .before .before .before .args in
-    let pre = c .before .before .before .before .before .before .before .before .before .before .before .before .before .before .before .before .before .pre .1 in
-    let deep : 0 < args .level = omega (arith, c .before .before .before .before .before .before .before .before .before .before .before .before .before .if1 .left) in
-    let meets = sym (c .before .before .before .before .before .before .before .before .before .before .before .before .enters .ensures) ∙ not-false (c .before .before .before .before .before .before .before .before .before .before .before .before .enters .result) (c .before .before .before .before .before .before .before .before .before .before .before .if2 .left) in
-    let table = c .before .before .before .before .before .before .before .before .before .enter .last .0 in
-    let head = c .before .before .before .before .before .head .given .0 .0 in
-    let told = ap (entering table) (sym (c .before .before .before .before .before .head .given .1)) ∙ c .before .before .before .before .before .before .before .before .before .enter .ensures in
-    let here = sweeps.head-here (args .level) (args .n) (args .c) (args .a) (args .above) (args .e) (args .t .now) (sofar (args .s))
-    deep meets (pre .0) (c .before .before .before .before .before .before .before .before .before .before .before .before .before .before .before .before .slice-known .given) (pre .1) (pre .2) table head told in
-    let sorted = page-sorted (args .level) (args .n) (args .c) (args .a) (args .above) (args .e) (args .t .now) (args .s) (args .keys .now) (args .records .now)
-    deep meets (pre .0) (c .before .before .before .before .before .before .before .before .before .before .before .before .before .before .before .before .slice-known .given) (pre .1) (pre .2) table head told in
-    (omega (arith, c .before .before .before .before .before .before .before .before .before .enter .kept .0, pre .0, pre .2 .child-below), here, sorted, room-entered (args .a) (args .e) (args .s) meets, pre .3)
+walk-page-cast-fill-leaf-at : (t : ℕ) → walk-page-lts.Need-cast-fill-leaf-at (walk-page-in t) (walk-page-at t) walk-page.Post
+walk-page-cast-fill-leaf-at t c = search needs
 
-walk-page-run-of-requires : (t : ℕ) → walk-page-lts.Need-run-of-requires (walk-page-in t) (walk-page-at t) walk-page.Post
-walk-page-run-of-requires t c κs =
-    let args = c .before .before .before .before .before .before .before .before .before .before .before .before .before .before .before .before .before .before .before .before .before .before .args in
-    let pre = c .before .before .before .before .before .before .before .before .before .before .before .before .before .before .before .before .before .before .before .before .before .before .pre .1 in
-    let deep : 0 < args .level = omega (arith, c .before .before .before .before .before .before .before .before .before .before .before .before .before .before .before .before .before .before .if1 .left) in
-    let meets = sym (c .before .before .before .before .before .before .before .before .before .before .before .before .before .before .before .before .before .enters .ensures) ∙ not-false (c .before .before .before .before .before .before .before .before .before .before .before .before .before .before .before .before .before .enters .result) (c .before .before .before .before .before .before .before .before .before .before .before .before .before .before .before .before .if2 .left) in
-    let table = c .before .before .before .before .before .before .before .before .before .before .before .before .before .before .enter .last .0 in
-    let head = c .before .before .before .before .before .before .before .before .before .before .head .given .0 .0 in
-    let told = ap (entering table) (sym (c .before .before .before .before .before .before .before .before .before .before .head .given .1)) ∙ c .before .before .before .before .before .before .before .before .before .before .before .before .before .before .enter .ensures in
-    sweeps.kind-from (args .level) (args .n) (args .c) (args .a) (args .above) (args .e) (args .t .now) (sofar (args .s))
-    deep meets (pre .0) (c .before .before .before .before .before .before .before .before .before .before .before .before .before .before .before .before .before .before .before .before .before .slice-known .given) (pre .1) (pre .2) table head told
-
-walk-page-sub-walk-entries : (t : ℕ) → walk-page-lts.Need-sub-walk-entries (walk-page-in t) (walk-page-at t) walk-page.Post
-walk-page-sub-walk-entries t c = omega (arith, c .before .before .before .before .before .before .before .before .before .before .before .before .before .before .before .before .before .before .before .before .if1 .left)
-
-walk-page-walk-entries-requires : (t : ℕ) → walk-page-lts.Need-walk-entries-requires (walk-page-in t) (walk-page-at t) walk-page.Post
-walk-page-walk-entries-requires t c κs =
-    let args = c .before .before .before .before .before .before .before .before .before .before .before .before .before .before .before .before .before .before .before .before .before .before .before .before .before .before .args in
-    let pre = c .before .before .before .before .before .before .before .before .before .before .before .before .before .before .before .before .before .before .before .before .before .before .before .before .before .before .pre .1 in
-    let deep : 0 < args .level = omega (arith, c .before .before .before .before .before .before .before .before .before .before .before .before .before .before .before .before .before .before .before .before .before .before .if1 .left) in
-    let meets = sym (c .before .before .before .before .before .before .before .before .before .before .before .before .before .before .before .before .before .before .before .before .before .enters .ensures) ∙ not-false (c .before .before .before .before .before .before .before .before .before .before .before .before .before .before .before .before .before .before .before .before .before .enters .result) (c .before .before .before .before .before .before .before .before .before .before .before .before .before .before .before .before .before .before .before .before .if2 .left) in
-    let table = c .before .before .before .before .before .before .before .before .before .before .before .before .before .before .before .before .before .before .enter .last .0 in
-    let head = c .before .before .before .before .before .before .before .before .before .before .before .before .before .before .head .given .0 .0 in
-    let told = ap (entering table) (sym (c .before .before .before .before .before .before .before .before .before .before .before .before .before .before .head .given .1)) ∙ c .before .before .before .before .before .before .before .before .before .before .before .before .before .before .before .before .before .before .enter .ensures in
-    let filled = c .before .before .before .before .before .before .before .before .fill-page in
-    let lies = sweeps.lies (args .level) (args .n) (args .c) (args .a) (args .above) (args .e) (args .t .now) (sofar (args .s))
-    deep meets (pre .0) (c .before .before .before .before .before .before .before .before .before .before .before .before .before .before .before .before .before .before .before .before .before .before .before .before .before .slice-known .given) (pre .1) (pre .2) table head told (c .before .before .before .run-of .result) (c .before .before .before .run-of .ensures) in
-    let known = page-known (args .level) (args .n) (args .c) (args .a) (args .above) (args .e) (args .t .now) (args .s) (args .keys .now) (args .records .now)
-    deep meets (pre .0) (c .before .before .before .before .before .before .before .before .before .before .before .before .before .before .before .before .before .before .before .before .before .before .before .before .before .slice-known .given) (pre .1) (pre .2) table head told
-    (filled .result) (filled .last .1 .1 .1 .1 .0) (filled .last .1 .1 .1 .1 .1 .0) (filled .ensures) (pre .4) in
-    let roomy : Roomy (args .a) (filled .last .1 .1 .1 .1 .0) (filled .last .1 .1 .1 .1 .1 .0) = record {
-      keys = omega (arith, filled .kept .1 .1 .1 .1 .0, pre .3 .keys);
-      records = omega (arith, filled .kept .1 .1 .1 .1 .1 .0, pre .3 .records);
-    } in
-    let below = sweeps.deep-below (args .level) (args .above) (args .e) deep (pre .1) in
-    (omega (arith, c .before .before .before .before .before .before .before .before .before .before .before .before .before .before .before .before .before .before .before .before .before .before .before .before .before .before .pre .0, lies .left, lies .room), (omega (arith, c .before .before .before .before .before .before .before .before .before .before .before .before .before .before .before .before .before .before .enter .kept .0, pre .0), below, omega (arith, pre .1 .most), lies, roomy, known))
+walk-page-fill-leaf-at-requires : (t : ℕ) → walk-page-lts.Need-fill-leaf-at-requires (walk-page-in t) (walk-page-at t) walk-page.Post
+walk-page-fill-leaf-at-requires t c κs =
+    let args = c .before .before .before .before .before .before .before .before .before .before .before .before .before .before .before .before .before .before .before .before .args in
+    let pre = c .before .before .before .before .before .before .before .before .before .before .before .before .before .before .before .before .before .before .before .before .pre .1 in
+    let deep : 0 < args .level = omega (arith, c .before .before .before .before .before .before .before .before .before .before .before .before .before .before .before .before .if1 .left) in
+    let meets = sym (c .before .before .before .before .before .before .before .before .before .before .before .before .before .before .before .enters .ensures) ∙ not-false (c .before .before .before .before .before .before .before .before .before .before .before .before .before .before .before .enters .result) (c .before .before .before .before .before .before .before .before .before .before .before .before .before .before .if2 .left) in
+    let table = c .before .before .before .before .before .before .before .before .before .before .before .before .enter .last .0 in
+    let head = c .before .before .before .before .before .before .before .before .head .given .0 .0 in
+    let told = ap (entering table) (sym (c .before .before .before .before .before .before .before .before .head .given .1)) ∙ c .before .before .before .before .before .before .before .before .before .before .before .before .enter .ensures in
+    let room = leaf-room (args .level) (args .n) (args .c) (args .a) (args .above) (args .e) (args .t .now) (args .s) (args .keys .now) (args .records .now)
+    deep meets (pre .0) (c .before .before .before .before .before .before .before .before .before .before .before .before .before .before .before .before .before .before .before .slice-known .given) (pre .1) (pre .2) table head told (c .before .before .before .before .if3 .taken) in
+    let rise = leaf-rise (args .level) (args .n) (args .c) (args .a) (args .above) (args .e) (args .t .now) (args .s) (args .keys .now) (args .records .now)
+    deep meets (pre .0) (c .before .before .before .before .before .before .before .before .before .before .before .before .before .before .before .before .before .before .before .slice-known .given) (pre .1) (pre .2) table head told (c .before .before .before .before .if3 .taken) in
+    (omega (arith, c .before .before .before .before .before .before .before .before .before .before .before .before .enter .kept .0, pre .0, pre .2 .child-below), room, rise, room-entered (args .a) (args .e) (args .s) meets, pre .3)
 
 walk-page-same-length-2 : (t : ℕ) → walk-page-lts.Need-same-length-2 (walk-page-in t) (walk-page-at t) walk-page.Post
-walk-page-same-length-2 t c = omega (arith, c .before .before .before .before .before .before .walk-entries .kept .0, c .before .before .before .before .before .before .before .before .before .before .before .before .before .before .before .before .before .before .before .before .before .before .before .before .before .enter .kept .0)
+walk-page-same-length-2 t c = omega (arith, c .before .before .before .before .before .before .before .before .before .before .before .before .before .before .before .before .before .enter .kept .0)
 
 walk-page-same-length-3 : (t : ℕ) → walk-page-lts.Need-same-length-3 (walk-page-in t) (walk-page-at t) walk-page.Post
-walk-page-same-length-3 t c = omega (arith, c .before .before .before .before .before .before .walk-entries .kept .1 .1 .1 .1 .1 .1 .1 .0, c .before .before .before .before .before .before .before .before .before .before .before .before .before .before .before .fill-page .kept .1 .1 .1 .1 .0)
+walk-page-same-length-3 t c = omega (arith, c .before .before .before .before .fill-leaf-at .kept .1 .1 .1 .1 .0)
 
 walk-page-same-length-4 : (t : ℕ) → walk-page-lts.Need-same-length-4 (walk-page-in t) (walk-page-at t) walk-page.Post
-walk-page-same-length-4 t c = omega (arith, c .before .before .before .before .before .before .walk-entries .kept .1 .1 .1 .1 .1 .1 .1 .1 .0, c .before .before .before .before .before .before .before .before .before .before .before .before .before .before .before .fill-page .kept .1 .1 .1 .1 .1 .0)
+walk-page-same-length-4 t c = omega (arith, c .before .before .before .before .fill-leaf-at .kept .1 .1 .1 .1 .1 .0)
 
 walk-page-returns-4 : (t : ℕ) → walk-page-lts.Need-returns-4 (walk-page-in t) (walk-page-at t) walk-page.Post
 walk-page-returns-4 t c =
-    let args = c .before .before .before .before .before .before .before .before .before .before .before .before .before .before .before .before .before .before .before .before .before .before .before .before .before .before .before .before .before .before .before .before .before .args in
-    let pre = c .before .before .before .before .before .before .before .before .before .before .before .before .before .before .before .before .before .before .before .before .before .before .before .before .before .before .before .before .before .before .before .before .before .pre .1 in
-    let deep : 0 < args .level = omega (arith, c .before .before .before .before .before .before .before .before .before .before .before .before .before .before .before .before .before .before .before .before .before .before .before .before .before .before .before .before .before .if1 .left) in
-    let meets = sym (c .before .before .before .before .before .before .before .before .before .before .before .before .before .before .before .before .before .before .before .before .before .before .before .before .before .before .before .before .enters .ensures) ∙ not-false (c .before .before .before .before .before .before .before .before .before .before .before .before .before .before .before .before .before .before .before .before .before .before .before .before .before .before .before .before .enters .result) (c .before .before .before .before .before .before .before .before .before .before .before .before .before .before .before .before .before .before .before .before .before .before .before .before .before .before .before .if2 .left) in
-    let table = c .before .before .before .before .before .before .before .before .before .before .before .before .before .before .before .before .before .before .before .before .before .before .before .before .before .enter .last .0 in
-    let head = c .before .before .before .before .before .before .before .before .before .before .before .before .before .before .before .before .before .before .before .before .before .head .given .0 .0 in
-    let told = ap (entering table) (sym (c .before .before .before .before .before .before .before .before .before .before .before .before .before .before .before .before .before .before .before .before .before .head .given .1)) ∙ c .before .before .before .before .before .before .before .before .before .before .before .before .before .before .before .before .before .before .before .before .before .before .before .before .before .enter .ensures in
-    let filled = c .before .before .before .before .before .before .before .before .before .before .before .before .before .before .before .fill-page in
+    let args = c .before .before .before .before .before .before .before .before .before .before .before .before .before .before .before .before .before .before .before .before .before .before .before .before .before .args in
+    let pre = c .before .before .before .before .before .before .before .before .before .before .before .before .before .before .before .before .before .before .before .before .before .before .before .before .before .pre .1 in
+    let deep : 0 < args .level = omega (arith, c .before .before .before .before .before .before .before .before .before .before .before .before .before .before .before .before .before .before .before .before .before .if1 .left) in
+    let meets = sym (c .before .before .before .before .before .before .before .before .before .before .before .before .before .before .before .before .before .before .before .before .enters .ensures) ∙ not-false (c .before .before .before .before .before .before .before .before .before .before .before .before .before .before .before .before .before .before .before .before .enters .result) (c .before .before .before .before .before .before .before .before .before .before .before .before .before .before .before .before .before .before .before .if2 .left) in
+    let table = c .before .before .before .before .before .before .before .before .before .before .before .before .before .before .before .before .before .enter .last .0 in
+    let head = c .before .before .before .before .before .before .before .before .before .before .before .before .before .head .given .0 .0 in
+    let told = ap (entering table) (sym (c .before .before .before .before .before .before .before .before .before .before .before .before .before .head .given .1)) ∙ c .before .before .before .before .before .before .before .before .before .before .before .before .before .before .before .before .before .enter .ensures in
+    let filled = c .before .before .before .before .fill-leaf-at in
+    step-leaf (args .level) (args .n) (args .c) (args .a) (args .above) (args .e) (args .t .now) (args .s) (args .keys .now) (args .records .now)
+    deep meets (pre .0) (c .before .before .before .before .before .before .before .before .before .before .before .before .before .before .before .before .before .before .before .before .before .before .before .before .slice-known .given) (pre .1) (pre .2) table head told (c .before .before .before .before .before .before .before .before .before .if3 .taken) (filled .result) (filled .last .1 .1 .1 .1 .0) (filled .last .1 .1 .1 .1 .1 .0) (filled .ensures)
+
+walk-page-run-of-requires : (t : ℕ) → walk-page-lts.Need-run-of-requires (walk-page-in t) (walk-page-at t) walk-page.Post
+walk-page-run-of-requires t c κs =
+    let args = c .before .before .before .before .before .before .before .before .before .before .before .before .before .before .before .before .args in
+    let pre = c .before .before .before .before .before .before .before .before .before .before .before .before .before .before .before .before .pre .1 in
+    let deep : 0 < args .level = omega (arith, c .before .before .before .before .before .before .before .before .before .before .before .before .if1 .left) in
+    let meets = sym (c .before .before .before .before .before .before .before .before .before .before .before .enters .ensures) ∙ not-false (c .before .before .before .before .before .before .before .before .before .before .before .enters .result) (c .before .before .before .before .before .before .before .before .before .before .if2 .left) in
+    let table = c .before .before .before .before .before .before .before .before .enter .last .0 in
+    let head = c .before .before .before .before .head .given .0 .0 in
+    let told = ap (entering table) (sym (c .before .before .before .before .head .given .1)) ∙ c .before .before .before .before .before .before .before .before .enter .ensures in
+    sweeps.kind-from (args .level) (args .n) (args .c) (args .a) (args .above) (args .e) (args .t .now) (sofar (args .s))
+    deep meets (pre .0) (c .before .before .before .before .before .before .before .before .before .before .before .before .before .before .before .slice-known .given) (pre .1) (pre .2) table head told
+
+walk-page-sub-walk-entries : (t : ℕ) → walk-page-lts.Need-sub-walk-entries (walk-page-in t) (walk-page-at t) walk-page.Post
+walk-page-sub-walk-entries t c = omega (arith, c .before .before .before .before .before .before .before .before .before .before .before .before .before .before .if1 .left)
+
+walk-page-walk-entries-requires : (t : ℕ) → walk-page-lts.Need-walk-entries-requires (walk-page-in t) (walk-page-at t) walk-page.Post
+walk-page-walk-entries-requires t c κs =
+    let args = c .before .before .before .before .before .before .before .before .before .before .before .before .before .before .before .before .before .before .before .before .args in
+    let pre = c .before .before .before .before .before .before .before .before .before .before .before .before .before .before .before .before .before .before .before .before .pre .1 in
+    let deep : 0 < args .level = omega (arith, c .before .before .before .before .before .before .before .before .before .before .before .before .before .before .before .before .if1 .left) in
+    let meets = sym (c .before .before .before .before .before .before .before .before .before .before .before .before .before .before .before .enters .ensures) ∙ not-false (c .before .before .before .before .before .before .before .before .before .before .before .before .before .before .before .enters .result) (c .before .before .before .before .before .before .before .before .before .before .before .before .before .before .if2 .left) in
+    let table = c .before .before .before .before .before .before .before .before .before .before .before .before .enter .last .0 in
+    let head = c .before .before .before .before .before .before .before .before .head .given .0 .0 in
+    let told = ap (entering table) (sym (c .before .before .before .before .before .before .before .before .head .given .1)) ∙ c .before .before .before .before .before .before .before .before .before .before .before .before .enter .ensures in
+    let lies = sweeps.lies (args .level) (args .n) (args .c) (args .a) (args .above) (args .e) (args .t .now) (sofar (args .s))
+    deep meets (pre .0) (c .before .before .before .before .before .before .before .before .before .before .before .before .before .before .before .before .before .before .before .slice-known .given) (pre .1) (pre .2) table head told (c .before .before .before .run-of .result) (c .before .before .before .run-of .ensures) in
+    let known = inner-known (args .level) (args .n) (args .c) (args .a) (args .above) (args .e) (args .t .now) (args .s) (args .keys .now) (args .records .now)
+    deep meets (pre .0) (c .before .before .before .before .before .before .before .before .before .before .before .before .before .before .before .before .before .before .before .slice-known .given) (pre .1) (pre .2) table head told (c .before .before .before .before .if3 .left) (pre .4) in
+    let below = sweeps.deep-below (args .level) (args .above) (args .e) deep (pre .1) in
+    (omega (arith, c .before .before .before .before .before .before .before .before .before .before .before .before .before .before .before .before .before .before .before .before .pre .0, lies .left, lies .room), (omega (arith, c .before .before .before .before .before .before .before .before .before .before .before .before .enter .kept .0, pre .0), below, omega (arith, pre .1 .most), lies, pre .3, known))
+
+walk-page-same-length-5 : (t : ℕ) → walk-page-lts.Need-same-length-5 (walk-page-in t) (walk-page-at t) walk-page.Post
+walk-page-same-length-5 t c = omega (arith, c .before .before .before .before .before .before .walk-entries .kept .0, c .before .before .before .before .before .before .before .before .before .before .before .before .before .before .before .before .before .before .before .enter .kept .0)
+
+walk-page-same-length-6 : (t : ℕ) → walk-page-lts.Need-same-length-6 (walk-page-in t) (walk-page-at t) walk-page.Post
+walk-page-same-length-6 t c = omega (arith, c .before .before .before .before .before .before .walk-entries .kept .1 .1 .1 .1 .1 .1 .1 .0)
+
+walk-page-same-length-7 : (t : ℕ) → walk-page-lts.Need-same-length-7 (walk-page-in t) (walk-page-at t) walk-page.Post
+walk-page-same-length-7 t c = omega (arith, c .before .before .before .before .before .before .walk-entries .kept .1 .1 .1 .1 .1 .1 .1 .1 .0)
+
+walk-page-returns-5 : (t : ℕ) → walk-page-lts.Need-returns-5 (walk-page-in t) (walk-page-at t) walk-page.Post
+walk-page-returns-5 t c =
+    let args = c .before .before .before .before .before .before .before .before .before .before .before .before .before .before .before .before .before .before .before .before .before .before .before .before .before .before .before .args in
+    let pre = c .before .before .before .before .before .before .before .before .before .before .before .before .before .before .before .before .before .before .before .before .before .before .before .before .before .before .before .pre .1 in
+    let deep : 0 < args .level = omega (arith, c .before .before .before .before .before .before .before .before .before .before .before .before .before .before .before .before .before .before .before .before .before .before .before .if1 .left) in
+    let meets = sym (c .before .before .before .before .before .before .before .before .before .before .before .before .before .before .before .before .before .before .before .before .before .before .enters .ensures) ∙ not-false (c .before .before .before .before .before .before .before .before .before .before .before .before .before .before .before .before .before .before .before .before .before .before .enters .result) (c .before .before .before .before .before .before .before .before .before .before .before .before .before .before .before .before .before .before .before .before .before .if2 .left) in
+    let table = c .before .before .before .before .before .before .before .before .before .before .before .before .before .before .before .before .before .before .before .enter .last .0 in
+    let head = c .before .before .before .before .before .before .before .before .before .before .before .before .before .before .before .head .given .0 .0 in
+    let told = ap (entering table) (sym (c .before .before .before .before .before .before .before .before .before .before .before .before .before .before .before .head .given .1)) ∙ c .before .before .before .before .before .before .before .before .before .before .before .before .before .before .before .before .before .before .before .enter .ensures in
     let rest = c .before .before .before .before .before .before .walk-entries in
-    step-page (args .level) (args .n) (args .c) (args .a) (args .above) (args .e) (args .t .now) (args .s) (args .keys .now) (args .records .now)
-    deep meets (pre .0) (c .before .before .before .before .before .before .before .before .before .before .before .before .before .before .before .before .before .before .before .before .before .before .before .before .before .before .before .before .before .before .before .before .slice-known .given) (pre .1) (pre .2) table head told
-    (filled .result) (filled .last .1 .1 .1 .1 .0) (filled .last .1 .1 .1 .1 .1 .0) (filled .ensures)
+    step-inner (args .level) (args .n) (args .c) (args .a) (args .above) (args .e) (args .t .now) (args .s) (args .keys .now) (args .records .now)
+    deep meets (pre .0) (c .before .before .before .before .before .before .before .before .before .before .before .before .before .before .before .before .before .before .before .before .before .before .before .before .before .before .slice-known .given) (pre .1) (pre .2) table head told (c .before .before .before .before .before .before .before .before .before .before .before .if3 .left)
     (c .before .before .before .before .before .before .before .before .before .before .run-of .result) (c .before .before .before .before .before .before .before .before .before .before .run-of .ensures) (rest .last .0) (rest .result) (rest .last .1 .1 .1 .1 .1 .1 .1 .0) (rest .last .1 .1 .1 .1 .1 .1 .1 .1 .0) (rest .ensures)
 
 pub +walk-entries+walk-page-spec : {M : Type 1} → statement M
@@ -284,12 +301,17 @@ pub +walk-entries+walk-page-spec : {M : Type 1} → statement M
     (walk-page-stop-requires-2 t)
     (walk-page-same-length t)
     (walk-page-returns-3 t)
-    (walk-page-cast-fill-page t)
-    (walk-page-fill-page-requires t)
-    (walk-page-run-of-requires t)
-    (walk-page-sub-walk-entries t)
-    (walk-page-walk-entries-requires t)
+    (walk-page-cast-page t)
+    (walk-page-cast-fill-leaf-at t)
+    (walk-page-fill-leaf-at-requires t)
     (walk-page-same-length-2 t)
     (walk-page-same-length-3 t)
     (walk-page-same-length-4 t)
     (walk-page-returns-4 t)
+    (walk-page-run-of-requires t)
+    (walk-page-sub-walk-entries t)
+    (walk-page-walk-entries-requires t)
+    (walk-page-same-length-5 t)
+    (walk-page-same-length-6 t)
+    (walk-page-same-length-7 t)
+    (walk-page-returns-5 t)
