@@ -1,6 +1,5 @@
 -- Certificates copied into the two lists one by one. Assumes nothing.
 use mathlib.Core.Path.{_≡_, refl, sym, ap, _∙_}
-use mathlib.Core.Bool.{Bool}
 use mathlib.Core.List.{List, [], _∷_, _++_}
 use Prim.Native.Nat.{ℕ, zero, suc, _+_, _-_, _*_, _≤_, _<_}
 use native.Mathlib.Nat.{add-zero, mul-add, add-assoc}
@@ -18,7 +17,6 @@ use Rattle.rules.proofs.Over.{take-over, drop-over-behind}
 use Rattle.rules.proofs.Rises.{length-keys, getD-keys, keys-append}
 use Rattle.head.specs.Head.{certAt}
 use Rattle.fill.specs.Fills.{Lists, listing, listsOf, certsFrom, listed, asked}
-use Rattle.fill.specs.declared.Filled.{Filled}
 
 -- ── The records of certificates ─────────────────────────────────────────────────────────────────────────────────
 
@@ -73,29 +71,28 @@ module _ (b : List ℕ) (first many : ℕ) where
         copy-turn d e (recordsOf (certsFrom b first many)) at j v p (omega arith) (omega (arith, length-records (certsFrom b first many), length-from))
         (q ∙ sym (getD-records (certsFrom b first many) j nothing ∙ ap (λ (x : Cert). x .value) (cert-from j h)))
 
-  pub copied : (s : Filled) (ks xs us vs : List ℕ) (j : ℕ) → j ≡ many → us ≡ paste ks (s .count) (keys (certsFrom b first many)) j
-      → vs ≡ paste xs (s .count) (recordsOf (certsFrom b first many)) j
-      → listing (record { whole = s .whole; count = s .count + many }) us vs ≡ listed (certsFrom b first many) s ks xs
+  pub copied : (filled : ℕ) (ks xs us vs : List ℕ) (j : ℕ) → j ≡ many → us ≡ paste ks filled (keys (certsFrom b first many)) j
+      → vs ≡ paste xs filled (recordsOf (certsFrom b first many)) j
+      → listing (filled + many) us vs ≡ listed (certsFrom b first many) filled ks xs
   unfolding listed
-  copied s ks xs us vs j i p q = rw (p, q, i, length-from)
+  copied filled ks xs us vs j i p q = rw (p, q, i, length-from)
 
 -- ── A page's certificates ───────────────────────────────────────────────────────────────────────────────────────
 
-asked-nil : (a : Asked) (s : Filled) → asked a s [] ≡ []
+asked-nil : (a : Asked) (filled : ℕ) → asked a filled [] ≡ []
 unfolding asked cut
-asked-nil a s = take-nil (a .room - s .count)
+asked-nil a filled = take-nil (a .room - filled)
 
-same-lists : {b : Bool} {m n : ℕ} {us vs ks xs : List ℕ} → m ≡ n → us ≡ ks → vs ≡ xs
-    → listing (record { whole = b; count = m }) us vs ≡ listing (record { whole = b; count = n }) ks xs
+same-lists : {m n : ℕ} {us vs ks xs : List ℕ} → m ≡ n → us ≡ ks → vs ≡ xs → listing m us vs ≡ listing n ks xs
 same-lists p q r = cc
 
 -- nothing changes where there are none
-pub listed-none : (a : Asked) (s : Filled) (ks xs : List ℕ) (certs : List Cert) → certs ≡ []
-    → listing s ks xs ≡ listed (asked a s certs) s ks xs
+pub listed-none : (a : Asked) (filled : ℕ) (ks xs : List ℕ) (certs : List Cert) → certs ≡ []
+    → listing filled ks xs ≡ listed (asked a filled certs) filled ks xs
 unfolding listed keys recordsOf
-listed-none a s ks xs certs e =
-    rw (e, asked-nil a s)
-    (same-lists {b = s .whole} (sym (add-zero (s .count))) (paste-zero ks (s .count) []) (paste-zero xs (s .count) []))
+listed-none a filled ks xs certs e =
+    rw (e, asked-nil a filled)
+    (same-lists (sym (add-zero filled)) (paste-zero ks filled []) (paste-zero xs filled []))
 
 -- new ones behind those that stand over the start of a list stand over it with them
 paste-over : (found new old : List ℕ) → paste (over found old) (length found) new (length new) ≡ over (found ++ new) old
@@ -110,25 +107,21 @@ stands-over : (found new old d : List ℕ) (at n : ℕ) → d ≡ over found old
     → paste d at new n ≡ over (found ++ new) old
 stands-over found new old d at n p q r = rw (p, q, r) (paste-over found new old)
 
-pub lists-more : (ks xs : List ℕ) (s : Filled) (us vs : List ℕ) (b : Bool) (found new : List Cert) → listing s us vs ≡ listsOf ks xs b found
-    → listed new s us vs ≡ listsOf ks xs b (found ++ new)
+pub lists-more : (ks xs : List ℕ) (filled : ℕ) (us vs : List ℕ) (found new : List Cert) → listing filled us vs ≡ listsOf ks xs found
+    → listed new filled us vs ≡ listsOf ks xs (found ++ new)
 unfolding listed listsOf
-lists-more ks xs s us vs b found new e =
-    ap (λ (w : Bool). listing (record { whole = w; count = s .count + length new }) (paste us (s .count) (keys new) (length new)) (paste vs (s .count) (recordsOf new) (length new))) whole
-    ∙ same-lists (ap (λ (k : ℕ). k + length new) count ∙ sym (length-append found new)) first second
+lists-more ks xs filled us vs found new e =
+    same-lists (ap (λ (k : ℕ). k + length new) count ∙ sym (length-append found new)) first second
   where
-    whole : s .whole ≡ b
-    whole = ap (λ (l : Lists). l .filled .whole) e
+    count : filled ≡ length found
+    count = ap (λ (l : Lists). l .filled) e
 
-    count : s .count ≡ length found
-    count = ap (λ (l : Lists). l .filled .count) e
-
-    first : paste us (s .count) (keys new) (length new) ≡ over (keys (found ++ new)) ks
+    first : paste us filled (keys new) (length new) ≡ over (keys (found ++ new)) ks
     first =
-        stands-over (keys found) (keys new) ks us (s .count) (length new) (ap (λ (l : Lists). l .keys) e) (count ∙ sym (length-keys found)) (sym (length-keys new))
+        stands-over (keys found) (keys new) ks us filled (length new) (ap (λ (l : Lists). l .keys) e) (count ∙ sym (length-keys found)) (sym (length-keys new))
         ∙ ap (λ (l : List ℕ). over l ks) (sym (keys-append found new))
 
-    second : paste vs (s .count) (recordsOf new) (length new) ≡ over (recordsOf (found ++ new)) xs
+    second : paste vs filled (recordsOf new) (length new) ≡ over (recordsOf (found ++ new)) xs
     second =
-        stands-over (recordsOf found) (recordsOf new) xs vs (s .count) (length new) (ap (λ (l : Lists). l .records) e) (count ∙ sym (length-records found)) (sym (length-records new))
+        stands-over (recordsOf found) (recordsOf new) xs vs filled (length new) (ap (λ (l : Lists). l .records) e) (count ∙ sym (length-records found)) (sym (length-records new))
         ∙ ap (λ (l : List ℕ). over l xs) (sym (records-append found new))

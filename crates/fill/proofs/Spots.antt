@@ -20,7 +20,6 @@ use Rattle.entries.proofs.Cut.{cut-range}
 use Rattle.entries.proofs.KeysIn.{keys-certs, length-keysIn, spot-bound, start-bound}
 use Rattle.seek.proofs.Spots.{spot-above, spot-below}
 use Rattle.fill.specs.Fills.{certsFrom, asked}
-use Rattle.fill.specs.declared.Filled.{Filled}
 
 -- ── A spot at either end ────────────────────────────────────────────────────────────────────────────────────────
 
@@ -62,10 +61,10 @@ unfolding certsFrom
 certs-run b count first many h =
     rw (drop-readEach certIn certSize first count (drop headerSize b), take-readEach certIn certSize many (count - first) (drop (certSize * first) (drop headerSize b)) h, drop-drop)
 
-module _ (b : List ℕ) (count : ℕ) (a : Asked) (s : Filled) (r : rising (keysIn certSize count b) ≡ true) (first past many : ℕ) (f : first ≡ startOf (a .low) (keysIn certSize count b)) (p : past ≡ spotOf (a .high) (keysIn certSize count b)) (m : many ≡ min (a .room - s .count) (past - first)) where
+module _ (b : List ℕ) (count : ℕ) (a : Asked) (filled : ℕ) (r : rising (keysIn certSize count b) ≡ true) (first past many : ℕ) (f : first ≡ startOf (a .low) (keysIn certSize count b)) (p : past ≡ spotOf (a .high) (keysIn certSize count b)) (m : many ≡ min (a .room - filled) (past - first)) where
   many-room : many ≤ count - first
   many-room =
-      omega (arith, min-le-right (a .room - s .count) (past - first), spot-bound (a .high) (keysIn certSize count b), length-keysIn certSize count b)
+      omega (arith, min-le-right (a .room - filled) (past - first), spot-bound (a .high) (keysIn certSize count b), length-keysIn certSize count b)
 
   -- they lie in the page
   pub run-within : first + many ≤ count
@@ -75,15 +74,15 @@ module _ (b : List ℕ) (count : ℕ) (a : Asked) (s : Filled) (r : rising (keys
   unfolding certsFrom
   same-keys = keys-certs count b
 
-  asked-cut : asked a s (certsFrom b 0 count) ≡ take (a .room - s .count) (take (past - first) (drop first (certsFrom b 0 count)))
+  asked-cut : asked a filled (certsFrom b 0 count) ≡ take (a .room - filled) (take (past - first) (drop first (certsFrom b 0 count)))
   unfolding asked
   asked-cut = rw (cut-range (a .low) (a .high) (certsFrom b 0 count) (rw same-keys r), same-keys, p, f)
 
-  pub asked-run : certsFrom b first many ≡ asked a s (certsFrom b 0 count)
+  pub asked-run : certsFrom b first many ≡ asked a filled (certsFrom b 0 count)
   asked-run =
       sym
       (asked-cut
-      ∙ (take-min (a .room - s .count) (past - first) (drop first (certsFrom b 0 count))
+      ∙ (take-min (a .room - filled) (past - first) (drop first (certsFrom b 0 count))
       ∙ (ap (λ (k : ℕ). take k (drop first (certsFrom b 0 count))) (sym m) ∙ certs-run b count first many many-room)))
 
 -- and there is room for them in the lists

@@ -1,11 +1,13 @@
 -- The rules' walk, step by step, by what the code learns at each: each step is an equation of two walks, and what is
--- kept of the certificates found plays no part in it. The laws are those of `sweep`. Assumes nothing.
-use mathlib.Core.Path.{_≡_, sym, ap, _∙_, subst}
-use mathlib.Core.Bool.{true, false}
-use mathlib.Core.List.{List, _∷_}
+-- kept of the certificates found plays no part in it. Damage stays, so a walk that ends whole was whole all along. The
+-- laws are those of `sweep`. Assumes nothing.
+use mathlib.Core.Path.{_≡_, refl, sym, ap, _∙_, subst}
+use mathlib.Core.Bool.{Bool, true, false}
+use mathlib.Core.List.{List, [], _∷_}
 use mathlib.Core.Option.{some}
-use Prim.Native.Nat.{ℕ, suc, _-_, _*_, _≤_, _<_}
+use Prim.Native.Nat.{ℕ, zero, suc, _-_, _*_, _≤_, _<_}
 use native.Mathlib.Omega.{arith}
+use lib.Dec.{leb, ltb}
 use lib.ListN.{length}
 use Rattle.fields.specs.Field.{Bytes}
 use Rattle.rules.specs.Layout.{pageSize}
@@ -16,6 +18,7 @@ use Rattle.rules.specs.Enter as entry
 use Rattle.rules.specs.Walk.{Walked, enters, finds, stops, walkEach, walk}
 use Rattle.rules.specs.declared.Asked.{Asked}
 use Rattle.rules.specs.declared.Place.{Place}
+use Rattle.rules.proofs.Tests.{not-both}
 use Rattle.rules.proofs.All.{All, all-tail}
 use Rattle.head.specs.declared.Head.{Head}
 use Rattle.enter.specs.Entering as entering
@@ -25,15 +28,55 @@ use Rattle.enter.proofs.Told.{told-table, told-damaged}
 use Rattle.sweep.specs.Sweeps.{entersBy, aboveAt, Deep, Ready, placesLeft, firstOf, restOf, runOf, Lies}
 use Rattle.sweep.specs.declared.Sofar.{Sofar}
 use Rattle.sweep.specs.declared.Run.{Run}
+use Rattle.sweep.proofs.Tests.{first-fails}
 use Rattle.sweep.proofs.Keeps.{walk-keeps}
 use Rattle.sweep.proofs.Steps as steps
+
+-- ── Damage stays ────────────────────────────────────────────────────────────────────────────────────────────────
+
+enters-damaged : (a : Asked) (e : Place) (w : Walked) → w .whole ≡ false → enters a e w ≡ false
+unfolding enters
+enters-damaged a e w h = sym (first-fails (w .whole) (ltb (length (w .found)) (a .room)) (leb (e .low) (a .high)) (leb (a .low) (e .high)) h)
+
+module _ (n c : ℕ) (a : Asked) (nums : List ℕ) where
+  walk-damaged : (level : ℕ) (e : Place) (w : Walked) → w .whole ≡ false → walk level n c a nums e w .whole ≡ false
+  unfolding walk stops
+  walk-damaged zero e w h = refl
+  walk-damaged (suc level) e w h =
+      ap (λ (y : Walked). y .whole) (steps.walk-past level n c a nums e w (enters-damaged a e w h)) ∙ h
+
+  each-damaged : (level : ℕ) (es : List Place) (w : Walked) → w .whole ≡ false → walkEach (walk level n c a nums) es w .whole ≡ false
+  unfolding walkEach
+  each-damaged level [] w h = h
+  each-damaged level (e ∷ es) w h = each-damaged level es (walk level n c a nums e w) (walk-damaged level e w h)
+
+  -- so a walk that ends whole was whole all along
+  module _ (level : ℕ) (w : Walked) where
+    pub walk-whole : (e : Place) → walk level n c a nums e w .whole ≡ true → w .whole ≡ true
+    walk-whole e g = go (w .whole) refl
+      where
+        go : (b : Bool) → w .whole ≡ b → b ≡ true
+        go true h = refl
+        go false h = cc (walk-damaged level e w h)
+
+    pub each-whole : (es : List Place) → walkEach (walk level n c a nums) es w .whole ≡ true → w .whole ≡ true
+    each-whole es g = go (w .whole) refl
+      where
+        go : (b : Bool) → w .whole ≡ b → b ≡ true
+        go true h = refl
+        go false h = cc (each-damaged level es w h)
 
 -- ── The page walk ───────────────────────────────────────────────────────────────────────────────────────────────
 
 module _ (level n c : ℕ) (a : Asked) (x : Above) (e : Place) (w : Walked) where
-  pub walks-deep : level ≡ 0 → walk level n c a (aboveAt level x) e w ≡ stops w (w .table)
-  unfolding walk
-  walks-deep z = ap (λ (k : ℕ). walk k n c a (aboveAt k x) e w) z
+  -- no walk that ends whole comes to level 0
+  pub level-from : walk level n c a (aboveAt level x) e w .whole ≡ true → 0 < level
+  unfolding walk stops
+  level-from g = go level refl
+    where
+      go : (k : ℕ) → level ≡ k → 0 < level
+      go zero z = absurd (not-both g (ap (λ (k : ℕ). walk k n c a (aboveAt level x) e w .whole) z))
+      go (suc k) z = omega arith
 
   module _ (o : 0 < level) where
     one : level ≡ suc (level - 1)
@@ -84,6 +127,16 @@ module _ (level n c : ℕ) (a : Asked) (x : Above) (run : Run) (t : List ℕ) (w
   pub walks-none : run .left ≡ 0 → walkEach (walk level n c a (aboveAt level x)) (placesLeft t (x .parent) run) w ≡ w
   unfolding walkEach
   walks-none h = ap (λ (es : List Place). walkEach (walk level n c a (aboveAt level x)) es w) (steps.left-none t (x .parent) run h)
+
+  -- where the entries are walked whole, the first of them is
+  pub first-whole : (s : Sofar) → length t ≡ n * pageSize → Bytes t → level ≤ 2 → Lies n c t (x .parent) run → 1 ≤ run .left
+      → (e : Place) → e ≡ firstOf t (x .parent) run
+      → walkEach (walk level n c a (aboveAt level x)) (placesLeft t (x .parent) run) w .whole ≡ true
+      → walk level n c a (aboveAt level x) e w .whole ≡ true
+  unfolding walkEach
+  first-whole s l b m y o e g h =
+      each-whole n c a (aboveAt level x) level (walk level n c a (aboveAt level x) e w) (placesLeft t (x .parent) (restOf run))
+      (ap (λ (es : List Place). walkEach (walk level n c a (aboveAt level x)) es w .whole) (sym (steps.places-more level n c a x run t s l b m y o e g)) ∙ h)
 
   module _ (q : t ≡ w .table) (s : Sofar) (l : length t ≡ n * pageSize) (b : Bytes t) (m : level ≤ 2) (y : Lies n c t (x .parent) run) (o : 1 ≤ run .left) (e : Place) (g : e ≡ firstOf t (x .parent) run) (u : List ℕ) (v : u ≡ walk level n c a (aboveAt level x) e w .table) (rest : Run) (i : rest ≡ restOf run) where
     -- the page that the entries stand on stays as it is below

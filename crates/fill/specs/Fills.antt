@@ -1,7 +1,7 @@
 -- The rules' walk over a range as the code keeps it: the certificates found stand in two lists, and how many there are.
 use Prim.Native.Nat.{ℕ, _+_, _-_, _*_, _≤_}
 use mathlib.Core.Path.{_≡_}
-use mathlib.Core.Bool.{Bool, true, false}
+use mathlib.Core.Bool.{true}
 use mathlib.Core.List.{List}
 use lib.ListN.{length, take, drop}
 use lib.Seq.{paste}
@@ -12,44 +12,47 @@ use Rattle.rules.specs.Walk.{Walked}
 use Rattle.rules.specs.List.{recordsOf}
 use Rattle.rules.specs.declared.Asked.{Asked}
 use Rattle.sweep.specs.declared.Sofar.{Sofar}
-use Rattle.fill.specs.declared.Filled.{Filled}
 
 -- ── What was found ──────────────────────────────────────────────────────────────────────────────────────────────
 
--- whether the walk is whole, how many certificates it found, and the two lists
+-- how many certificates were found, and the two lists
 pub record Lists : Type 0 where
-  pub filled : Filled
+  pub filled : ℕ
   pub keys : List ℕ
   pub records : List ℕ
 
-abbrev pub listing : Filled → List ℕ → List ℕ → Lists
-listing s ks xs = record { filled = s; keys = ks; records = xs }
+abbrev pub listing : ℕ → List ℕ → List ℕ → Lists
+listing filled ks xs = record { filled = filled; keys = ks; records = xs }
 
 -- the certificates found stand over the start of the lists as they came
-unfoldable pub listsOf : List ℕ → List ℕ → Bool → List Cert → Lists
-listsOf ks xs whole found = record {
-  filled = record { whole = whole; count = length found };
-  keys = over (keys found) ks;
-  records = over (recordsOf found) xs;
-}
+unfoldable pub listsOf : List ℕ → List ℕ → List Cert → Lists
+listsOf ks xs found = record { filled = length found; keys = over (keys found) ks; records = over (recordsOf found) xs }
 
 -- the table too
 pub record Fill : Type 0 where
   pub table : List ℕ
   pub lists : Lists
 
-abbrev pub filling : List ℕ → Filled → List ℕ → List ℕ → Fill
-filling t s ks xs = record { table = t; lists = listing s ks xs }
+abbrev pub filling : List ℕ → ℕ → List ℕ → List ℕ → Fill
+filling t filled ks xs = record { table = t; lists = listing filled ks xs }
 
 unfoldable pub filledIn : List ℕ → List ℕ → Walked → Fill
-filledIn ks xs w = record { table = w .table; lists = listsOf ks xs (w .whole) (w .found) }
+filledIn ks xs w = record { table = w .table; lists = listsOf ks xs (w .found) }
 
--- what the code keeps is what some walk has filled in
-pub record Known (t : List ℕ) (s : Filled) (ks xs : List ℕ) : Type 0 where
+-- ── What lies ahead ─────────────────────────────────────────────────────────────────────────────────────────────
+
+-- what the code keeps is what some walk has filled in, and no damaged place lies ahead of it
+pub record Known (ahead : Walked → Walked) (x : Fill) : Type 0 where
   pub keys : List ℕ
   pub records : List ℕ
   pub walked : Walked
-  pub is : filling t s ks xs ≡ filledIn keys records walked
+  pub is : x ≡ filledIn keys records walked
+  pub whole : ahead walked .whole ≡ true
+
+-- where no damaged place lies ahead of a walk, it fills in what it finds there
+abbrev pub Fills : (Walked → Walked) → Fill → Fill → Type 0
+Fills ahead x y =
+    (ks xs : List ℕ) (w : Walked) → x ≡ filledIn ks xs w → ahead w .whole ≡ true → y ≡ filledIn ks xs (ahead w)
 
 -- both lists hold as many as there is room for
 pub record Roomy (a : Asked) (ks xs : List ℕ) : Type 0 where
@@ -58,28 +61,25 @@ pub record Roomy (a : Asked) (ks xs : List ℕ) : Type 0 where
 
 -- ── One page ────────────────────────────────────────────────────────────────────────────────────────────────────
 
--- what the tests of `sweep` look at: the last certificate plays no part in them
-abbrev pub sofar : Filled → Sofar
-sofar s = record { whole = s .whole; count = s .count; key = 0; value = 0 }
-
-abbrev pub stopped : Filled → Filled
-stopped s = record { whole = false; count = s .count }
+-- what the tests of `sweep` look at: the walk is whole, and the last certificate plays no part in them
+abbrev pub sofar : ℕ → Sofar
+sofar filled = record { whole = true; count = filled; key = 0; value = 0 }
 
 -- so many certificates of a leaf, from one on
 unfoldable pub certsFrom : List ℕ → ℕ → ℕ → List Cert
 certsFrom b first many = readEach certIn certSize many (drop (headerSize + certSize * first) b)
 
 -- certificates put into the lists behind those found
-unfoldable pub listed : List Cert → Filled → List ℕ → List ℕ → Lists
-listed found s ks xs = record {
-  filled = record { whole = s .whole; count = s .count + length found };
-  keys = paste ks (s .count) (keys found) (length found);
-  records = paste xs (s .count) (recordsOf found) (length found);
+unfoldable pub listed : List Cert → ℕ → List ℕ → List ℕ → Lists
+listed found filled ks xs = record {
+  filled = filled + length found;
+  keys = paste ks filled (keys found) (length found);
+  records = paste xs filled (recordsOf found) (length found);
 }
 
 -- those of a page that are asked for, while there is room
-unfoldable pub asked : Asked → Filled → List Cert → List Cert
-asked a s certs = take (a .room - s .count) (cut (a .low) (a .high) certs)
+unfoldable pub asked : Asked → ℕ → List Cert → List Cert
+asked a filled certs = take (a .room - filled) (cut (a .low) (a .high) certs)
 
 -- what every sound leaf's certificates are, so that they can be sought by halving
 pub record Sorted (certs : List Cert) : Type 0 where

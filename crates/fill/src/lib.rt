@@ -6,7 +6,9 @@
 // one difference is what becomes of a leaf's certificates. `sweep` keeps the last of them, this walk writes them all.
 // The two lists go down with the walk, so it has a cycle of its own.
 //
-// Nothing is taken back where the walk meets a damaged place: whoever must not write then asks `dry` before.
+// It asks that no damaged place lies ahead, which `dry` finds out before a place of the lists is written. So whether the
+// walk is whole need not be carried along, nor is level 0 ever reached: all that goes down and comes back is one number,
+// how many certificates stand in the lists.
 //
 // Below stand `sweep`, `enter`, which enters one place, `seek`, which finds a key on a page, and `head`.
 use enter::Above;
@@ -21,44 +23,27 @@ use sweep::Run;
 use sweep::Sofar;
 ghost use mathlib.Core.Path.{_≡_};
 ghost use mathlib.Core.Bool.{true};
-ghost use mathlib.Core.List.{List};
-ghost use Prim.Native.Nat.{ℕ, min, _+_, _-_, _*_, _≤_};
+ghost use Prim.Native.Nat.{min, _+_, _-_, _*_, _≤_};
 ghost use lib.ListN.{length};
 ghost use Rattle.rules.specs.Layout.{pageSize, headerSize, certSize, leafRoom};
 ghost use Rattle.rules.specs.Entry.{rising};
 ghost use Rattle.rules.specs.Table.{pageAt, fit0};
-ghost use Rattle.rules.specs.Walk.{Walked, walk, walkEach, walkOf};
+ghost use Rattle.rules.specs.Walk.{walk, walkEach, walkOf};
 ghost use Rattle.entries.specs.Spot.{keysIn, spotOf, startOf};
 ghost use Rattle.sweep.specs.Sweeps.{entersBy, aboveAt, Deep, Ready, placesLeft, Lies};
-ghost use Rattle.fill.specs.Fills.{listing, filling, filledIn, Known, Roomy, sofar, stopped, certsFrom, listed, asked};
+ghost use Rattle.fill.specs.Fills.{listing, filling, filledIn, Known, Fills, Roomy, sofar, certsFrom, listed, asked};
 
-// What a walk has come to: whether no damaged place was met, and how many certificates stand in the lists.
-pub struct Filled {
-    pub whole: bool,
-    pub count: usize,
-}
-
-// Whether a place is entered, told by `sweep`. The last certificate plays no part in it.
-fn enters(a: Asked, e: Place, s: Filled) -> bool
-    ensures { λ r. ⌜ r ≡ entersBy a e (sofar s) ⌝ }
+// Whether a place is entered, told by `sweep`: no damaged place was met, and the last certificate plays no part in it.
+fn enters(a: Asked, e: Place, filled: usize) -> bool
+    ensures { λ r. ⌜ r ≡ entersBy a e (sofar filled) ⌝ }
 {
     let seen = Sofar {
-        whole: s.whole,
-        count: s.count,
+        whole: true,
+        count: filled,
         key: 0,
         value: 0,
     };
     sweep::enters(a, e, seen)
-}
-
-// A damaged place ends the walk.
-fn stop(s: Filled) -> Filled
-    ensures { λ r. ⌜ r ≡ stopped s ⌝ }
-{
-    Filled {
-        whole: false,
-        count: s.count,
-    }
 }
 
 // How many of a leaf's keys are not above one. As a rule that is none or all of them, so both ends are tried first.
@@ -111,24 +96,20 @@ fn copy(
     many: usize,
     keys: &mut [u64],
     records: &mut [u32],
-    s: Filled,
-) -> Filled
+    filled: usize,
+) -> usize
     requires { ⌜ (headerSize + certSize * (first + many) ≤ length (now page)) × (length (now page) ≤ pageSize)
-        × (s .count + many ≤ length (now keys)) × (s .count + many ≤ length (now records)) ⌝ }
+        × (filled + many ≤ length (now keys)) × (filled + many ≤ length (now records)) ⌝ }
     ensures { λ r. ⌜ listing r (now (keys .exit)) (now (records .exit))
-        ≡ listed (certsFrom (now (page .entry)) first many) s (now (keys .entry)) (now (records .entry)) ⌝ }
+        ≡ listed (certsFrom (now (page .entry)) first many) filled (now (keys .entry)) (now (records .entry)) ⌝ }
 {
-    let at = s.count;
     let mut j = 0;
     while j < many {
-        keys[at + j] = head::cert_key(page, first + j);
-        records[at + j] = head::cert_record(page, first + j);
+        keys[filled + j] = head::cert_key(page, first + j);
+        records[filled + j] = head::cert_record(page, first + j);
         j += 1;
     }
-    Filled {
-        whole: s.whole,
-        count: at + many,
-    }
+    filled + many
 }
 
 // The certificates of a leaf that are asked for.
@@ -138,17 +119,17 @@ fn fill_leaf(
     a: Asked,
     keys: &mut [u64],
     records: &mut [u32],
-    s: Filled,
-) -> Filled
+    filled: usize,
+) -> usize
     requires { ⌜ (headerSize + certSize * count ≤ length (now page)) × (length (now page) ≤ pageSize)
-        × (rising (keysIn certSize count (now page)) ≡ true) × (s .count ≤ a .room) × Roomy a (now keys) (now records) ⌝ }
+        × (rising (keysIn certSize count (now page)) ≡ true) × (filled ≤ a .room) × Roomy a (now keys) (now records) ⌝ }
     ensures { λ r. ⌜ listing r (now (keys .exit)) (now (records .exit))
-        ≡ listed (asked a s (certsFrom (now (page .entry)) 0 count)) s (now (keys .entry)) (now (records .entry)) ⌝ }
+        ≡ listed (asked a filled (certsFrom (now (page .entry)) 0 count)) filled (now (keys .entry)) (now (records .entry)) ⌝ }
 {
     let first = start(page, count, a.low);
     let past = spot(page, count, a.high);
-    let many = span(first, past, a.room - s.count);
-    copy(page, first, many, keys, records, s)
+    let many = span(first, past, a.room - filled);
+    copy(page, first, many, keys, records, filled)
 }
 
 // The same of a leaf in the table.
@@ -159,16 +140,16 @@ fn fill_leaf_at(
     a: Asked,
     keys: &mut [u64],
     records: &mut [u32],
-    s: Filled,
-) -> Filled
+    filled: usize,
+) -> usize
     requires { ⌜ ((page + 1) * pageSize ≤ length (now t)) × (count ≤ leafRoom) × (rising (keysIn certSize count (pageAt (now t) page)) ≡ true)
-        × (s .count ≤ a .room) × Roomy a (now keys) (now records) ⌝ }
+        × (filled ≤ a .room) × Roomy a (now keys) (now records) ⌝ }
     ensures { λ r. ⌜ listing r (now (keys .exit)) (now (records .exit))
-        ≡ listed (asked a s (certsFrom (pageAt (now (t .entry)) page) 0 count)) s (now (keys .entry)) (now (records .entry)) ⌝ }
+        ≡ listed (asked a filled (certsFrom (pageAt (now (t .entry)) page) 0 count)) filled (now (keys .entry)) (now (records .entry)) ⌝ }
 {
     let from = page * PAGE;
     let to = from + PAGE;
-    fill_leaf(&t[from..to], count, a, keys, records, s)
+    fill_leaf(&t[from..to], count, a, keys, records, filled)
 }
 
 // The page walk: a place is entered. The certificates of a leaf are written, and it has no entries; those of an inner
@@ -183,32 +164,30 @@ fn walk_page(
     e: Place,
     keys: &mut [u64],
     records: &mut [u32],
-    s: Filled,
-) -> Filled
+    filled: usize,
+) -> usize
     requires { ⌜ (length (now t) ≡ n * pageSize) × Deep level above × Ready n c e × Roomy a (now keys) (now records)
-        × Known (now t) s (now keys) (now records) ⌝ }
-    ensures { λ r. ⌜ ((ks xs : List ℕ) (w : Walked) → filling (now (t .entry)) s (now (keys .entry)) (now (records .entry)) ≡ filledIn ks xs w
-        → filling (now (t .exit)) r (now (keys .exit)) (now (records .exit)) ≡ filledIn ks xs (walk level n c a (aboveAt level above) e w)) ⌝ }
+        × Known (walk level n c a (aboveAt level above) e) (filling (now t) filled (now keys) (now records)) ⌝ }
+    ensures { λ r. ⌜ Fills (walk level n c a (aboveAt level above) e)
+        (filling (now (t .entry)) filled (now (keys .entry)) (now (records .entry)))
+        (filling (now (t .exit)) r (now (keys .exit)) (now (records .exit))) ⌝ }
 {
-    if level == 0 {
-        return stop(s);
-    }
-    if !enters(a, e, s) {
-        return s;
+    if !enters(a, e, filled) {
+        return filled;
     }
     let Entered::Page(head) = enter::enter(t, n, c, above, e) else {
-        return stop(s);
+        return filled;
     };
     let page = e.child as usize;
     if head.kind == LEAF {
-        return fill_leaf_at(t, page, head.count as usize, a, keys, records, s);
+        return fill_leaf_at(t, page, head.count as usize, a, keys, records, filled);
     }
     let below = Above {
         parent: e.child,
         top: above.parent,
     };
     let run = sweep::run_of(e, head);
-    walk_entries(t, n, c, level - 1, a, below, run, keys, records, s)
+    walk_entries(t, n, c, level - 1, a, below, run, keys, records, filled)
 }
 
 // The entry walk: the first entry's page, then the entries behind it.
@@ -222,21 +201,22 @@ fn walk_entries(
     run: Run,
     keys: &mut [u64],
     records: &mut [u32],
-    s: Filled,
-) -> Filled
+    filled: usize,
+) -> usize
     requires { ⌜ (length (now t) ≡ n * pageSize) × Deep level above × (level ≤ 2) × Lies n c (now t) (above .parent) run
-        × Roomy a (now keys) (now records) × Known (now t) s (now keys) (now records) ⌝ }
-    ensures { λ r. ⌜ ((ks xs : List ℕ) (w : Walked) → filling (now (t .entry)) s (now (keys .entry)) (now (records .entry)) ≡ filledIn ks xs w
-        → filling (now (t .exit)) r (now (keys .exit)) (now (records .exit))
-        ≡ filledIn ks xs (walkEach (walk level n c a (aboveAt level above)) (placesLeft (now (t .entry)) (above .parent) run) w)) ⌝ }
+        × Roomy a (now keys) (now records)
+        × Known (walkEach (walk level n c a (aboveAt level above)) (placesLeft (now t) (above .parent) run)) (filling (now t) filled (now keys) (now records)) ⌝ }
+    ensures { λ r. ⌜ Fills (walkEach (walk level n c a (aboveAt level above)) (placesLeft (now (t .entry)) (above .parent) run))
+        (filling (now (t .entry)) filled (now (keys .entry)) (now (records .entry)))
+        (filling (now (t .exit)) r (now (keys .exit)) (now (records .exit))) ⌝ }
 {
     if run.left == 0 {
-        return s;
+        return filled;
     }
     let e = sweep::first_of(t, above.parent as usize, run);
-    let found = walk_page(t, n, c, level, a, above, e, keys, records, s);
+    let more = walk_page(t, n, c, level, a, above, e, keys, records, filled);
     let rest = sweep::rest_of(run);
-    walk_entries(t, n, c, level, a, above, rest, keys, records, found)
+    walk_entries(t, n, c, level, a, above, rest, keys, records, more)
 }
 
 // The whole walk, from the root on.
@@ -247,16 +227,13 @@ pub fn fill(
     a: Asked,
     keys: &mut [u64],
     records: &mut [u32],
-) -> Filled
-    requires { ⌜ (length (now t) ≡ n * pageSize) × (fit0 n (now t) ≡ true) × Roomy a (now keys) (now records) ⌝ }
+) -> usize
+    requires { ⌜ (length (now t) ≡ n * pageSize) × (fit0 n (now t) ≡ true) × Roomy a (now keys) (now records)
+        × (walkOf n c a (now t) .whole ≡ true) ⌝ }
     ensures { λ r. ⌜ filling (now (t .exit)) r (now (keys .exit)) (now (records .exit))
         ≡ filledIn (now (keys .entry)) (now (records .entry)) (walkOf n c a (now (t .entry))) ⌝ }
 {
-    let nothing = Filled {
-        whole: true,
-        count: 0,
-    };
     let above = Above { parent: 0, top: 0 };
     let root = head::root_place(t);
-    walk_page(t, n, c, LEVELS, a, above, root, keys, records, nothing)
+    walk_page(t, n, c, LEVELS, a, above, root, keys, records, 0)
 }

@@ -18,7 +18,6 @@ use Rattle.dry.specs.Walk.{dryOf}
 use Rattle.dry.specs.declared.Dry.{Dry}
 use Rattle.dry.proofs.Answers.{dry-whole}
 use Rattle.fill.specs.Fills.{listsOf, Fill, filling, filledIn}
-use Rattle.fill.specs.declared.Filled.{Filled}
 use Rattle.list.specs.Lists.{telling, told}
 
 -- ── The asked range ─────────────────────────────────────────────────────────────────────────────────────────────
@@ -50,9 +49,9 @@ module _ (ks xs : List ℕ) (w : Walked) where
       rw (told, h) (ap (λ (x : sweeps.Sweep). telling (x .table) Listed.Damaged ks xs) q)
 
   -- where none does, the filling walk has filled them
-  pub tell-filled : w .whole ≡ true → (u : List ℕ) (r : Filled) (us vs : List ℕ) → filling u r us vs ≡ filledIn ks xs w
-      → telling u (Listed.Filled (r .count)) us vs ≡ told ks xs w
+  pub tell-filled : w .whole ≡ true → (u : List ℕ) (r : ℕ) (us vs : List ℕ) → filling u r us vs ≡ filledIn ks xs w
+      → telling u (Listed.Filled r) us vs ≡ told ks xs w
   unfolding told filledIn listsOf
   tell-filled h u r us vs q =
       rw (told, h)
-      (ap (λ (x : Fill). telling (x .table) (Listed.Filled (x .lists .filled .count)) (x .lists .keys) (x .lists .records)) q)
+      (ap (λ (x : Fill). telling (x .table) (Listed.Filled (x .lists .filled)) (x .lists .keys) (x .lists .records)) q)

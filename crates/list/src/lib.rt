@@ -61,7 +61,7 @@ fn look(t: &mut [u8], n: usize, c: u32, a: Asked, keys: &mut [u64], records: &mu
         return Listed::Damaged;
     }
     let filled = fill::fill(t, n, c, a, keys, records);
-    Listed::Filled(filled.count)
+    Listed::Filled(filled)
 }
 
 pub fn list(

@@ -7,8 +7,7 @@ use Rattle.enter.specs.Entering.{entering}
 use Rattle.sweep.specs.declared.Run.{Run}
 use Rattle.sweep.proofs.Steps as sweeps
 use Rattle.fill.specs.Fills.{filling, Roomy, sofar}
-use Rattle.fill.specs.declared.Filled.{Filled}
-use Rattle.fill.proofs.Steps.{room-entered, step-deep, step-past, step-damaged, leaf-room, leaf-rise, step-leaf, inner-known, step-inner, step-none, first-ready, rest-lies, rest-known, step-more}
+use Rattle.fill.proofs.Steps.{room-entered, level-from, step-past, step-damaged, leaf-room, leaf-rise, step-leaf, inner-known, step-inner, step-none, first-ready, first-known, rest-lies, rest-known, step-more}
 use borrow.Author.Needs.{needs}
 use native.Mathlib.Omega.{arith}
 use Prim.Native.Nat.{ℕ, _<_, _≤_, _+_, _*_}
@@ -23,7 +22,6 @@ use Rattle.fill.proofs.+walk_entries+walk_page.Lts-walk_page as walk-pa
 use Rattle.enter.proofs.enter.Reads as enter-reads
 use Rattle.fill.proofs.enters.Reads as enters-reads
 use Rattle.fill.proofs.fill_leaf_at.Reads as fill-leaf-at-reads
-use Rattle.fill.proofs.stop.Reads as stop-reads
 use Rattle.sweep.proofs.first_of.Reads as first-of-reads
 use Rattle.sweep.proofs.rest_of.Reads as rest-of-reads
 use Rattle.sweep.proofs.run_of.Reads as run-of-reads
@@ -59,12 +57,12 @@ abbrev walk-entries-in : ℕ → walk-entries-lts.Claims
 walk-entries-in t = (first-of-reads.Asked, first-of-reads.Learnt, walk-page-below t, walk-page.Post, rest-of-reads.Asked, rest-of-reads.Learnt, walk-entries-below t, walk-entries.Post)
 
 abbrev walk-page-in : ℕ → walk-page-lts.Claims
-walk-page-in t = (stop-reads.Asked, stop-reads.Learnt, enters-reads.Asked, enters-reads.Learnt, enter-reads.Asked, enter-reads.Learnt, fill-leaf-at-reads.Asked, fill-leaf-at-reads.Learnt, run-of-reads.Asked, run-of-reads.Learnt, walk-entries-below t, walk-entries.Post)
+walk-page-in t = (enters-reads.Asked, enters-reads.Learnt, enter-reads.Asked, enter-reads.Learnt, fill-leaf-at-reads.Asked, fill-leaf-at-reads.Learnt, run-of-reads.Asked, run-of-reads.Learnt, walk-entries-below t, walk-entries.Post)
 
 walk-entries-returns : (t : ℕ) → walk-entries-lts.Need-returns (walk-entries-in t) (walk-entries-at t) walk-entries.Post
 walk-entries-returns t c =
     let args = c .before .before .before .before .before .args in
-    step-none (args .level) (args .n) (args .c) (args .a) (args .above) (args .run) (args .t .now) (args .s) (args .keys .now) (args .records .now) (c .if1 .taken)
+    step-none (args .level) (args .n) (args .c) (args .a) (args .above) (args .run) (args .t .now) (args .filled) (args .keys .now) (args .records .now) (c .if1 .taken)
 
 walk-entries-cast-first-of : (t : ℕ) → walk-entries-lts.Need-cast-first-of (walk-entries-in t) (walk-entries-at t) walk-entries.Post
 walk-entries-cast-first-of t c = search needs
@@ -80,9 +78,11 @@ walk-entries-walk-page-requires t c κs =
     let pre = c .before .before .before .before .before .before .before .before .before .before .before .pre .1 in
     let more : 1 ≤ args .run .left = omega (arith, c .before .before .before .before .before .before .if1 .left) in
     let first = c .before .before .before .first-of in
-    let ready = first-ready (args .level) (args .n) (args .c) (args .a) (args .above) (args .run) (args .t .now) (args .s) (args .keys .now) (args .records .now)
+    let ready = first-ready (args .level) (args .n) (args .c) (args .a) (args .above) (args .run) (args .t .now) (args .filled) (args .keys .now) (args .records .now)
     (pre .0) (c .before .before .before .before .before .before .before .before .before .before .slice-known .given) (pre .2) (pre .3) more (first .result) (first .ensures) in
-    (omega (arith, c .before .before .before .before .before .before .before .before .before .before .before .pre .0), (pre .0, pre .1, ready, pre .4, pre .5))
+    let known = first-known (args .level) (args .n) (args .c) (args .a) (args .above) (args .run) (args .t .now) (args .filled) (args .keys .now) (args .records .now)
+    (pre .0) (c .before .before .before .before .before .before .before .before .before .before .slice-known .given) (pre .2) (pre .3) more (first .result) (first .ensures) (pre .5) in
+    (omega (arith, c .before .before .before .before .before .before .before .before .before .before .before .pre .0), (pre .0, pre .1, ready, pre .4, known))
 
 walk-entries-rest-of-requires : (t : ℕ) → walk-entries-lts.Need-rest-of-requires (walk-entries-in t) (walk-entries-at t) walk-entries.Post
 walk-entries-rest-of-requires t c κs = omega (arith, c .before .before .before .before .before .before .before .before .before .before .before .before .before .if1 .left)
@@ -94,10 +94,10 @@ walk-entries-walk-entries-requires t c κs =
     let more : 1 ≤ args .run .left = omega (arith, c .before .before .before .before .before .before .before .before .before .before .before .before .before .before .before .before .before .if1 .left) in
     let first = c .before .before .before .before .before .before .before .before .before .before .before .before .before .before .first-of in
     let page = c .before .before .before .before .before .before .before .before .before .before .walk-page in
-    let lies = rest-lies (args .level) (args .n) (args .c) (args .a) (args .above) (args .run) (args .t .now) (args .s) (args .keys .now) (args .records .now)
+    let lies = rest-lies (args .level) (args .n) (args .c) (args .a) (args .above) (args .run) (args .t .now) (args .filled) (args .keys .now) (args .records .now)
     (pre .0) (c .before .before .before .before .before .before .before .before .before .before .before .before .before .before .before .before .before .before .before .before .before .slice-known .given) (pre .2) (pre .3) more (first .result) (first .ensures)
     (page .last .0) (page .result) (page .last .1 .1 .1 .1 .1 .1 .1 .0) (page .last .1 .1 .1 .1 .1 .1 .1 .1 .0) (c .before .before .before .rest-of .result) (c .before .before .before .rest-of .ensures) (page .ensures) (pre .5) in
-    let known = rest-known (args .level) (args .n) (args .c) (args .a) (args .above) (args .run) (args .t .now) (args .s) (args .keys .now) (args .records .now)
+    let known = rest-known (args .level) (args .n) (args .c) (args .a) (args .above) (args .run) (args .t .now) (args .filled) (args .keys .now) (args .records .now)
     (pre .0) (c .before .before .before .before .before .before .before .before .before .before .before .before .before .before .before .before .before .before .before .before .before .slice-known .given) (pre .2) (pre .3) more (first .result) (first .ensures)
     (page .last .0) (page .result) (page .last .1 .1 .1 .1 .1 .1 .1 .0) (page .last .1 .1 .1 .1 .1 .1 .1 .1 .0) (c .before .before .before .rest-of .result) (c .before .before .before .rest-of .ensures) (page .ensures) (pre .5) in
     let roomy : Roomy (args .a) (page .last .1 .1 .1 .1 .1 .1 .1 .0) (page .last .1 .1 .1 .1 .1 .1 .1 .1 .0) = record {
@@ -124,33 +124,23 @@ walk-entries-returns-2 t c =
     let first = c .before .before .before .before .before .before .before .before .before .before .before .before .before .before .before .before .before .before .before .before .before .first-of in
     let page = c .before .before .before .before .before .before .before .before .before .before .before .before .before .before .before .before .before .walk-page in
     let rest = c .before .before .before .before .before .before .walk-entries in
-    step-more (args .level) (args .n) (args .c) (args .a) (args .above) (args .run) (args .t .now) (args .s) (args .keys .now) (args .records .now)
+    step-more (args .level) (args .n) (args .c) (args .a) (args .above) (args .run) (args .t .now) (args .filled) (args .keys .now) (args .records .now)
     (pre .0) (c .before .before .before .before .before .before .before .before .before .before .before .before .before .before .before .before .before .before .before .before .before .before .before .before .before .before .before .before .slice-known .given) (pre .2) (pre .3) more (first .result) (first .ensures)
     (page .last .0) (page .result) (page .last .1 .1 .1 .1 .1 .1 .1 .0) (page .last .1 .1 .1 .1 .1 .1 .1 .1 .0) (c .before .before .before .before .before .before .before .before .before .before .rest-of .result) (c .before .before .before .before .before .before .before .before .before .before .rest-of .ensures) (page .ensures)
-    (rest .last .0) (rest .result) (rest .last .1 .1 .1 .1 .1 .1 .1 .0) (rest .last .1 .1 .1 .1 .1 .1 .1 .1 .0) (rest .ensures)
-
-walk-page-stop-requires : (t : ℕ) → walk-page-lts.Need-stop-requires (walk-page-in t) (walk-page-at t) walk-page.Post
-walk-page-stop-requires t c κs = search needs
-
-walk-page-returns : (t : ℕ) → walk-page-lts.Need-returns (walk-page-in t) (walk-page-at t) walk-page.Post
-walk-page-returns t c =
-    let args = c .before .before .before .before .before .args in
-    λ ks xs w q.
-    ap (λ (f : Filled). filling (args .t .now) f (args .keys .now) (args .records .now)) (c .stop .ensures)
-    ∙ step-deep (args .level) (args .n) (args .c) (args .a) (args .above) (args .e) (args .t .now) (args .s) (args .keys .now) (args .records .now) (c .before .if1 .taken) ks xs w q
+    (filling (rest .last .0) (rest .result) (rest .last .1 .1 .1 .1 .1 .1 .1 .0) (rest .last .1 .1 .1 .1 .1 .1 .1 .1 .0)) (rest .ensures)
 
 walk-page-enters-requires : (t : ℕ) → walk-page-lts.Need-enters-requires (walk-page-in t) (walk-page-at t) walk-page.Post
 walk-page-enters-requires t c κs = search needs
 
-walk-page-returns-2 : (t : ℕ) → walk-page-lts.Need-returns-2 (walk-page-in t) (walk-page-at t) walk-page.Post
-walk-page-returns-2 t c =
-    let args = c .before .before .before .before .before .before .args in
-    let deep : 0 < args .level = omega (arith, c .before .before .if1 .left) in
-    step-past (args .level) (args .n) (args .c) (args .a) (args .above) (args .e) (args .t .now) (args .s) (args .keys .now) (args .records .now) deep
-    (sym (c .before .enters .ensures) ∙ not-true (c .before .enters .result) (c .if2 .taken))
+walk-page-returns : (t : ℕ) → walk-page-lts.Need-returns (walk-page-in t) (walk-page-at t) walk-page.Post
+walk-page-returns t c =
+    let args = c .before .before .before .before .before .args in
+    let pre = c .before .before .before .before .before .pre .1 in
+    let deep = level-from (args .level) (args .n) (args .c) (args .a) (args .above) (args .e) (args .t .now) (args .filled) (args .keys .now) (args .records .now) (pre .4) in
+    step-past (args .level) (args .n) (args .c) (args .a) (args .above) (args .e) (args .t .now) (args .filled) (args .keys .now) (args .records .now) deep (sym (c .before .enters .ensures) ∙ not-true (c .before .enters .result) (c .if1 .taken))
 
 walk-page-enter-requires : (t : ℕ) → walk-page-lts.Need-enter-requires (walk-page-in t) (walk-page-at t) walk-page.Post
-walk-page-enter-requires t c κs = let pre = c .before .before .before .before .before .before .before .pre .1 in (pre .0, pre .2 .child-below)
+walk-page-enter-requires t c κs = let pre = c .before .before .before .before .before .before .pre .1 in (pre .0, pre .2 .child-below)
 
 walk-page-enum-known-head : (t : ℕ) → walk-page-lts.Need-enum-known-head (walk-page-in t) (walk-page-at t) walk-page.Post
 walk-page-enum-known-head t c = search needs
@@ -158,24 +148,19 @@ walk-page-enum-known-head t c = search needs
 walk-page-enum-told : (t : ℕ) → walk-page-lts.Need-enum-told (walk-page-in t) (walk-page-at t) walk-page.Post
 walk-page-enum-told t c = search needs
 
-walk-page-stop-requires-2 : (t : ℕ) → walk-page-lts.Need-stop-requires-2 (walk-page-in t) (walk-page-at t) walk-page.Post
-walk-page-stop-requires-2 t c κs = search needs
-
 walk-page-same-length : (t : ℕ) → walk-page-lts.Need-same-length (walk-page-in t) (walk-page-at t) walk-page.Post
-walk-page-same-length t c = omega (arith, c .before .before .before .before .before .enter .kept .0)
+walk-page-same-length t c = omega (arith, c .before .before .before .before .enter .kept .0)
 
-walk-page-returns-3 : (t : ℕ) → walk-page-lts.Need-returns-3 (walk-page-in t) (walk-page-at t) walk-page.Post
-walk-page-returns-3 t c =
-    let args = c .before .before .before .before .before .before .before .before .before .before .before .before .before .args in
-    let pre = c .before .before .before .before .before .before .before .before .before .before .before .before .before .pre .1 in
-    let deep : 0 < args .level = omega (arith, c .before .before .before .before .before .before .before .before .before .if1 .left) in
-    let meets = sym (c .before .before .before .before .before .before .before .before .enters .ensures) ∙ not-false (c .before .before .before .before .before .before .before .before .enters .result) (c .before .before .before .before .before .before .before .if2 .left) in
-    let table = c .before .before .before .before .before .enter .last .0 in
-    let told = ap (entering table) (sym (c .before .enum-told .given .1)) ∙ c .before .before .before .before .before .enter .ensures in
-    λ ks xs w q.
-    ap (λ (f : Filled). filling table f (args .keys .now) (args .records .now)) (c .stop2 .ensures)
-    ∙ step-damaged (args .level) (args .n) (args .c) (args .a) (args .above) (args .e) (args .t .now) (args .s) (args .keys .now) (args .records .now)
-    deep meets (pre .0) (c .before .before .before .before .before .before .before .before .before .before .before .before .slice-known .given) (pre .1) (pre .2) table told ks xs w q
+walk-page-returns-2 : (t : ℕ) → walk-page-lts.Need-returns-2 (walk-page-in t) (walk-page-at t) walk-page.Post
+walk-page-returns-2 t c =
+    let args = c .before .before .before .before .before .before .before .before .before .before .before .args in
+    let pre = c .before .before .before .before .before .before .before .before .before .before .before .pre .1 in
+    let deep = level-from (args .level) (args .n) (args .c) (args .a) (args .above) (args .e) (args .t .now) (args .filled) (args .keys .now) (args .records .now) (pre .4) in
+    let meets = sym (c .before .before .before .before .before .before .before .enters .ensures) ∙ not-false (c .before .before .before .before .before .before .before .enters .result) (c .before .before .before .before .before .before .if1 .left) in
+    let table = c .before .before .before .before .enter .last .0 in
+    let told = ap (entering table) (sym (c .enum-told .given .1)) ∙ c .before .before .before .before .enter .ensures in
+    step-damaged (args .level) (args .n) (args .c) (args .a) (args .above) (args .e) (args .t .now) (args .filled) (args .keys .now) (args .records .now)
+    deep meets (pre .0) (c .before .before .before .before .before .before .before .before .before .before .slice-known .given) (pre .1) (pre .2) table told
 
 walk-page-cast-page : (t : ℕ) → walk-page-lts.Need-cast-page (walk-page-in t) (walk-page-at t) walk-page.Post
 walk-page-cast-page t c = search needs
@@ -185,18 +170,18 @@ walk-page-cast-fill-leaf-at t c = search needs
 
 walk-page-fill-leaf-at-requires : (t : ℕ) → walk-page-lts.Need-fill-leaf-at-requires (walk-page-in t) (walk-page-at t) walk-page.Post
 walk-page-fill-leaf-at-requires t c κs =
-    let args = c .before .before .before .before .before .before .before .before .before .before .before .before .before .before .before .before .before .before .before .before .args in
-    let pre = c .before .before .before .before .before .before .before .before .before .before .before .before .before .before .before .before .before .before .before .before .pre .1 in
-    let deep : 0 < args .level = omega (arith, c .before .before .before .before .before .before .before .before .before .before .before .before .before .before .before .before .if1 .left) in
-    let meets = sym (c .before .before .before .before .before .before .before .before .before .before .before .before .before .before .before .enters .ensures) ∙ not-false (c .before .before .before .before .before .before .before .before .before .before .before .before .before .before .before .enters .result) (c .before .before .before .before .before .before .before .before .before .before .before .before .before .before .if2 .left) in
+    let args = c .before .before .before .before .before .before .before .before .before .before .before .before .before .before .before .before .before .before .before .args in
+    let pre = c .before .before .before .before .before .before .before .before .before .before .before .before .before .before .before .before .before .before .before .pre .1 in
+    let deep = level-from (args .level) (args .n) (args .c) (args .a) (args .above) (args .e) (args .t .now) (args .filled) (args .keys .now) (args .records .now) (pre .4) in
+    let meets = sym (c .before .before .before .before .before .before .before .before .before .before .before .before .before .before .before .enters .ensures) ∙ not-false (c .before .before .before .before .before .before .before .before .before .before .before .before .before .before .before .enters .result) (c .before .before .before .before .before .before .before .before .before .before .before .before .before .before .if1 .left) in
     let table = c .before .before .before .before .before .before .before .before .before .before .before .before .enter .last .0 in
     let head = c .before .before .before .before .before .before .before .before .head .given .0 .0 in
     let told = ap (entering table) (sym (c .before .before .before .before .before .before .before .before .head .given .1)) ∙ c .before .before .before .before .before .before .before .before .before .before .before .before .enter .ensures in
-    let room = leaf-room (args .level) (args .n) (args .c) (args .a) (args .above) (args .e) (args .t .now) (args .s) (args .keys .now) (args .records .now)
-    deep meets (pre .0) (c .before .before .before .before .before .before .before .before .before .before .before .before .before .before .before .before .before .before .before .slice-known .given) (pre .1) (pre .2) table head told (c .before .before .before .before .if3 .taken) in
-    let rise = leaf-rise (args .level) (args .n) (args .c) (args .a) (args .above) (args .e) (args .t .now) (args .s) (args .keys .now) (args .records .now)
-    deep meets (pre .0) (c .before .before .before .before .before .before .before .before .before .before .before .before .before .before .before .before .before .before .before .slice-known .given) (pre .1) (pre .2) table head told (c .before .before .before .before .if3 .taken) in
-    (omega (arith, c .before .before .before .before .before .before .before .before .before .before .before .before .enter .kept .0, pre .0, pre .2 .child-below), room, rise, room-entered (args .a) (args .e) (args .s) meets, pre .3)
+    let room = leaf-room (args .level) (args .n) (args .c) (args .a) (args .above) (args .e) (args .t .now) (args .filled) (args .keys .now) (args .records .now)
+    deep meets (pre .0) (c .before .before .before .before .before .before .before .before .before .before .before .before .before .before .before .before .before .before .slice-known .given) (pre .1) (pre .2) table head told (c .before .before .before .before .if2 .taken) in
+    let rise = leaf-rise (args .level) (args .n) (args .c) (args .a) (args .above) (args .e) (args .t .now) (args .filled) (args .keys .now) (args .records .now)
+    deep meets (pre .0) (c .before .before .before .before .before .before .before .before .before .before .before .before .before .before .before .before .before .before .slice-known .given) (pre .1) (pre .2) table head told (c .before .before .before .before .if2 .taken) in
+    (omega (arith, c .before .before .before .before .before .before .before .before .before .before .before .before .enter .kept .0, pre .0, pre .2 .child-below), room, rise, room-entered (args .a) (args .e) (args .filled) meets, pre .3)
 
 walk-page-same-length-2 : (t : ℕ) → walk-page-lts.Need-same-length-2 (walk-page-in t) (walk-page-at t) walk-page.Post
 walk-page-same-length-2 t c = omega (arith, c .before .before .before .before .before .before .before .before .before .before .before .before .before .before .before .before .before .enter .kept .0)
@@ -207,49 +192,53 @@ walk-page-same-length-3 t c = omega (arith, c .before .before .before .before .f
 walk-page-same-length-4 : (t : ℕ) → walk-page-lts.Need-same-length-4 (walk-page-in t) (walk-page-at t) walk-page.Post
 walk-page-same-length-4 t c = omega (arith, c .before .before .before .before .fill-leaf-at .kept .1 .1 .1 .1 .1 .0)
 
-walk-page-returns-4 : (t : ℕ) → walk-page-lts.Need-returns-4 (walk-page-in t) (walk-page-at t) walk-page.Post
-walk-page-returns-4 t c =
-    let args = c .before .before .before .before .before .before .before .before .before .before .before .before .before .before .before .before .before .before .before .before .before .before .before .before .before .args in
-    let pre = c .before .before .before .before .before .before .before .before .before .before .before .before .before .before .before .before .before .before .before .before .before .before .before .before .before .pre .1 in
-    let deep : 0 < args .level = omega (arith, c .before .before .before .before .before .before .before .before .before .before .before .before .before .before .before .before .before .before .before .before .before .if1 .left) in
-    let meets = sym (c .before .before .before .before .before .before .before .before .before .before .before .before .before .before .before .before .before .before .before .before .enters .ensures) ∙ not-false (c .before .before .before .before .before .before .before .before .before .before .before .before .before .before .before .before .before .before .before .before .enters .result) (c .before .before .before .before .before .before .before .before .before .before .before .before .before .before .before .before .before .before .before .if2 .left) in
+walk-page-returns-3 : (t : ℕ) → walk-page-lts.Need-returns-3 (walk-page-in t) (walk-page-at t) walk-page.Post
+walk-page-returns-3 t c =
+    let args = c .before .before .before .before .before .before .before .before .before .before .before .before .before .before .before .before .before .before .before .before .before .before .before .before .args in
+    let pre = c .before .before .before .before .before .before .before .before .before .before .before .before .before .before .before .before .before .before .before .before .before .before .before .before .pre .1 in
+    let deep = level-from (args .level) (args .n) (args .c) (args .a) (args .above) (args .e) (args .t .now) (args .filled) (args .keys .now) (args .records .now) (pre .4) in
+    let meets = sym (c .before .before .before .before .before .before .before .before .before .before .before .before .before .before .before .before .before .before .before .before .enters .ensures) ∙ not-false (c .before .before .before .before .before .before .before .before .before .before .before .before .before .before .before .before .before .before .before .before .enters .result) (c .before .before .before .before .before .before .before .before .before .before .before .before .before .before .before .before .before .before .before .if1 .left) in
     let table = c .before .before .before .before .before .before .before .before .before .before .before .before .before .before .before .before .before .enter .last .0 in
     let head = c .before .before .before .before .before .before .before .before .before .before .before .before .before .head .given .0 .0 in
     let told = ap (entering table) (sym (c .before .before .before .before .before .before .before .before .before .before .before .before .before .head .given .1)) ∙ c .before .before .before .before .before .before .before .before .before .before .before .before .before .before .before .before .before .enter .ensures in
     let filled = c .before .before .before .before .fill-leaf-at in
-    step-leaf (args .level) (args .n) (args .c) (args .a) (args .above) (args .e) (args .t .now) (args .s) (args .keys .now) (args .records .now)
-    deep meets (pre .0) (c .before .before .before .before .before .before .before .before .before .before .before .before .before .before .before .before .before .before .before .before .before .before .before .before .slice-known .given) (pre .1) (pre .2) table head told (c .before .before .before .before .before .before .before .before .before .if3 .taken) (filled .result) (filled .last .1 .1 .1 .1 .0) (filled .last .1 .1 .1 .1 .1 .0) (filled .ensures)
+    step-leaf (args .level) (args .n) (args .c) (args .a) (args .above) (args .e) (args .t .now) (args .filled) (args .keys .now) (args .records .now)
+    deep meets (pre .0) (c .before .before .before .before .before .before .before .before .before .before .before .before .before .before .before .before .before .before .before .before .before .before .before .slice-known .given) (pre .1) (pre .2) table head told (c .before .before .before .before .before .before .before .before .before .if2 .taken) (filled .result) (filled .last .1 .1 .1 .1 .0) (filled .last .1 .1 .1 .1 .1 .0) (filled .ensures)
 
 walk-page-run-of-requires : (t : ℕ) → walk-page-lts.Need-run-of-requires (walk-page-in t) (walk-page-at t) walk-page.Post
 walk-page-run-of-requires t c κs =
-    let args = c .before .before .before .before .before .before .before .before .before .before .before .before .before .before .before .before .args in
-    let pre = c .before .before .before .before .before .before .before .before .before .before .before .before .before .before .before .before .pre .1 in
-    let deep : 0 < args .level = omega (arith, c .before .before .before .before .before .before .before .before .before .before .before .before .if1 .left) in
-    let meets = sym (c .before .before .before .before .before .before .before .before .before .before .before .enters .ensures) ∙ not-false (c .before .before .before .before .before .before .before .before .before .before .before .enters .result) (c .before .before .before .before .before .before .before .before .before .before .if2 .left) in
+    let args = c .before .before .before .before .before .before .before .before .before .before .before .before .before .before .before .args in
+    let pre = c .before .before .before .before .before .before .before .before .before .before .before .before .before .before .before .pre .1 in
+    let deep = level-from (args .level) (args .n) (args .c) (args .a) (args .above) (args .e) (args .t .now) (args .filled) (args .keys .now) (args .records .now) (pre .4) in
+    let meets = sym (c .before .before .before .before .before .before .before .before .before .before .before .enters .ensures) ∙ not-false (c .before .before .before .before .before .before .before .before .before .before .before .enters .result) (c .before .before .before .before .before .before .before .before .before .before .if1 .left) in
     let table = c .before .before .before .before .before .before .before .before .enter .last .0 in
     let head = c .before .before .before .before .head .given .0 .0 in
     let told = ap (entering table) (sym (c .before .before .before .before .head .given .1)) ∙ c .before .before .before .before .before .before .before .before .enter .ensures in
-    sweeps.kind-from (args .level) (args .n) (args .c) (args .a) (args .above) (args .e) (args .t .now) (sofar (args .s))
-    deep meets (pre .0) (c .before .before .before .before .before .before .before .before .before .before .before .before .before .before .before .slice-known .given) (pre .1) (pre .2) table head told
+    sweeps.kind-from (args .level) (args .n) (args .c) (args .a) (args .above) (args .e) (args .t .now) (sofar (args .filled))
+    deep meets (pre .0) (c .before .before .before .before .before .before .before .before .before .before .before .before .before .before .slice-known .given) (pre .1) (pre .2) table head told
 
 walk-page-sub-walk-entries : (t : ℕ) → walk-page-lts.Need-sub-walk-entries (walk-page-in t) (walk-page-at t) walk-page.Post
-walk-page-sub-walk-entries t c = omega (arith, c .before .before .before .before .before .before .before .before .before .before .before .before .before .before .if1 .left)
+walk-page-sub-walk-entries t c =
+    let args = c .before .before .before .before .before .before .before .before .before .before .before .before .before .before .before .before .before .args in
+    let pre = c .before .before .before .before .before .before .before .before .before .before .before .before .before .before .before .before .before .pre .1 in
+    let deep = level-from (args .level) (args .n) (args .c) (args .a) (args .above) (args .e) (args .t .now) (args .filled) (args .keys .now) (args .records .now) (pre .4) in
+    omega arith
 
 walk-page-walk-entries-requires : (t : ℕ) → walk-page-lts.Need-walk-entries-requires (walk-page-in t) (walk-page-at t) walk-page.Post
 walk-page-walk-entries-requires t c κs =
-    let args = c .before .before .before .before .before .before .before .before .before .before .before .before .before .before .before .before .before .before .before .before .args in
-    let pre = c .before .before .before .before .before .before .before .before .before .before .before .before .before .before .before .before .before .before .before .before .pre .1 in
-    let deep : 0 < args .level = omega (arith, c .before .before .before .before .before .before .before .before .before .before .before .before .before .before .before .before .if1 .left) in
-    let meets = sym (c .before .before .before .before .before .before .before .before .before .before .before .before .before .before .before .enters .ensures) ∙ not-false (c .before .before .before .before .before .before .before .before .before .before .before .before .before .before .before .enters .result) (c .before .before .before .before .before .before .before .before .before .before .before .before .before .before .if2 .left) in
+    let args = c .before .before .before .before .before .before .before .before .before .before .before .before .before .before .before .before .before .before .before .args in
+    let pre = c .before .before .before .before .before .before .before .before .before .before .before .before .before .before .before .before .before .before .before .pre .1 in
+    let deep = level-from (args .level) (args .n) (args .c) (args .a) (args .above) (args .e) (args .t .now) (args .filled) (args .keys .now) (args .records .now) (pre .4) in
+    let meets = sym (c .before .before .before .before .before .before .before .before .before .before .before .before .before .before .before .enters .ensures) ∙ not-false (c .before .before .before .before .before .before .before .before .before .before .before .before .before .before .before .enters .result) (c .before .before .before .before .before .before .before .before .before .before .before .before .before .before .if1 .left) in
     let table = c .before .before .before .before .before .before .before .before .before .before .before .before .enter .last .0 in
     let head = c .before .before .before .before .before .before .before .before .head .given .0 .0 in
     let told = ap (entering table) (sym (c .before .before .before .before .before .before .before .before .head .given .1)) ∙ c .before .before .before .before .before .before .before .before .before .before .before .before .enter .ensures in
-    let lies = sweeps.lies (args .level) (args .n) (args .c) (args .a) (args .above) (args .e) (args .t .now) (sofar (args .s))
-    deep meets (pre .0) (c .before .before .before .before .before .before .before .before .before .before .before .before .before .before .before .before .before .before .before .slice-known .given) (pre .1) (pre .2) table head told (c .before .before .before .run-of .result) (c .before .before .before .run-of .ensures) in
-    let known = inner-known (args .level) (args .n) (args .c) (args .a) (args .above) (args .e) (args .t .now) (args .s) (args .keys .now) (args .records .now)
-    deep meets (pre .0) (c .before .before .before .before .before .before .before .before .before .before .before .before .before .before .before .before .before .before .before .slice-known .given) (pre .1) (pre .2) table head told (c .before .before .before .before .if3 .left) (pre .4) in
+    let lies = sweeps.lies (args .level) (args .n) (args .c) (args .a) (args .above) (args .e) (args .t .now) (sofar (args .filled))
+    deep meets (pre .0) (c .before .before .before .before .before .before .before .before .before .before .before .before .before .before .before .before .before .before .slice-known .given) (pre .1) (pre .2) table head told (c .before .before .before .run-of .result) (c .before .before .before .run-of .ensures) in
+    let known = inner-known (args .level) (args .n) (args .c) (args .a) (args .above) (args .e) (args .t .now) (args .filled) (args .keys .now) (args .records .now)
+    deep meets (pre .0) (c .before .before .before .before .before .before .before .before .before .before .before .before .before .before .before .before .before .before .slice-known .given) (pre .1) (pre .2) table head told (c .before .before .before .before .if2 .left) (c .before .before .before .run-of .result) (c .before .before .before .run-of .ensures) (pre .4) in
     let below = sweeps.deep-below (args .level) (args .above) (args .e) deep (pre .1) in
-    (omega (arith, c .before .before .before .before .before .before .before .before .before .before .before .before .before .before .before .before .before .before .before .before .pre .0, lies .left, lies .room), (omega (arith, c .before .before .before .before .before .before .before .before .before .before .before .before .enter .kept .0, pre .0), below, omega (arith, pre .1 .most), lies, pre .3, known))
+    (omega (arith, c .before .before .before .before .before .before .before .before .before .before .before .before .before .before .before .before .before .before .before .pre .0, lies .left, lies .room), (omega (arith, c .before .before .before .before .before .before .before .before .before .before .before .before .enter .kept .0, pre .0), below, omega (arith, pre .1 .most), lies, pre .3, known))
 
 walk-page-same-length-5 : (t : ℕ) → walk-page-lts.Need-same-length-5 (walk-page-in t) (walk-page-at t) walk-page.Post
 walk-page-same-length-5 t c = omega (arith, c .before .before .before .before .before .before .walk-entries .kept .0, c .before .before .before .before .before .before .before .before .before .before .before .before .before .before .before .before .before .before .before .enter .kept .0)
@@ -260,19 +249,19 @@ walk-page-same-length-6 t c = omega (arith, c .before .before .before .before .b
 walk-page-same-length-7 : (t : ℕ) → walk-page-lts.Need-same-length-7 (walk-page-in t) (walk-page-at t) walk-page.Post
 walk-page-same-length-7 t c = omega (arith, c .before .before .before .before .before .before .walk-entries .kept .1 .1 .1 .1 .1 .1 .1 .1 .0)
 
-walk-page-returns-5 : (t : ℕ) → walk-page-lts.Need-returns-5 (walk-page-in t) (walk-page-at t) walk-page.Post
-walk-page-returns-5 t c =
-    let args = c .before .before .before .before .before .before .before .before .before .before .before .before .before .before .before .before .before .before .before .before .before .before .before .before .before .before .before .args in
-    let pre = c .before .before .before .before .before .before .before .before .before .before .before .before .before .before .before .before .before .before .before .before .before .before .before .before .before .before .before .pre .1 in
-    let deep : 0 < args .level = omega (arith, c .before .before .before .before .before .before .before .before .before .before .before .before .before .before .before .before .before .before .before .before .before .before .before .if1 .left) in
-    let meets = sym (c .before .before .before .before .before .before .before .before .before .before .before .before .before .before .before .before .before .before .before .before .before .before .enters .ensures) ∙ not-false (c .before .before .before .before .before .before .before .before .before .before .before .before .before .before .before .before .before .before .before .before .before .before .enters .result) (c .before .before .before .before .before .before .before .before .before .before .before .before .before .before .before .before .before .before .before .before .before .if2 .left) in
+walk-page-returns-4 : (t : ℕ) → walk-page-lts.Need-returns-4 (walk-page-in t) (walk-page-at t) walk-page.Post
+walk-page-returns-4 t c =
+    let args = c .before .before .before .before .before .before .before .before .before .before .before .before .before .before .before .before .before .before .before .before .before .before .before .before .before .before .args in
+    let pre = c .before .before .before .before .before .before .before .before .before .before .before .before .before .before .before .before .before .before .before .before .before .before .before .before .before .before .pre .1 in
+    let deep = level-from (args .level) (args .n) (args .c) (args .a) (args .above) (args .e) (args .t .now) (args .filled) (args .keys .now) (args .records .now) (pre .4) in
+    let meets = sym (c .before .before .before .before .before .before .before .before .before .before .before .before .before .before .before .before .before .before .before .before .before .before .enters .ensures) ∙ not-false (c .before .before .before .before .before .before .before .before .before .before .before .before .before .before .before .before .before .before .before .before .before .before .enters .result) (c .before .before .before .before .before .before .before .before .before .before .before .before .before .before .before .before .before .before .before .before .before .if1 .left) in
     let table = c .before .before .before .before .before .before .before .before .before .before .before .before .before .before .before .before .before .before .before .enter .last .0 in
     let head = c .before .before .before .before .before .before .before .before .before .before .before .before .before .before .before .head .given .0 .0 in
     let told = ap (entering table) (sym (c .before .before .before .before .before .before .before .before .before .before .before .before .before .before .before .head .given .1)) ∙ c .before .before .before .before .before .before .before .before .before .before .before .before .before .before .before .before .before .before .before .enter .ensures in
     let rest = c .before .before .before .before .before .before .walk-entries in
-    step-inner (args .level) (args .n) (args .c) (args .a) (args .above) (args .e) (args .t .now) (args .s) (args .keys .now) (args .records .now)
-    deep meets (pre .0) (c .before .before .before .before .before .before .before .before .before .before .before .before .before .before .before .before .before .before .before .before .before .before .before .before .before .before .slice-known .given) (pre .1) (pre .2) table head told (c .before .before .before .before .before .before .before .before .before .before .before .if3 .left)
-    (c .before .before .before .before .before .before .before .before .before .before .run-of .result) (c .before .before .before .before .before .before .before .before .before .before .run-of .ensures) (rest .last .0) (rest .result) (rest .last .1 .1 .1 .1 .1 .1 .1 .0) (rest .last .1 .1 .1 .1 .1 .1 .1 .1 .0) (rest .ensures)
+    step-inner (args .level) (args .n) (args .c) (args .a) (args .above) (args .e) (args .t .now) (args .filled) (args .keys .now) (args .records .now)
+    deep meets (pre .0) (c .before .before .before .before .before .before .before .before .before .before .before .before .before .before .before .before .before .before .before .before .before .before .before .before .before .slice-known .given) (pre .1) (pre .2) table head told (c .before .before .before .before .before .before .before .before .before .before .before .if2 .left) (c .before .before .before .before .before .before .before .before .before .before .run-of .result) (c .before .before .before .before .before .before .before .before .before .before .run-of .ensures)
+    (filling (rest .last .0) (rest .result) (rest .last .1 .1 .1 .1 .1 .1 .1 .0) (rest .last .1 .1 .1 .1 .1 .1 .1 .1 .0)) (rest .ensures)
 
 pub +walk-entries+walk-page-spec : {M : Type 1} → statement M
 +walk-entries+walk-page-spec = close μ-walk-entries μ-walk-page (λ t. walk-entries-lts.spec (walk-entries-in t)
@@ -291,27 +280,24 @@ pub +walk-entries+walk-page-spec : {M : Type 1} → statement M
     λ t. walk-page-lts.spec (walk-page-in t)
     (walk-page-at t)
     walk-page.Post
-    (walk-page-stop-requires t)
-    (walk-page-returns t)
     (walk-page-enters-requires t)
-    (walk-page-returns-2 t)
+    (walk-page-returns t)
     (walk-page-enter-requires t)
     (walk-page-enum-known-head t)
     (walk-page-enum-told t)
-    (walk-page-stop-requires-2 t)
     (walk-page-same-length t)
-    (walk-page-returns-3 t)
+    (walk-page-returns-2 t)
     (walk-page-cast-page t)
     (walk-page-cast-fill-leaf-at t)
     (walk-page-fill-leaf-at-requires t)
     (walk-page-same-length-2 t)
     (walk-page-same-length-3 t)
     (walk-page-same-length-4 t)
-    (walk-page-returns-4 t)
+    (walk-page-returns-3 t)
     (walk-page-run-of-requires t)
     (walk-page-sub-walk-entries t)
     (walk-page-walk-entries-requires t)
     (walk-page-same-length-5 t)
     (walk-page-same-length-6 t)
     (walk-page-same-length-7 t)
-    (walk-page-returns-5 t)
+    (walk-page-returns-4 t)

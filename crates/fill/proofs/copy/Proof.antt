@@ -14,16 +14,16 @@ use Rattle.fill.proofs.copy.Statement.{statement}
 use Rattle.fill.proofs.copy.Tie as tie
 
 abbrev Inv-loop : tie.InvT-loop
-Inv-loop page first many keys₀ records₀ s at j₀ keys records j = (j ≤ many) × (length keys ≡ length keys₀) × (length records ≡ length records₀) × (keys ≡ paste keys₀ at (entry.keys (certsFrom page first many)) j) × (records ≡ paste records₀ at (recordsOf (certsFrom page first many)) j)
+Inv-loop page first many keys₀ records₀ filled j₀ keys records j = (j ≤ many) × (length keys ≡ length keys₀) × (length records ≡ length records₀) × (keys ≡ paste keys₀ filled (entry.keys (certsFrom page first many)) j) × (records ≡ paste records₀ filled (recordsOf (certsFrom page first many)) j)
 
 abbrev μ-loop : tie.MeasureT-loop
-μ-loop page first many keys₀ records₀ s at j₀ keys records j = many - j
+μ-loop page first many keys₀ records₀ filled j₀ keys records j = many - j
 
 loop-holds : tie.Need-loop-holds Inv-loop μ-loop
 loop-holds c =
     let args = c .before .before .before .args in
     let certs = certsFrom (args .page .now) (args .first) (args .many) in
-    (omega arith, refl, refl, paste-zero (args .keys .now) (args .s .count) (entry.keys certs), paste-zero (args .records .now) (args .s .count) (recordsOf certs))
+    (omega arith, refl, refl, paste-zero (args .keys .now) (args .filled) (entry.keys certs), paste-zero (args .records .now) (args .filled) (recordsOf certs))
 
 add-cert-key : tie.Need-add-cert-key Inv-loop μ-loop
 add-cert-key c = search needs
@@ -66,19 +66,19 @@ loop-again c =
     let args = c .before .before .before .before .before .before .before .args in
     let pre = c .before .before .before .before .before .before .before .pre in
     let loop = c .before .before .before .loop in
-    let at = args .s .count + loop .j in
+    let at = args .filled + loop .j in
     let key = c .before .cert-key in
     let value = c .cert-record in
     let long = length-set (loop .keys) at (key .result) ∙ loop .inv .1 in
     let wide = length-set (loop .records) at (value .result) ∙ loop .inv .2 in
-    let keys = key-turn (args .page .now) (args .first) (args .many) (args .keys .now) (loop .keys) (args .s .count) (loop .j) (key .result)
+    let keys = key-turn (args .page .now) (args .first) (args .many) (args .keys .now) (loop .keys) (args .filled) (loop .j) (key .result)
     (c .before .before .loop-test .taken) (pre .2) (loop .inv .3) (key .ensures) in
-    let records = record-turn (args .page .now) (args .first) (args .many) (args .records .now) (loop .records) (args .s .count) (loop .j) (value .result)
+    let records = record-turn (args .page .now) (args .first) (args .many) (args .records .now) (loop .records) (args .filled) (loop .j) (value .result)
     (c .before .before .loop-test .taken) (pre .3) (loop .inv .4) (value .ensures) in
     (omega (arith, c .before .before .loop-test .taken), long, wide, keys, records)
 
-add-t17 : tie.Need-add-t17 Inv-loop μ-loop
-add-t17 c = search needs
+add-result : tie.Need-add-result Inv-loop μ-loop
+add-result c = search needs
 
 same-length : tie.Need-same-length Inv-loop μ-loop
 same-length c = search needs
@@ -90,7 +90,7 @@ returns : tie.Need-returns Inv-loop μ-loop
 returns c =
     let args = c .before .before .before .before .before .args in
     let loop = c .before .loop in
-    copied (args .page .now) (args .first) (args .many) (args .s) (args .keys .now) (args .records .now) (loop .keys) (loop .records) (loop .j)
+    copied (args .page .now) (args .first) (args .many) (args .filled) (args .keys .now) (args .records .now) (loop .keys) (loop .records) (loop .j)
     (omega (arith, loop .inv .0, c .loop-test .left)) (loop .inv .3) (loop .inv .4)
 
 pub copy-spec : {M : Type 1} → statement M
@@ -113,7 +113,7 @@ copy-spec =
     add-j
     loop-less
     loop-again
-    add-t17
+    add-result
     same-length
     same-length-2
     returns)

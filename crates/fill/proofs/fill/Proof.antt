@@ -1,6 +1,7 @@
 -- `fill::fill`: nothing stands above the root, and nothing was found before it.
 -- Assumes nothing.
 use Rattle.sweep.proofs.Roots.{has-zero, no-above, ready-root}
+use Rattle.fill.specs.Fills.{filling}
 use Rattle.fill.proofs.Steps.{known-nothing, whole-walk}
 use native.Mathlib.Omega.{arith}
 use borrow.Author.Needs.{needs}
@@ -19,7 +20,7 @@ walk-page-requires c κs =
     let pre = c .before .before .before .before .before .before .before .before .pre in
     let root = c .before .before .before .root-place in
     let ready = ready-root (args .n) (args .c) (args .t .now) (root .result) (pre .1) (c .before .before .before .before .before .before .before .slice-known .given) (omega (arith, c .before .before .before .before .before .before .before .before .fits .c)) (root .ensures) in
-    (pre .0, no-above, ready, pre .2, known-nothing (args .t .now) (args .keys .now) (args .records .now))
+    (pre .0, no-above, ready, pre .2, known-nothing (args .n) (args .c) (args .a) (args .t .now) (args .keys .now) (args .records .now) (root .result) (root .ensures) (pre .3))
 
 same-length : tie.Need-same-length
 same-length c = search needs
@@ -35,8 +36,8 @@ returns c =
     let args = c .before .before .before .before .before .before .before .before .before .before .before .before .before .before .before .args in
     let root = c .before .before .before .before .before .before .before .before .before .before .root-place in
     let walked = c .before .before .before .before .before .before .walk-page in
-    whole-walk (args .n) (args .c) (args .a) (args .t .now) (args .keys .now) (args .records .now) (root .result) (root .ensures)
-    (walked .last .0) (walked .result) (walked .last .1 .1 .1 .1 .1 .1 .1 .0) (walked .last .1 .1 .1 .1 .1 .1 .1 .1 .0) (walked .ensures)
+    whole-walk (args .n) (args .c) (args .a) (args .t .now) (args .keys .now) (args .records .now) (root .result) (root .ensures) (c .before .before .before .before .before .before .before .before .before .before .before .before .before .before .before .pre .3)
+    (filling (walked .last .0) (walked .result) (walked .last .1 .1 .1 .1 .1 .1 .1 .0) (walked .last .1 .1 .1 .1 .1 .1 .1 .1 .0)) (walked .ensures)
 
 pub fill-spec : {M : Type 1} → statement M
 fill-spec =

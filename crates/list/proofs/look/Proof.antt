@@ -27,7 +27,11 @@ returns c =
     (c .before .before .sweep .last .0) (c .before .before .sweep .result) (c .before .before .sweep .ensures)
 
 fill-requires : tie.Need-fill-requires
-fill-requires c κs = search needs
+fill-requires c κs =
+    let args = c .before .before .before .before .before .before .before .before .before .args in
+    let pre = c .before .before .before .before .before .before .before .before .before .pre in
+    let whole = sym (c .before .before .before .before .whole-ahead .ensures (args .c) (omega (arith, c .before .before .before .before .before .before .before .before .before .fits .c))) ∙ not-false (c .before .before .before .before .whole-ahead .result) (c .before .before .before .if1 .left) in
+    (pre .0, pre .2, pre .3, whole)
 
 same-length-2 : tie.Need-same-length-2
 same-length-2 c = search needs
