@@ -5,26 +5,50 @@ use mathlib.Core.Path.{_≡_, refl, ap, sym, subst, _∙_}
 use mathlib.Core.Bool.{Bool, true, false}
 use mathlib.Core.List.{List, [], _∷_}
 use lib.ListN.{length}
-use Rattle.rules.specs.Layout.{pageSize}
+use Rattle.rules.specs.Layout.{pageSize, leafKind}
 use Rattle.rules.specs.Test.{mem}
-use Rattle.rules.specs.Table.{read}
+use Rattle.rules.specs.Table.{pageAt, read}
 use Rattle.rules.specs.declared.Asked.{Asked}
 use Rattle.rules.specs.declared.Place.{Place}
 use Rattle.rules.proofs.Sounds.{Sound, sound-same}
 use Rattle.rules.proofs.Places.{fits-true, mendable-true}
+use Rattle.head.specs.Head.{headIn}
+use Rattle.head.specs.declared.Head.{Head}
 use Rattle.seen.specs.declared.Run.{Run}
 use Rattle.seen.specs.Run.{runOf, placeIn, places, restOf, Runs, Lies}
 use Rattle.seen.proofs.Spans.{places-none, places-more}
-use Rattle.seen.proofs.Looks.{runs-sound, lies-sound, places-sound}
+use Rattle.seen.proofs.Looks.{run-leaf, head-kind, runs-sound, lies-sound, places-sound}
 use Rattle.seen.proofs.Shows.{fits-inside}
 use Rattle.dry.specs.Walk.{keeps, helps, meets, counts, breaks, dryEach, dry}
 use Rattle.dry.specs.Source.{source, markedBy}
-use Rattle.dry.specs.Count.{tally, Within, tallyAt, sofarAt, stopped}
+use Rattle.dry.specs.Count.{tally, Leaf, tallyAt, sofarAt, stopped}
 use Rattle.dry.specs.declared.Dry.{Dry}
 use Rattle.dry.specs.declared.Sofar.{Sofar}
 use Rattle.dry.specs.declared.Source.{Source}
 use Rattle.dry.proofs.Sources.{source-above, source-child, source-previous, source-none, same-page, never, keeps-fits, helps-mendable}
 use Rattle.dry.proofs.Steps.{step-goes}
+use Rattle.dry.proofs.Tallies.{tally-inner}
+
+-- ── A run of entries ────────────────────────────────────────────────────────────────────────────────────────────
+
+module _ (f : Place → Dry → Dry) (t : List ℕ) (high : ℕ) (r : Run) (d : Dry) where
+  pub run-none : r .left ≡ 0 → d ≡ dryEach f (places t high r) d
+  unfolding dryEach
+  run-none h = sym (ap (λ (es : List Place). dryEach f es d) (places-none t high r h))
+
+  run-more : 0 < r .left → dryEach f (places t high (restOf r)) (f (placeIn t high r) d) ≡ dryEach f (places t high r) d
+  unfolding dryEach
+  run-more h = sym (ap (λ (es : List Place). dryEach f es d) (places-more t high r h))
+
+  -- as code takes the step
+  pub run-step : (e : Place) (q : Run) (x y : Dry) → 0 < r .left → e ≡ placeIn t high r → q ≡ restOf r → x ≡ f e d
+      → y ≡ dryEach f (places t high q) x → y ≡ dryEach f (places t high r) d
+  run-step e q x y h p k u v =
+      v
+      ∙ ap (λ (z : Dry). dryEach f (places t high q) z) u
+      ∙ ap (λ (z : Run). dryEach f (places t high z) (f e d)) k
+      ∙ ap (λ (z : Place). dryEach f (places t high (restOf r)) (f z d)) p
+      ∙ run-more h
 
 -- ── The source of a place ───────────────────────────────────────────────────────────────────────────────────────
 
@@ -58,8 +82,16 @@ module _ (n : ℕ) (t : List ℕ) (long : length t ≡ n * pageSize) where
         go false p false q false r = absurd (never n above t m e i (source-none n above t m e p q r ∙ s))
 
   module _ (i : ℕ) (s : Sourced n t i) where
-    pub source-counts : ((i + 1) * pageSize ≤ length t) × Within (read t i)
-    source-counts = (omega (arith, s .inside, long), record { room = s .sound .certs-room; keys-within = s .sound .certs-within })
+    pub source-inside : (i + 1) * pageSize ≤ length t
+    source-inside = omega (arith, s .inside, long)
+
+    pub source-leaf : (h : Head) → h ≡ headIn (pageAt t i) → h .kind ≡ leafKind → Leaf t i h
+    source-leaf h f k = record {
+      inside = source-inside;
+      within = record { room = s .sound .certs-room; keys-within = s .sound .certs-within };
+      read-head = f;
+      kind = k;
+    }
 
     pub source-runs : Runs t i
     source-runs = runs-sound n (read t i .low) (read t i .high) t i (s .sound) (s .inside) long
@@ -86,13 +118,13 @@ module _ (n : ℕ) (t : List ℕ) (long : length t ≡ n * pageSize) where
         ∙ step-goes n a parent top t e (sofarAt s m) l i h p
 
     -- as code takes the step
-    pub page-goes : (level i count : ℕ) (marks : List Bool) (r : Run) (x : Dry) → (level ≡ 0 → ⊥) → meets a e (sofarAt s m) ≡ true
+    page-steps : (level i count : ℕ) (marks : List Bool) (r : Run) (x : Dry) → (level ≡ 0 → ⊥) → meets a e (sofarAt s m) ≡ true
         → source n (parent ∷ top ∷ []) t m e ≡ Source.Page i → marks ≡ markedBy i e m → count ≡ tallyAt t i a e (s .count)
         → r ≡ runOf t i (e .low) (e .high)
         → x ≡ dryEach (dry (level - 1) n a (e .child) parent t) (places t (e .high) r) (counted count marks)
         → x ≡ dry level n a parent top t e (sofarAt s m)
-    page-goes zero i count marks r x z h p u v w y = absurd (z refl)
-    page-goes (suc l) i count marks r x z h p u v w y =
+    page-steps zero i count marks r x z h p u v w y = absurd (z refl)
+    page-steps (suc l) i count marks r x z h p u v w y =
         let k : suc l - 1 ≡ l = omega arith in
         y
         ∙ ap (λ (j : ℕ). dryEach (dry j n a (e .child) parent t) (places t (e .high) r) (counted count marks)) k
@@ -103,28 +135,24 @@ module _ (n : ℕ) (t : List ℕ) (long : length t ≡ n * pageSize) where
         u
         ∙ page-shows l i h p
 
+    module _ (level i : ℕ) (marks : List Bool) (z : level ≡ 0 → ⊥) (g : meets a e (sofarAt s m) ≡ true)
+        (p : source n (parent ∷ top ∷ []) t m e ≡ Source.Page i) (u : marks ≡ markedBy i e m) (h : Head) (f : h ≡ headIn (pageAt t i)) where
+      -- a leaf has nothing to walk
+      pub leaf-ends : (count : ℕ) → h .kind ≡ leafKind → count ≡ tallyAt t i a e (s .count)
+          → counted count marks ≡ dry level n a parent top t e (sofarAt s m)
+      leaf-ends count k v =
+          let r = runOf t i (e .low) (e .high) in
+          let none = sym (ap (λ (q : Run). q .left) (run-leaf t i (e .low) (e .high) (sym (head-kind t i h f) ∙ k))) in
+          page-steps level i count marks r (counted count marks) z g p u v refl
+          (run-none (dry (level - 1) n a (e .child) parent t) t (e .high) r (counted count marks) none)
+
+      -- an inner page has nothing to count
+      pub page-goes : (r : Run) (x : Dry) → (h .kind ≡ leafKind → ⊥) → r ≡ runOf t i (e .low) (e .high)
+          → x ≡ dryEach (dry (level - 1) n a (e .child) parent t) (places t (e .high) r) (counted (s .count) marks)
+          → x ≡ dry level n a parent top t e (sofarAt s m)
+      page-goes r x k w y = page-steps level i (s .count) marks r x z g p u (tally-inner t i h f a e (s .count) k) w y
+
 -- a walk that stops is broken
 pub stop-breaks : (s x : Sofar) (m : List Bool) → x ≡ stopped s → sofarAt x m ≡ breaks (sofarAt s m)
 unfolding breaks
 stop-breaks s x m h = ap (λ (y : Sofar). sofarAt y m) h
-
--- ── A run of entries ────────────────────────────────────────────────────────────────────────────────────────────
-
-module _ (f : Place → Dry → Dry) (t : List ℕ) (high : ℕ) (r : Run) (d : Dry) where
-  pub run-none : r .left ≡ 0 → d ≡ dryEach f (places t high r) d
-  unfolding dryEach
-  run-none h = sym (ap (λ (es : List Place). dryEach f es d) (places-none t high r h))
-
-  run-more : 0 < r .left → dryEach f (places t high (restOf r)) (f (placeIn t high r) d) ≡ dryEach f (places t high r) d
-  unfolding dryEach
-  run-more h = sym (ap (λ (es : List Place). dryEach f es d) (places-more t high r h))
-
-  -- as code takes the step
-  pub run-step : (e : Place) (q : Run) (x y : Dry) → 0 < r .left → e ≡ placeIn t high r → q ≡ restOf r → x ≡ f e d
-      → y ≡ dryEach f (places t high q) x → y ≡ dryEach f (places t high r) d
-  run-step e q x y h p k u v =
-      v
-      ∙ ap (λ (z : Dry). dryEach f (places t high q) z) u
-      ∙ ap (λ (z : Run). dryEach f (places t high z) (f e d)) k
-      ∙ ap (λ (z : Place). dryEach f (places t high (restOf r)) (f z d)) p
-      ∙ run-more h

@@ -1,18 +1,19 @@
 -- How many certificates a dry walk has counted, page by page, and what it has come to.
-use Prim.Native.Nat.{ℕ, _+_, _-_, _≤_}
+use Prim.Native.Nat.{ℕ, _+_, _*_, _-_, _≤_}
 use mathlib.Core.Path.{_≡_}
 use mathlib.Core.Bool.{Bool, true, false, _&&_}
 use mathlib.Core.List.{List}
 use lib.Dec.{leb, ltb}
 use lib.ListN.{length, take}
-use Rattle.rules.specs.Layout.{leafRoom}
+use Rattle.rules.specs.Layout.{pageSize, leafRoom, leafKind}
 use Rattle.rules.specs.Test.{between, all}
 use Rattle.rules.specs.Entry.{Cert, cut, keys}
 use Rattle.rules.specs.Page.{Page}
-use Rattle.rules.specs.Table.{read}
+use Rattle.rules.specs.Table.{pageAt, read}
 use Rattle.rules.specs.Place.{cutView}
 use Rattle.rules.specs.declared.Asked.{Asked}
 use Rattle.rules.specs.declared.Place.{Place}
+use Rattle.head.specs.Head.{headIn}
 use Rattle.head.specs.declared.Head.{Head}
 use Rattle.dry.specs.declared.Dry.{Dry}
 use Rattle.dry.specs.declared.Sofar.{Sofar}
@@ -42,6 +43,13 @@ liesIn h low high = leb low (h .low) && leb (h .high) high
 pub record Within (p : Page) : Type 0 where
   pub room : length (p .view .certs) ≤ leafRoom
   pub keys-within : all (between (p .low) (p .high)) (keys (p .view .certs)) ≡ true
+
+-- a leaf of the table that can be counted, with its header
+pub record Leaf (t : List ℕ) (page : ℕ) (h : Head) : Type 0 where
+  pub inside : (page + 1) * pageSize ≤ length t
+  pub within : Within (read t page)
+  pub read-head : h ≡ headIn (pageAt t page)
+  pub kind : h .kind ≡ leafKind
 
 -- those of a page, as a place shows them
 unfoldable pub tallyAt : List ℕ → ℕ → Asked → Place → ℕ → ℕ

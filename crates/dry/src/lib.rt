@@ -36,11 +36,11 @@ ghost use mathlib.Core.List.{[], _∷_};
 ghost use Rattle.rules.specs.Layout.{pageSize, headerSize, certSize, leafRoom};
 ghost use Rattle.rules.specs.Test.{mem};
 ghost use Rattle.rules.specs.Page.{readEach, certIn};
-ghost use Rattle.rules.specs.Table.{pageAt, read, fit0};
+ghost use Rattle.rules.specs.Table.{pageAt, fit0};
 ghost use Rattle.seen.specs.Run.{places, Lies};
 ghost use Rattle.dry.specs.Walk.{keeps, helps, meetsWith, dry, dryEach, dryOf};
 ghost use Rattle.dry.specs.Source.{source, markedBy};
-ghost use Rattle.dry.specs.Count.{larger, smaller, tallied, tally, tallyAll, liesIn, Within, tallyAt, sofarAt, stopped};
+ghost use Rattle.dry.specs.Count.{larger, smaller, tallied, tally, tallyAll, liesIn, Leaf, tallyAt, sofarAt, stopped};
 
 // What a dry walk has found so far: whether it met no damaged place, how many certificates there are, and which numbers
 // it would have mended.
@@ -217,16 +217,12 @@ fn lies_in(head: Head, low: u64, high: u64) -> bool
     head.high <= high
 }
 
-// The certificates of a page, as a place shows them, that are asked for. A list asks for most leaves whole: those are
+// The certificates of a leaf, as a place shows them, that are asked for. A list asks for most leaves whole: those are
 // not looked through.
-fn tally_page(table: &[u8], page: usize, a: Asked, e: Place, count: usize) -> usize
-    requires { ⌜ ((page + 1) * pageSize ≤ length (now table)) × Within (read (now table) page) ⌝ }
+fn tally_leaf(table: &[u8], page: usize, head: Head, a: Asked, e: Place, count: usize) -> usize
+    requires { ⌜ Leaf (now table) page head ⌝ }
     ensures { λ r. ⌜ r ≡ tallyAt (now (table .entry)) page a e count ⌝ }
 {
-    let head = head_at(table, page);
-    if head.kind != LEAF {
-        return count;
-    }
     let entries = head.count as usize;
     let low = larger(a.low, e.low);
     let high = smaller(a.high, e.high);
@@ -272,9 +268,16 @@ fn walk_page(
     };
     mark_by(marks, page, e);
     let i = page as usize;
+    let head = head_at(table, i);
+    if head.kind == LEAF {
+        return Sofar {
+            whole: true,
+            count: tally_leaf(table, i, head, a, e, s.count),
+        };
+    }
     let found = Sofar {
         whole: true,
-        count: tally_page(table, i, a, e, s.count),
+        count: s.count,
     };
     let r = run_in(table, i, e.low, e.high);
     walk_entries(

@@ -8,7 +8,7 @@ use Rattle.seen.proofs.Trees.{lies-rest}
 use Rattle.dry.specs.Walk.{dry}
 use Rattle.dry.specs.Count.{sofarAt}
 use Rattle.dry.proofs.Steps.{step-deep, step-passes, step-damaged}
-use Rattle.dry.proofs.Goes.{sourced, source-counts, source-runs, source-lies, page-goes, run-none, run-step, stop-breaks}
+use Rattle.dry.proofs.Goes.{sourced, source-inside, source-leaf, source-runs, source-lies, leaf-ends, page-goes, run-none, run-step, stop-breaks}
 use borrow.Author.Needs.{needs}
 use native.Mathlib.Omega.{arith}
 use Prim.Native.Nat.{ℕ, _<_, _+_, _*_}
@@ -24,7 +24,8 @@ use Rattle.dry.proofs.mark_by.Reads as mark-by-reads
 use Rattle.dry.proofs.meets_place.Reads as meets-place-reads
 use Rattle.dry.proofs.source_at.Reads as source-at-reads
 use Rattle.dry.proofs.stop.Reads as stop-reads
-use Rattle.dry.proofs.tally_page.Reads as tally-page-reads
+use Rattle.dry.proofs.tally_leaf.Reads as tally-leaf-reads
+use Rattle.head.proofs.head_at.Reads as head-at-reads
 use Rattle.seen.proofs.place_in.Reads as place-in-reads
 use Rattle.seen.proofs.rest_of.Reads as rest-of-reads
 use Rattle.seen.proofs.run_in.Reads as run-in-reads
@@ -60,7 +61,7 @@ abbrev walk-entries-in : ℕ → walk-entries-lts.Claims
 walk-entries-in t = (place-in-reads.Asked, place-in-reads.Learnt, walk-page-below t, walk-page.Post, rest-of-reads.Asked, rest-of-reads.Learnt, walk-entries-below t, walk-entries.Post)
 
 abbrev walk-page-in : ℕ → walk-page-lts.Claims
-walk-page-in t = (stop-reads.Asked, stop-reads.Learnt, meets-place-reads.Asked, meets-place-reads.Learnt, source-at-reads.Asked, source-at-reads.Learnt, mark-by-reads.Asked, mark-by-reads.Learnt, tally-page-reads.Asked, tally-page-reads.Learnt, run-in-reads.Asked, run-in-reads.Learnt, walk-entries-below t, walk-entries.Post)
+walk-page-in t = (stop-reads.Asked, stop-reads.Learnt, meets-place-reads.Asked, meets-place-reads.Learnt, source-at-reads.Asked, source-at-reads.Learnt, mark-by-reads.Asked, mark-by-reads.Learnt, head-at-reads.Asked, head-at-reads.Learnt, tally-leaf-reads.Asked, tally-leaf-reads.Learnt, run-in-reads.Asked, run-in-reads.Learnt, walk-entries-below t, walk-entries.Post)
 
 walk-entries-returns : (t : ℕ) → walk-entries-lts.Need-returns (walk-entries-in t) (walk-entries-at t) walk-entries.Post
 walk-entries-returns t c = run-none (dry (c .before .before .before .before .args .level) (c .before .before .before .before .args .n) (c .before .before .before .before .args .a) (c .before .before .before .before .args .parent) (c .before .before .before .before .args .top) (c .before .before .before .before .args .table .now)) (c .before .before .before .before .args .table .now) (c .before .before .before .before .args .high) (c .before .before .before .before .args .r) (sofarAt (c .before .before .before .before .args .s) (c .before .before .before .before .args .marks .now)) (c .if1 .taken)
@@ -119,23 +120,32 @@ walk-page-mark-by-requires t c κs = search needs
 walk-page-cast-i : (t : ℕ) → walk-page-lts.Need-cast-i (walk-page-in t) (walk-page-at t) walk-page.Post
 walk-page-cast-i t c = search needs
 
-walk-page-tally-page-requires : (t : ℕ) → walk-page-lts.Need-tally-page-requires (walk-page-in t) (walk-page-at t) walk-page.Post
-walk-page-tally-page-requires t c κs = source-counts (c .before .before .before .before .before .before .before .before .before .before .before .before .before .before .args .n) (c .before .before .before .before .before .before .before .before .before .before .before .before .before .before .args .table .now) (c .before .before .before .before .before .before .before .before .before .before .before .before .before .before .pre .1) (c .before .before .before .before .before .page .given .0 .0) (sourced (c .before .before .before .before .before .before .before .before .before .before .before .before .before .before .args .n) (c .before .before .before .before .before .before .before .before .before .before .before .before .before .before .args .table .now) (c .before .before .before .before .before .before .before .before .before .before .before .before .before .before .pre .1) (c .before .before .before .before .before .before .before .before .before .before .before .before .before .before .args .parent ∷ c .before .before .before .before .before .before .before .before .before .before .before .before .before .before .args .top ∷ []) (c .before .before .before .before .before .before .before .before .before .before .before .before .before .before .args .marks .now) (c .before .before .before .before .before .before .before .before .before .before .before .before .before .before .args .e) (c .before .before .before .before .before .page .given .0 .0) (sym (c .before .before .before .before .before .before .before .source-at .ensures) ∙ c .before .before .before .before .before .page .given .1))
+walk-page-head-at-requires : (t : ℕ) → walk-page-lts.Need-head-at-requires (walk-page-in t) (walk-page-at t) walk-page.Post
+walk-page-head-at-requires t c κs = source-inside (c .before .before .before .before .before .before .before .before .before .before .before .before .before .before .args .n) (c .before .before .before .before .before .before .before .before .before .before .before .before .before .before .args .table .now) (c .before .before .before .before .before .before .before .before .before .before .before .before .before .before .pre .1) (c .before .before .before .before .before .page .given .0 .0) (sourced (c .before .before .before .before .before .before .before .before .before .before .before .before .before .before .args .n) (c .before .before .before .before .before .before .before .before .before .before .before .before .before .before .args .table .now) (c .before .before .before .before .before .before .before .before .before .before .before .before .before .before .pre .1) (c .before .before .before .before .before .before .before .before .before .before .before .before .before .before .args .parent ∷ c .before .before .before .before .before .before .before .before .before .before .before .before .before .before .args .top ∷ []) (c .before .before .before .before .before .before .before .before .before .before .before .before .before .before .args .marks .now) (c .before .before .before .before .before .before .before .before .before .before .before .before .before .before .args .e) (c .before .before .before .before .before .page .given .0 .0) (sym (c .before .before .before .before .before .before .before .source-at .ensures) ∙ c .before .before .before .before .before .page .given .1))
 
-walk-page-run-in-requires : (t : ℕ) → walk-page-lts.Need-run-in-requires (walk-page-in t) (walk-page-at t) walk-page.Post
-walk-page-run-in-requires t c κs = source-runs (c .before .before .before .before .before .before .before .before .before .before .before .before .before .before .before .args .n) (c .before .before .before .before .before .before .before .before .before .before .before .before .before .before .before .args .table .now) (c .before .before .before .before .before .before .before .before .before .before .before .before .before .before .before .pre .1) (c .before .before .before .before .before .before .page .given .0 .0) (sourced (c .before .before .before .before .before .before .before .before .before .before .before .before .before .before .before .args .n) (c .before .before .before .before .before .before .before .before .before .before .before .before .before .before .before .args .table .now) (c .before .before .before .before .before .before .before .before .before .before .before .before .before .before .before .pre .1) (c .before .before .before .before .before .before .before .before .before .before .before .before .before .before .before .args .parent ∷ c .before .before .before .before .before .before .before .before .before .before .before .before .before .before .before .args .top ∷ []) (c .before .before .before .before .before .before .before .before .before .before .before .before .before .before .before .args .marks .now) (c .before .before .before .before .before .before .before .before .before .before .before .before .before .before .before .args .e) (c .before .before .before .before .before .before .page .given .0 .0) (sym (c .before .before .before .before .before .before .before .before .source-at .ensures) ∙ c .before .before .before .before .before .before .page .given .1))
-
-walk-page-sub-walk-entries : (t : ℕ) → walk-page-lts.Need-sub-walk-entries (walk-page-in t) (walk-page-at t) walk-page.Post
-walk-page-sub-walk-entries t c = search needs
-
-walk-page-walk-entries-requires : (t : ℕ) → walk-page-lts.Need-walk-entries-requires (walk-page-in t) (walk-page-at t) walk-page.Post
-walk-page-walk-entries-requires t c κs = let w = source-lies (c .before .before .before .before .before .before .before .before .before .before .before .before .before .before .before .before .before .args .n) (c .before .before .before .before .before .before .before .before .before .before .before .before .before .before .before .before .before .args .table .now) (c .before .before .before .before .before .before .before .before .before .before .before .before .before .before .before .before .before .pre .1) (c .before .before .before .before .before .before .before .before .page .given .0 .0) (sourced (c .before .before .before .before .before .before .before .before .before .before .before .before .before .before .before .before .before .args .n) (c .before .before .before .before .before .before .before .before .before .before .before .before .before .before .before .before .before .args .table .now) (c .before .before .before .before .before .before .before .before .before .before .before .before .before .before .before .before .before .pre .1) (c .before .before .before .before .before .before .before .before .before .before .before .before .before .before .before .before .before .args .parent ∷ c .before .before .before .before .before .before .before .before .before .before .before .before .before .before .before .before .before .args .top ∷ []) (c .before .before .before .before .before .before .before .before .before .before .before .before .before .before .before .before .before .args .marks .now) (c .before .before .before .before .before .before .before .before .before .before .before .before .before .before .before .before .before .args .e) (c .before .before .before .before .before .before .before .before .page .given .0 .0) (sym (c .before .before .before .before .before .before .before .before .before .before .source-at .ensures) ∙ c .before .before .before .before .before .before .before .before .page .given .1)) (c .before .before .before .before .before .before .before .before .before .before .before .before .before .before .before .before .before .args .e .low) (c .before .before .before .before .before .before .before .before .before .before .before .before .before .before .before .before .before .args .e .high) (c .before .run-in .result) (c .before .run-in .ensures) in (omega (arith, c .before .before .before .before .before .before .before .before .before .before .before .before .before .before .before .before .before .pre .0, w .end, c .before .before .before .before .before .before .before .before .before .before .before .before .before .before .if1 .left), (c .before .before .before .before .before .before .before .before .before .before .before .before .before .before .before .before .before .pre .1, w))
+walk-page-tally-leaf-requires : (t : ℕ) → walk-page-lts.Need-tally-leaf-requires (walk-page-in t) (walk-page-at t) walk-page.Post
+walk-page-tally-leaf-requires t c κs = source-leaf (c .before .before .before .before .before .before .before .before .before .before .before .before .before .before .before .before .before .args .n) (c .before .before .before .before .before .before .before .before .before .before .before .before .before .before .before .before .before .args .table .now) (c .before .before .before .before .before .before .before .before .before .before .before .before .before .before .before .before .before .pre .1) (c .before .before .before .before .before .before .before .before .page .given .0 .0) (sourced (c .before .before .before .before .before .before .before .before .before .before .before .before .before .before .before .before .before .args .n) (c .before .before .before .before .before .before .before .before .before .before .before .before .before .before .before .before .before .args .table .now) (c .before .before .before .before .before .before .before .before .before .before .before .before .before .before .before .before .before .pre .1) (c .before .before .before .before .before .before .before .before .before .before .before .before .before .before .before .before .before .args .parent ∷ c .before .before .before .before .before .before .before .before .before .before .before .before .before .before .before .before .before .args .top ∷ []) (c .before .before .before .before .before .before .before .before .before .before .before .before .before .before .before .before .before .args .marks .now) (c .before .before .before .before .before .before .before .before .before .before .before .before .before .before .before .before .before .args .e) (c .before .before .before .before .before .before .before .before .page .given .0 .0) (sym (c .before .before .before .before .before .before .before .before .before .before .source-at .ensures) ∙ c .before .before .before .before .before .before .before .before .page .given .1)) (c .before .before .head-at .result) (c .before .before .head-at .ensures) (c .if3 .taken)
 
 walk-page-same-length-2 : (t : ℕ) → walk-page-lts.Need-same-length-2 (walk-page-in t) (walk-page-at t) walk-page.Post
 walk-page-same-length-2 t c = search needs
 
 walk-page-returns-4 : (t : ℕ) → walk-page-lts.Need-returns-4 (walk-page-in t) (walk-page-at t) walk-page.Post
-walk-page-returns-4 t c = page-goes (c .before .before .before .before .before .before .before .before .before .before .before .before .before .before .before .before .before .before .before .before .args .n) (c .before .before .before .before .before .before .before .before .before .before .before .before .before .before .before .before .before .before .before .before .args .table .now) (c .before .before .before .before .before .before .before .before .before .before .before .before .before .before .before .before .before .before .before .before .pre .1) (c .before .before .before .before .before .before .before .before .before .before .before .before .before .before .before .before .before .before .before .before .args .a) (c .before .before .before .before .before .before .before .before .before .before .before .before .before .before .before .before .before .before .before .before .args .parent) (c .before .before .before .before .before .before .before .before .before .before .before .before .before .before .before .before .before .before .before .before .args .top) (c .before .before .before .before .before .before .before .before .before .before .before .before .before .before .before .before .before .before .before .before .args .e) (c .before .before .before .before .before .before .before .before .before .before .before .before .before .before .before .before .before .before .before .before .args .s) (c .before .before .before .before .before .before .before .before .before .before .before .before .before .before .before .before .before .before .before .before .args .marks .now) (c .before .before .before .before .before .before .before .before .before .before .before .before .before .before .before .before .before .before .before .before .args .level) (c .before .before .before .before .before .before .before .before .before .before .before .page .given .0 .0) (c .before .before .before .before .before .tally-page .result) (c .before .before .before .before .before .before .before .before .mark-by .last .0) (c .before .before .before .before .run-in .result) (sofarAt (c .before .before .walk-entries .result) (c .before .before .walk-entries .last .1 .1 .1 .1 .1 .1 .1 .1 .1 .0)) (c .before .before .before .before .before .before .before .before .before .before .before .before .before .before .before .before .before .if1 .left) (sym (c .before .before .before .before .before .before .before .before .before .before .before .before .before .before .before .before .meets-place .ensures) ∙ not-false (c .before .before .before .before .before .before .before .before .before .before .before .before .before .before .before .before .meets-place .result) (c .before .before .before .before .before .before .before .before .before .before .before .before .before .before .before .if2 .left)) (sym (c .before .before .before .before .before .before .before .before .before .before .before .before .before .source-at .ensures) ∙ c .before .before .before .before .before .before .before .before .before .before .before .page .given .1) (c .before .before .before .before .before .before .before .before .mark-by .ensures) (c .before .before .before .before .before .tally-page .ensures) (c .before .before .before .before .run-in .ensures) (c .before .before .walk-entries .ensures)
+walk-page-returns-4 t c = leaf-ends (c .before .before .before .before .before .before .before .before .before .before .before .before .before .before .before .before .before .before .args .n) (c .before .before .before .before .before .before .before .before .before .before .before .before .before .before .before .before .before .before .args .table .now) (c .before .before .before .before .before .before .before .before .before .before .before .before .before .before .before .before .before .before .pre .1) (c .before .before .before .before .before .before .before .before .before .before .before .before .before .before .before .before .before .before .args .a) (c .before .before .before .before .before .before .before .before .before .before .before .before .before .before .before .before .before .before .args .parent) (c .before .before .before .before .before .before .before .before .before .before .before .before .before .before .before .before .before .before .args .top) (c .before .before .before .before .before .before .before .before .before .before .before .before .before .before .before .before .before .before .args .e) (c .before .before .before .before .before .before .before .before .before .before .before .before .before .before .before .before .before .before .args .s) (c .before .before .before .before .before .before .before .before .before .before .before .before .before .before .before .before .before .before .args .marks .now) (c .before .before .before .before .before .before .before .before .before .before .before .before .before .before .before .before .before .before .args .level) (c .before .before .before .before .before .before .before .before .before .page .given .0 .0) (c .before .before .before .before .before .before .mark-by .last .0) (c .before .before .before .before .before .before .before .before .before .before .before .before .before .before .before .if1 .left) (sym (c .before .before .before .before .before .before .before .before .before .before .before .before .before .before .meets-place .ensures) ∙ not-false (c .before .before .before .before .before .before .before .before .before .before .before .before .before .before .meets-place .result) (c .before .before .before .before .before .before .before .before .before .before .before .before .before .if2 .left)) (sym (c .before .before .before .before .before .before .before .before .before .before .before .source-at .ensures) ∙ c .before .before .before .before .before .before .before .before .before .page .given .1) (c .before .before .before .before .before .before .mark-by .ensures) (c .before .before .before .head-at .result) (c .before .before .before .head-at .ensures) (c .tally-leaf .result) (c .before .if3 .taken) (c .tally-leaf .ensures)
+
+walk-page-run-in-requires : (t : ℕ) → walk-page-lts.Need-run-in-requires (walk-page-in t) (walk-page-at t) walk-page.Post
+walk-page-run-in-requires t c κs = source-runs (c .before .before .before .before .before .before .before .before .before .before .before .before .before .before .before .before .before .args .n) (c .before .before .before .before .before .before .before .before .before .before .before .before .before .before .before .before .before .args .table .now) (c .before .before .before .before .before .before .before .before .before .before .before .before .before .before .before .before .before .pre .1) (c .before .before .before .before .before .before .before .before .page .given .0 .0) (sourced (c .before .before .before .before .before .before .before .before .before .before .before .before .before .before .before .before .before .args .n) (c .before .before .before .before .before .before .before .before .before .before .before .before .before .before .before .before .before .args .table .now) (c .before .before .before .before .before .before .before .before .before .before .before .before .before .before .before .before .before .pre .1) (c .before .before .before .before .before .before .before .before .before .before .before .before .before .before .before .before .before .args .parent ∷ c .before .before .before .before .before .before .before .before .before .before .before .before .before .before .before .before .before .args .top ∷ []) (c .before .before .before .before .before .before .before .before .before .before .before .before .before .before .before .before .before .args .marks .now) (c .before .before .before .before .before .before .before .before .before .before .before .before .before .before .before .before .before .args .e) (c .before .before .before .before .before .before .before .before .page .given .0 .0) (sym (c .before .before .before .before .before .before .before .before .before .before .source-at .ensures) ∙ c .before .before .before .before .before .before .before .before .page .given .1))
+
+walk-page-sub-walk-entries : (t : ℕ) → walk-page-lts.Need-sub-walk-entries (walk-page-in t) (walk-page-at t) walk-page.Post
+walk-page-sub-walk-entries t c = search needs
+
+walk-page-walk-entries-requires : (t : ℕ) → walk-page-lts.Need-walk-entries-requires (walk-page-in t) (walk-page-at t) walk-page.Post
+walk-page-walk-entries-requires t c κs = let w = source-lies (c .before .before .before .before .before .before .before .before .before .before .before .before .before .before .before .before .before .before .before .args .n) (c .before .before .before .before .before .before .before .before .before .before .before .before .before .before .before .before .before .before .before .args .table .now) (c .before .before .before .before .before .before .before .before .before .before .before .before .before .before .before .before .before .before .before .pre .1) (c .before .before .before .before .before .before .before .before .before .before .page .given .0 .0) (sourced (c .before .before .before .before .before .before .before .before .before .before .before .before .before .before .before .before .before .before .before .args .n) (c .before .before .before .before .before .before .before .before .before .before .before .before .before .before .before .before .before .before .before .args .table .now) (c .before .before .before .before .before .before .before .before .before .before .before .before .before .before .before .before .before .before .before .pre .1) (c .before .before .before .before .before .before .before .before .before .before .before .before .before .before .before .before .before .before .before .args .parent ∷ c .before .before .before .before .before .before .before .before .before .before .before .before .before .before .before .before .before .before .before .args .top ∷ []) (c .before .before .before .before .before .before .before .before .before .before .before .before .before .before .before .before .before .before .before .args .marks .now) (c .before .before .before .before .before .before .before .before .before .before .before .before .before .before .before .before .before .before .before .args .e) (c .before .before .before .before .before .before .before .before .before .before .page .given .0 .0) (sym (c .before .before .before .before .before .before .before .before .before .before .before .before .source-at .ensures) ∙ c .before .before .before .before .before .before .before .before .before .before .page .given .1)) (c .before .before .before .before .before .before .before .before .before .before .before .before .before .before .before .before .before .before .before .args .e .low) (c .before .before .before .before .before .before .before .before .before .before .before .before .before .before .before .before .before .before .before .args .e .high) (c .before .run-in .result) (c .before .run-in .ensures) in (omega (arith, c .before .before .before .before .before .before .before .before .before .before .before .before .before .before .before .before .before .before .before .pre .0, w .end, c .before .before .before .before .before .before .before .before .before .before .before .before .before .before .before .before .if1 .left), (c .before .before .before .before .before .before .before .before .before .before .before .before .before .before .before .before .before .before .before .pre .1, w))
+
+walk-page-same-length-3 : (t : ℕ) → walk-page-lts.Need-same-length-3 (walk-page-in t) (walk-page-at t) walk-page.Post
+walk-page-same-length-3 t c = search needs
+
+walk-page-returns-5 : (t : ℕ) → walk-page-lts.Need-returns-5 (walk-page-in t) (walk-page-at t) walk-page.Post
+walk-page-returns-5 t c = page-goes (c .before .before .before .before .before .before .before .before .before .before .before .before .before .before .before .before .before .before .before .before .before .before .args .n) (c .before .before .before .before .before .before .before .before .before .before .before .before .before .before .before .before .before .before .before .before .before .before .args .table .now) (c .before .before .before .before .before .before .before .before .before .before .before .before .before .before .before .before .before .before .before .before .before .before .pre .1) (c .before .before .before .before .before .before .before .before .before .before .before .before .before .before .before .before .before .before .before .before .before .before .args .a) (c .before .before .before .before .before .before .before .before .before .before .before .before .before .before .before .before .before .before .before .before .before .before .args .parent) (c .before .before .before .before .before .before .before .before .before .before .before .before .before .before .before .before .before .before .before .before .before .before .args .top) (c .before .before .before .before .before .before .before .before .before .before .before .before .before .before .before .before .before .before .before .before .before .before .args .e) (c .before .before .before .before .before .before .before .before .before .before .before .before .before .before .before .before .before .before .before .before .before .before .args .s) (c .before .before .before .before .before .before .before .before .before .before .before .before .before .before .before .before .before .before .before .before .before .before .args .marks .now) (c .before .before .before .before .before .before .before .before .before .before .before .before .before .before .before .before .before .before .before .before .before .before .args .level) (c .before .before .before .before .before .before .before .before .before .before .before .before .before .page .given .0 .0) (c .before .before .before .before .before .before .before .before .before .before .mark-by .last .0) (c .before .before .before .before .before .before .before .before .before .before .before .before .before .before .before .before .before .before .before .if1 .left) (sym (c .before .before .before .before .before .before .before .before .before .before .before .before .before .before .before .before .before .before .meets-place .ensures) ∙ not-false (c .before .before .before .before .before .before .before .before .before .before .before .before .before .before .before .before .before .before .meets-place .result) (c .before .before .before .before .before .before .before .before .before .before .before .before .before .before .before .before .before .if2 .left)) (sym (c .before .before .before .before .before .before .before .before .before .before .before .before .before .before .before .source-at .ensures) ∙ c .before .before .before .before .before .before .before .before .before .before .before .before .before .page .given .1) (c .before .before .before .before .before .before .before .before .before .before .mark-by .ensures) (c .before .before .before .before .before .before .before .head-at .result) (c .before .before .before .before .before .before .before .head-at .ensures) (c .before .before .before .before .run-in .result) (sofarAt (c .before .before .walk-entries .result) (c .before .before .walk-entries .last .1 .1 .1 .1 .1 .1 .1 .1 .1 .0)) (c .before .before .before .before .before .if3 .left) (c .before .before .before .before .run-in .ensures) (c .before .before .walk-entries .ensures)
 
 pub +walk-entries+walk-page-spec : {M : Type 1} → statement M
 +walk-entries+walk-page-spec = close μ-walk-entries μ-walk-page (λ t. walk-entries-lts.spec (walk-entries-in t)
@@ -163,9 +173,12 @@ pub +walk-entries+walk-page-spec : {M : Type 1} → statement M
     (walk-page-returns-3 t)
     (walk-page-mark-by-requires t)
     (walk-page-cast-i t)
-    (walk-page-tally-page-requires t)
+    (walk-page-head-at-requires t)
+    (walk-page-tally-leaf-requires t)
+    (walk-page-same-length-2 t)
+    (walk-page-returns-4 t)
     (walk-page-run-in-requires t)
     (walk-page-sub-walk-entries t)
     (walk-page-walk-entries-requires t)
-    (walk-page-same-length-2 t)
-    (walk-page-returns-4 t)
+    (walk-page-same-length-3 t)
+    (walk-page-returns-5 t)

@@ -1,0 +1,43 @@
+-- `dry::tally_leaf`: a leaf within the range counts whole, any other key by key. Assumes nothing.
+use mathlib.Core.Path.{sym, _∙_}
+use Rattle.dry.proofs.Tallies.{leaf-room, tally-leaf, tally-whole}
+use borrow.Author.Needs.{needs}
+use Rattle.dry.proofs.tally_leaf.Statement.{statement}
+use Rattle.dry.proofs.tally_leaf.Tie as tie
+
+cast-entries : tie.Need-cast-entries
+cast-entries c = search needs
+
+larger-requires : tie.Need-larger-requires
+larger-requires c κs = search needs
+
+smaller-requires : tie.Need-smaller-requires
+smaller-requires c κs = search needs
+
+lies-in-requires : tie.Need-lies-in-requires
+lies-in-requires c κs = search needs
+
+tally-all-requires : tie.Need-tally-all-requires
+tally-all-requires c κs = search needs
+
+returns : tie.Need-returns
+returns c = c .tally-all .ensures ∙ tally-whole (c .before .before .before .before .before .before .before .args .table .now) (c .before .before .before .before .before .before .before .args .page) (c .before .before .before .before .before .before .before .args .head) (c .before .before .before .before .before .before .before .pre .read-head) (c .before .before .before .before .before .before .before .args .a) (c .before .before .before .before .before .before .before .args .e) (c .before .before .before .before .before .before .before .args .count) (c .before .before .before .before .larger .result) (c .before .before .before .smaller .result) (c .before .before .before .before .before .before .before .pre .within) (sym (c .before .before .lies-in .ensures) ∙ c .before .if1 .taken) (c .before .before .before .before .before .before .before .pre .kind) (c .before .before .before .before .larger .ensures) (c .before .before .before .smaller .ensures)
+
+tally-each-requires : tie.Need-tally-each-requires
+tally-each-requires c κs = (c .before .before .before .before .before .before .pre .inside, leaf-room (c .before .before .before .before .before .before .args .table .now) (c .before .before .before .before .before .before .args .page) (c .before .before .before .before .before .before .args .head) (c .before .before .before .before .before .before .pre .read-head) (c .before .before .before .before .before .before .pre .within) (c .before .before .before .before .before .before .pre .kind))
+
+returns-2 : tie.Need-returns-2
+returns-2 c = c .tally-each .ensures ∙ tally-leaf (c .before .before .before .before .before .before .before .args .table .now) (c .before .before .before .before .before .before .before .args .page) (c .before .before .before .before .before .before .before .args .head) (c .before .before .before .before .before .before .before .pre .read-head) (c .before .before .before .before .before .before .before .args .a) (c .before .before .before .before .before .before .before .args .e) (c .before .before .before .before .before .before .before .args .count) (c .before .before .before .before .larger .result) (c .before .before .before .smaller .result) (c .before .before .before .before .before .before .before .pre .kind) (c .before .before .before .before .larger .ensures) (c .before .before .before .smaller .ensures)
+
+pub tally-leaf-spec : {M : Type 1} → statement M
+tally-leaf-spec =
+    tie.close
+    (tie.spec
+    cast-entries
+    larger-requires
+    smaller-requires
+    lies-in-requires
+    tally-all-requires
+    returns
+    tally-each-requires
+    returns-2)
