@@ -19,17 +19,25 @@ use Rattle.seen.specs.Run.{runOf, placeIn, places, restOf, Runs, Lies}
 use Rattle.seen.proofs.Spans.{places-none, places-more}
 use Rattle.seen.proofs.Looks.{run-leaf, head-kind, runs-sound, lies-sound, places-sound}
 use Rattle.seen.proofs.Shows.{fits-inside}
-use Rattle.dry.specs.Walk.{keeps, helps, meets, counts, breaks, dryEach, dry}
+use Rattle.dry.specs.Walk.{keeps, helps, meetsWith, counts, dryEach, dry}
 use Rattle.dry.specs.Source.{source, markedBy}
-use Rattle.dry.specs.Count.{tally, Leaf, tallyAt, sofarAt, stopped}
+use Rattle.dry.specs.Count.{tally, Leaf, tallyAt, sofar}
 use Rattle.dry.specs.declared.Dry.{Dry}
-use Rattle.dry.specs.declared.Sofar.{Sofar}
 use Rattle.dry.specs.declared.Source.{Source}
 use Rattle.dry.proofs.Sources.{source-above, source-child, source-previous, source-none, same-page, never, keeps-fits, helps-mendable}
 use Rattle.dry.proofs.Steps.{step-goes}
 use Rattle.dry.proofs.Tallies.{tally-inner}
 
 -- ── A run of entries ────────────────────────────────────────────────────────────────────────────────────────────
+
+-- behind damage no place changes what a walk has come to
+abbrev Halts : (Place → Dry → Dry) → Type 0
+Halts f = (e : Place) (d : Dry) → d .whole ≡ false → f e d ≡ d
+
+each-halts : (f : Place → Dry → Dry) → Halts f → (es : List Place) (d : Dry) → d .whole ≡ false → dryEach f es d ≡ d
+unfolding dryEach
+each-halts f k [] d h = refl
+each-halts f k (e ∷ es) d h = ap (dryEach f es) (k e d h) ∙ each-halts f k es d h
 
 module _ (f : Place → Dry → Dry) (t : List ℕ) (high : ℕ) (r : Run) (d : Dry) where
   pub run-none : r .left ≡ 0 → d ≡ dryEach f (places t high r) d
@@ -40,15 +48,25 @@ module _ (f : Place → Dry → Dry) (t : List ℕ) (high : ℕ) (r : Run) (d : 
   unfolding dryEach
   run-more h = sym (ap (λ (es : List Place). dryEach f es d) (places-more t high r h))
 
-  -- as code takes the step
-  pub run-step : (e : Place) (q : Run) (x y : Dry) → 0 < r .left → e ≡ placeIn t high r → q ≡ restOf r → x ≡ f e d
-      → y ≡ dryEach f (places t high q) x → y ≡ dryEach f (places t high r) d
-  run-step e q x y h p k u v =
-      v
-      ∙ ap (λ (z : Dry). dryEach f (places t high q) z) u
-      ∙ ap (λ (z : Run). dryEach f (places t high z) (f e d)) k
-      ∙ ap (λ (z : Place). dryEach f (places t high (restOf r)) (f z d)) p
-      ∙ run-more h
+  -- as code takes the step, with what a page walk has come to
+  module _ (e : Place) (whole : Bool) (count : ℕ) (marks : List Bool) (h : 0 < r .left) (p : e ≡ placeIn t high r)
+      (u : sofar whole count marks ≡ f e d) where
+    page-found : (b : Bool) → whole ≡ b → sofar b count marks ≡ f (placeIn t high r) d
+    page-found b w = ap (λ (z : Bool). sofar z count marks) (sym w) ∙ u ∙ ap (λ (z : Place). f z d) p
+
+    pub run-step : (q : Run) (y : Dry) → whole ≡ true → q ≡ restOf r → y ≡ dryEach f (places t high q) (sofar true count marks)
+        → y ≡ dryEach f (places t high r) d
+    run-step q y w k v =
+        v
+        ∙ ap (λ (z : Run). dryEach f (places t high z) (sofar true count marks)) k
+        ∙ ap (dryEach f (places t high (restOf r))) (page-found true w)
+        ∙ run-more h
+
+    pub run-breaks : Halts f → whole ≡ false → sofar false count marks ≡ dryEach f (places t high r) d
+    run-breaks k w =
+        sym (each-halts f k (places t high (restOf r)) (sofar false count marks) refl)
+        ∙ ap (dryEach f (places t high (restOf r))) (page-found false w)
+        ∙ run-more h
 
 -- ── The source of a place ───────────────────────────────────────────────────────────────────────────────────────
 
@@ -101,58 +119,50 @@ module _ (n : ℕ) (t : List ℕ) (long : length t ≡ n * pageSize) where
 
   -- ── A page ────────────────────────────────────────────────────────────────────────────────────────────────────
 
-  module _ (a : Asked) (parent top : ℕ) (e : Place) (s : Sofar) (m : List Bool) where
-    abbrev counted : ℕ → List Bool → Dry
-    counted count marks = record { whole = true; count = count; mended = marks }
-
-    page-shows : (l i : ℕ) → meets a e (sofarAt s m) ≡ true → source n (parent ∷ top ∷ []) t m e ≡ Source.Page i
+  module _ (a : Asked) (parent top : ℕ) (e : Place) (count : ℕ) (m : List Bool) where
+    page-shows : (l i : ℕ) → meetsWith a e true count ≡ true → source n (parent ∷ top ∷ []) t m e ≡ Source.Page i
         → dryEach (dry l n a (e .child) parent t) (places t (e .high) (runOf t i (e .low) (e .high)))
-        (counted (tallyAt t i a e (s .count)) (markedBy i e m))
-        ≡ dry (suc l) n a parent top t e (sofarAt s m)
+        (sofar true (tallyAt t i a e count) (markedBy i e m))
+        ≡ dry (suc l) n a parent top t e (sofar true count m)
     unfolding counts tallyAt tally
     page-shows l i h p =
         let q = sourced (parent ∷ top ∷ []) m e i p in
         ap
-        (λ (es : List Place). dryEach (dry l n a (e .child) parent t) es (counted (tallyAt t i a e (s .count)) (markedBy i e m)))
+        (λ (es : List Place). dryEach (dry l n a (e .child) parent t) es (sofar true (tallyAt t i a e count) (markedBy i e m)))
         (sym (places-sound n (read t i .low) (read t i .high) t i (q .sound) e))
-        ∙ step-goes n a parent top t e (sofarAt s m) l i h p
+        ∙ step-goes n a parent top t e (sofar true count m) l i h p
 
     -- as code takes the step
-    page-steps : (level i count : ℕ) (marks : List Bool) (r : Run) (x : Dry) → (level ≡ 0 → ⊥) → meets a e (sofarAt s m) ≡ true
-        → source n (parent ∷ top ∷ []) t m e ≡ Source.Page i → marks ≡ markedBy i e m → count ≡ tallyAt t i a e (s .count)
+    page-steps : (level i found : ℕ) (marks : List Bool) (r : Run) (x : Dry) → (level ≡ 0 → ⊥) → meetsWith a e true count ≡ true
+        → source n (parent ∷ top ∷ []) t m e ≡ Source.Page i → marks ≡ markedBy i e m → found ≡ tallyAt t i a e count
         → r ≡ runOf t i (e .low) (e .high)
-        → x ≡ dryEach (dry (level - 1) n a (e .child) parent t) (places t (e .high) r) (counted count marks)
-        → x ≡ dry level n a parent top t e (sofarAt s m)
-    page-steps zero i count marks r x z h p u v w y = absurd (z refl)
-    page-steps (suc l) i count marks r x z h p u v w y =
+        → x ≡ dryEach (dry (level - 1) n a (e .child) parent t) (places t (e .high) r) (sofar true found marks)
+        → x ≡ dry level n a parent top t e (sofar true count m)
+    page-steps zero i found marks r x z h p u v w y = absurd (z refl)
+    page-steps (suc l) i found marks r x z h p u v w y =
         let k : suc l - 1 ≡ l = omega arith in
         y
-        ∙ ap (λ (j : ℕ). dryEach (dry j n a (e .child) parent t) (places t (e .high) r) (counted count marks)) k
-        ∙ ap (λ (q : Run). dryEach (dry l n a (e .child) parent t) (places t (e .high) q) (counted count marks)) w
-        ∙ ap (λ (j : ℕ). dryEach (dry l n a (e .child) parent t) (places t (e .high) (runOf t i (e .low) (e .high))) (counted j marks)) v
+        ∙ ap (λ (j : ℕ). dryEach (dry j n a (e .child) parent t) (places t (e .high) r) (sofar true found marks)) k
+        ∙ ap (λ (q : Run). dryEach (dry l n a (e .child) parent t) (places t (e .high) q) (sofar true found marks)) w
+        ∙ ap (λ (j : ℕ). dryEach (dry l n a (e .child) parent t) (places t (e .high) (runOf t i (e .low) (e .high))) (sofar true j marks)) v
         ∙ ap
-        (λ (b : List Bool). dryEach (dry l n a (e .child) parent t) (places t (e .high) (runOf t i (e .low) (e .high))) (counted (tallyAt t i a e (s .count)) b))
+        (λ (b : List Bool). dryEach (dry l n a (e .child) parent t) (places t (e .high) (runOf t i (e .low) (e .high))) (sofar true (tallyAt t i a e count) b))
         u
         ∙ page-shows l i h p
 
-    module _ (level i : ℕ) (marks : List Bool) (z : level ≡ 0 → ⊥) (g : meets a e (sofarAt s m) ≡ true)
+    module _ (level i : ℕ) (marks : List Bool) (z : level ≡ 0 → ⊥) (g : meetsWith a e true count ≡ true)
         (p : source n (parent ∷ top ∷ []) t m e ≡ Source.Page i) (u : marks ≡ markedBy i e m) (h : Head) (f : h ≡ headIn (pageAt t i)) where
       -- a leaf has nothing to walk
-      pub leaf-ends : (count : ℕ) → h .kind ≡ leafKind → count ≡ tallyAt t i a e (s .count)
-          → counted count marks ≡ dry level n a parent top t e (sofarAt s m)
-      leaf-ends count k v =
+      pub leaf-ends : (found : ℕ) → h .kind ≡ leafKind → found ≡ tallyAt t i a e count
+          → sofar true found marks ≡ dry level n a parent top t e (sofar true count m)
+      leaf-ends found k v =
           let r = runOf t i (e .low) (e .high) in
           let none = sym (ap (λ (q : Run). q .left) (run-leaf t i (e .low) (e .high) (sym (head-kind t i h f) ∙ k))) in
-          page-steps level i count marks r (counted count marks) z g p u v refl
-          (run-none (dry (level - 1) n a (e .child) parent t) t (e .high) r (counted count marks) none)
+          page-steps level i found marks r (sofar true found marks) z g p u v refl
+          (run-none (dry (level - 1) n a (e .child) parent t) t (e .high) r (sofar true found marks) none)
 
       -- an inner page has nothing to count
       pub page-goes : (r : Run) (x : Dry) → (h .kind ≡ leafKind → ⊥) → r ≡ runOf t i (e .low) (e .high)
-          → x ≡ dryEach (dry (level - 1) n a (e .child) parent t) (places t (e .high) r) (counted (s .count) marks)
-          → x ≡ dry level n a parent top t e (sofarAt s m)
-      page-goes r x k w y = page-steps level i (s .count) marks r x z g p u (tally-inner t i h f a e (s .count) k) w y
-
--- a walk that stops is broken
-pub stop-breaks : (s x : Sofar) (m : List Bool) → x ≡ stopped s → sofarAt x m ≡ breaks (sofarAt s m)
-unfolding breaks
-stop-breaks s x m h = ap (λ (y : Sofar). sofarAt y m) h
+          → x ≡ dryEach (dry (level - 1) n a (e .child) parent t) (places t (e .high) r) (sofar true count marks)
+          → x ≡ dry level n a parent top t e (sofar true count m)
+      page-goes r x k w y = page-steps level i count marks r x z g p u (tally-inner t i h f a e count k) w y

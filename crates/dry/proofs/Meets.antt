@@ -16,19 +16,18 @@ module _ (a : Asked) (e : Place) (count : ℕ) where
   unfolding meetsWith
   meets-broken whole h = sym (fails (meetsWith a e whole count) (λ m. not-both (every-true _ m .0) h))
 
-  pub meets-full : (whole : Bool) → a .room ≤ count → false ≡ meetsWith a e whole count
+  pub meets-full : a .room ≤ count → false ≡ meetsWith a e true count
   unfolding meetsWith
-  meets-full whole h =
-      sym (fails (meetsWith a e whole count) (λ m. omega (arith, ltb-true count (a .room) (every-true _ m .1 .0))))
+  meets-full h = sym (fails (meetsWith a e true count) (λ m. omega (arith, ltb-true count (a .room) (every-true _ m .1 .0))))
 
-  pub meets-behind : (whole : Bool) → a .high < e .low → false ≡ meetsWith a e whole count
+  pub meets-behind : a .high < e .low → false ≡ meetsWith a e true count
   unfolding meetsWith
-  meets-behind whole h =
-      sym (fails (meetsWith a e whole count) (λ m. omega (arith, leb-true (e .low) (a .high) (every-true _ m .1 .1 .0))))
+  meets-behind h =
+      sym (fails (meetsWith a e true count) (λ m. omega (arith, leb-true (e .low) (a .high) (every-true _ m .1 .1 .0))))
 
-  pub meets-last : (whole : Bool) → whole ≡ true → count < a .room → e .low ≤ a .high → leb (a .low) (e .high) ≡ meetsWith a e whole count
+  pub meets-last : count < a .room → e .low ≤ a .high → leb (a .low) (e .high) ≡ meetsWith a e true count
   unfolding meetsWith every
-  meets-last whole w h k = sym (rw (w, lt-ltb count (a .room) h, le-leb (e .low) (a .high) k) (last (leb (a .low) (e .high))))
+  meets-last h k = sym (rw (lt-ltb count (a .room) h, le-leb (e .low) (a .high) k) (last (leb (a .low) (e .high))))
     where
       last : (b : Bool) → (b && true) ≡ b
       last true = refl

@@ -16,7 +16,6 @@ use Rattle.rules.specs.declared.Place.{Place}
 use Rattle.head.specs.Head.{headIn}
 use Rattle.head.specs.declared.Head.{Head}
 use Rattle.dry.specs.declared.Dry.{Dry}
-use Rattle.dry.specs.declared.Sofar.{Sofar}
 
 unfoldable pub larger : ℕ → ℕ → ℕ
 larger x y = elim (leb x y) [ true ↦ y | false ↦ x ]
@@ -56,9 +55,6 @@ unfoldable pub tallyAt : List ℕ → ℕ → Asked → Place → ℕ → ℕ
 tallyAt t page a e count =
     tally (a .low) (a .high) (a .room) (cutView (e .low) (e .high) (read t page .view) .certs) count
 
--- what a walk has come to, with the marks that are lent to it
-abbrev pub sofarAt : Sofar → List Bool → Dry
-sofarAt s m = record { whole = s .whole; count = s .count; mended = m }
-
-abbrev pub stopped : Sofar → Sofar
-stopped s = record { whole = false; count = s .count }
+-- what a walk has come to, with the count and the marks that are lent to it
+abbrev pub sofar : Bool → ℕ → List Bool → Dry
+sofar whole count marks = record { whole = whole; count = count; mended = marks }

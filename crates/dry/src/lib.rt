@@ -6,8 +6,8 @@
 // the dry walk is whole exactly if the walk is, and counts what the walk finds.
 //
 // `dry_of` answers the rules' walk so told. The page walk and the entry walk call each other: each entry of an inner page
-// is walked as a page one level lower. The level falls, and within a level the entries left. The marks are lent down the
-// walk; they are all that it keeps.
+// is walked as a page one level lower. The level falls, and within a level the entries left. The count and the marks are
+// lent down the walk; they are all that it keeps. The first damaged place ends it.
 //
 // Below stand `seen`, which finds the entries of a page that lie in a range, `sound`, which tests a page against a
 // place, `head`, which reads headers and entries, and `rules`.
@@ -40,7 +40,7 @@ ghost use Rattle.rules.specs.Table.{pageAt, fit0};
 ghost use Rattle.seen.specs.Run.{places, Lies};
 ghost use Rattle.dry.specs.Walk.{keeps, helps, meetsWith, dry, dryEach, dryOf};
 ghost use Rattle.dry.specs.Source.{source, markedBy};
-ghost use Rattle.dry.specs.Count.{larger, smaller, tallied, tally, tallyAll, liesIn, Leaf, tallyAt, sofarAt, stopped};
+ghost use Rattle.dry.specs.Count.{larger, smaller, tallied, tally, tallyAll, liesIn, Leaf, tallyAt, sofar};
 
 // What a dry walk has found so far: whether it met no damaged place, how many certificates there are, and which numbers
 // it would have mended.
@@ -48,12 +48,6 @@ pub struct Dry {
     pub whole: bool,
     pub count: usize,
     pub mended: [bool; MOST],
-}
-
-// The same in the course of a walk; the marks are lent from page to page.
-pub struct Sofar {
-    pub whole: bool,
-    pub count: usize,
 }
 
 // The page that shows a place: the child, or the previous page that it would be mended from. Or the place is damaged.
@@ -111,13 +105,10 @@ fn source_at(table: &[u8], n: usize, parent: u16, top: u16, marks: &[bool], e: P
     Source::Damaged
 }
 
-// Whether a place is entered: nothing was damaged so far, there is room, and its range meets the asked one.
-fn meets_place(a: Asked, e: Place, whole: bool, count: usize) -> bool
-    ensures { λ r. ⌜ r ≡ meetsWith a e whole count ⌝ }
+// Whether a place is entered while nothing was damaged: there is room, and its range meets the asked one.
+fn meets_place(a: Asked, e: Place, count: usize) -> bool
+    ensures { λ r. ⌜ r ≡ meetsWith a e true count ⌝ }
 {
-    if !whole {
-        return false;
-    }
     if count >= a.room {
         return false;
     }
@@ -232,17 +223,8 @@ fn tally_leaf(table: &[u8], page: usize, head: Head, a: Asked, e: Place, count: 
     tally_each(table, page, entries, low, high, a.room, count)
 }
 
-// A damaged place ends the walk.
-fn stop(s: Sofar) -> Sofar
-    ensures { λ r. ⌜ r ≡ stopped s ⌝ }
-{
-    Sofar {
-        whole: false,
-        count: s.count,
-    }
-}
-
-// The page walk: what the place's source shows is counted, and walked one level lower.
+// The page walk: the certificates of a leaf are counted, and an inner page's entries walked one level lower. The answer
+// is whether no place was damaged; damage ends the walk.
 fn walk_page(
     table: &[u8],
     n: usize,
@@ -251,47 +233,31 @@ fn walk_page(
     parent: u16,
     top: u16,
     e: Place,
-    s: Sofar,
+    count: &mut usize,
     marks: &mut [bool],
-) -> Sofar
+) -> bool
     requires { ⌜ length (now table) ≡ n * pageSize ⌝ }
-    ensures { λ r. ⌜ sofarAt r (now (marks .exit)) ≡ dry level n a parent top (now (table .entry)) e (sofarAt s (now (marks .entry))) ⌝ }
+    ensures { λ r. ⌜ sofar r (now (count .exit)) (now (marks .exit)) ≡ dry level n a parent top (now (table .entry)) e (sofar true (now (count .entry)) (now (marks .entry))) ⌝ }
 {
     if level == 0 {
-        return stop(s);
+        return false;
     }
-    if !meets_place(a, e, s.whole, s.count) {
-        return s;
+    if !meets_place(a, e, *count) {
+        return true;
     }
     let Source::Page(page) = source_at(table, n, parent, top, marks, e) else {
-        return stop(s);
+        return false;
     };
     mark_by(marks, page, e);
     let i = page as usize;
     let head = head_at(table, i);
     if head.kind == LEAF {
-        return Sofar {
-            whole: true,
-            count: tally_leaf(table, i, head, a, e, s.count),
-        };
+        *count = tally_leaf(table, i, head, a, e, *count);
+        return true;
     }
-    let found = Sofar {
-        whole: true,
-        count: s.count,
-    };
     let r = run_in(table, i, e.low, e.high);
-    walk_entries(
-        table,
-        n,
-        level - 1,
-        a,
-        e.child,
-        parent,
-        r,
-        e.high,
-        found,
-        marks,
-    )
+    let below = level - 1;
+    walk_entries(table, n, below, a, e.child, parent, r, e.high, count, marks)
 }
 
 // The entry walk: the first entry's page, then the entries behind it.
@@ -304,29 +270,21 @@ fn walk_entries(
     top: u16,
     r: Run,
     high: u64,
-    s: Sofar,
+    count: &mut usize,
     marks: &mut [bool],
-) -> Sofar
+) -> bool
     requires { ⌜ (length (now table) ≡ n * pageSize) × Lies n r ⌝ }
-    ensures { λ x. ⌜ sofarAt x (now (marks .exit)) ≡ dryEach (dry level n a parent top (now (table .entry))) (places (now (table .entry)) high r) (sofarAt s (now (marks .entry))) ⌝ }
+    ensures { λ x. ⌜ sofar x (now (count .exit)) (now (marks .exit)) ≡ dryEach (dry level n a parent top (now (table .entry))) (places (now (table .entry)) high r) (sofar true (now (count .entry)) (now (marks .entry))) ⌝ }
 {
     if r.left == 0 {
-        return s;
+        return true;
     }
     let e = place_in(table, r, high);
-    let found = walk_page(table, n, level, a, parent, top, e, s, marks);
-    walk_entries(
-        table,
-        n,
-        level,
-        a,
-        parent,
-        top,
-        rest_of(r),
-        high,
-        found,
-        marks,
-    )
+    if !walk_page(table, n, level, a, parent, top, e, count, marks) {
+        return false;
+    }
+    let rest = rest_of(r);
+    walk_entries(table, n, level, a, parent, top, rest, high, count, marks)
 }
 
 // The whole walk, from the root on.
@@ -335,15 +293,12 @@ pub fn dry_of(table: &[u8], n: usize, a: Asked) -> Dry
     ensures { λ r. ⌜ r ≡ dryOf n a (now (table .entry)) ⌝ }
 {
     let root = root_place(table);
-    let nothing = Sofar {
-        whole: true,
-        count: 0,
-    };
+    let mut count = 0;
     let mut mended = [false; MOST];
-    let s = walk_page(table, n, LEVELS, a, 0, 0, root, nothing, &mut mended);
+    let whole = walk_page(table, n, LEVELS, a, 0, 0, root, &mut count, &mut mended);
     Dry {
-        whole: s.whole,
-        count: s.count,
+        whole,
+        count,
         mended,
     }
 }

@@ -18,7 +18,7 @@ walk-page-requires c κs = search needs
 
 returns : tie.Need-returns
 unfolding untouched dryOf
-returns c = c .before .walk-page .ensures ∙ ap (λ (e : Place). dry 3 (c .before .before .before .before .before .args .n) (c .before .before .before .before .before .args .a) 0 0 (c .before .before .before .before .before .args .table .now) e untouched) (c .before .before .before .root-place .ensures)
+returns c = c .before .walk-page .ensures ∙ ap (λ (e : Place). dry 3 (c .before .before .before .before .before .before .args .n) (c .before .before .before .before .before .before .args .a) 0 0 (c .before .before .before .before .before .before .args .table .now) e untouched) (c .before .before .before .before .root-place .ensures)
 
 pub dry-of-spec : {M : Type 1} → statement M
 dry-of-spec =

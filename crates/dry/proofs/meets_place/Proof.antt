@@ -1,21 +1,17 @@
 -- `dry::meets_place`: the tests one after the other; the last decides. Assumes nothing.
-use borrow.Author.Tests.{not-true, not-false}
-use Rattle.dry.proofs.Meets.{meets-broken, meets-full, meets-behind, meets-last}
+use Rattle.dry.proofs.Meets.{meets-full, meets-behind, meets-last}
 use native.Mathlib.Omega.{arith}
 use Rattle.dry.proofs.meets_place.Statement.{statement}
 use Rattle.dry.proofs.meets_place.Tie as tie
 
 returns : tie.Need-returns
-returns c = meets-broken (c .before .args .a) (c .before .args .e) (c .before .args .count) (c .before .args .whole) (not-true (c .before .args .whole) (c .if1 .taken))
+returns c = meets-full (c .before .before .args .a) (c .before .before .args .e) (c .before .before .args .count) (omega (arith, c .if1 .taken))
 
 returns-2 : tie.Need-returns-2
-returns-2 c = meets-full (c .before .before .before .args .a) (c .before .before .before .args .e) (c .before .before .before .args .count) (c .before .before .before .args .whole) (omega (arith, c .if2 .taken))
+returns-2 c = meets-behind (c .before .before .before .before .before .args .a) (c .before .before .before .before .before .args .e) (c .before .before .before .before .before .args .count) (omega (arith, c .if2 .taken))
 
 returns-3 : tie.Need-returns-3
-returns-3 c = meets-behind (c .before .before .before .before .before .before .args .a) (c .before .before .before .before .before .before .args .e) (c .before .before .before .before .before .before .args .count) (c .before .before .before .before .before .before .args .whole) (omega (arith, c .if3 .taken))
-
-returns-4 : tie.Need-returns-4
-returns-4 c = meets-last (c .before .before .before .before .before .before .before .before .args .a) (c .before .before .before .before .before .before .before .before .args .e) (c .before .before .before .before .before .before .before .before .args .count) (c .before .before .before .before .before .before .before .before .args .whole) (not-false (c .before .before .before .before .before .before .before .before .args .whole) (c .before .before .before .before .before .before .before .if1 .left)) (omega (arith, c .before .before .before .before .before .if2 .left)) (omega (arith, c .before .before .if3 .left))
+returns-3 c = meets-last (c .before .before .before .before .before .before .before .args .a) (c .before .before .before .before .before .before .before .args .e) (c .before .before .before .before .before .before .before .args .count) (omega (arith, c .before .before .before .before .before .if1 .left)) (omega (arith, c .before .before .if2 .left))
 
 pub meets-place-spec : {M : Type 1} → statement M
-meets-place-spec = tie.close (tie.spec returns returns-2 returns-3 returns-4)
+meets-place-spec = tie.close (tie.spec returns returns-2 returns-3)
