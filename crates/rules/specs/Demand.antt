@@ -1,16 +1,15 @@
 -- Demand 3 as a statement about histories: what holds of a store at every point of every history. Its proof is the
 -- theorem of that name in proofs/.
-use Prim.Native.Nat.{ℕ, _*_, _≤_, _<_}
+use Prim.Native.Nat.{ℕ, _*_, _≤_}
 use mathlib.Core.Path.{_≡_}
 use mathlib.Core.Bool.{Bool, true, false}
-use mathlib.Core.List.{List, [], _∷_}
-use mathlib.Core.Option.{Option, some, none}
+use mathlib.Core.List.{List, _∷_}
+use mathlib.Core.Option.{Option, some}
 use lib.ListN.{length, replicate}
 use lib.Dec.{leb}
 use Rattle.fields.specs.Field.{Bytes}
 use Rattle.rules.specs.Layout.{pageSize, fewestPages, mostPages, lastKey, lastNumber}
 use Rattle.rules.specs.Table.{number0}
-use Rattle.rules.specs.Call.{Left}
 use Rattle.rules.specs.Open.{opening}
 use Rattle.rules.specs.Lookup.{lookup}
 use Rattle.rules.specs.Newest.{newest}

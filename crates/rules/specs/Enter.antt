@@ -1,6 +1,6 @@
 -- Entering one place: its page if it fits, else the page mended from its previous page, else nothing.
 use Prim.Native.Nat.{ℕ}
-use mathlib.Core.Bool.{Bool, true, false}
+use mathlib.Core.Bool.{true, false}
 use mathlib.Core.List.{List}
 use mathlib.Core.Option.{Option, some, none}
 use Rattle.rules.specs.Test.{mem}

@@ -5,7 +5,7 @@ use mathlib.Core.List.{List, []}
 use lib.ListN.{length, replicate}
 use Rattle.fields.specs.Field.{putAt}
 use Rattle.rules.specs.Layout.{zeroKind, leafKind, lastKey}
-use Rattle.rules.specs.Page.{View, Page, fresh}
+use Rattle.rules.specs.Page.{View, fresh}
 use Rattle.rules.specs.Table.{build, pages, goodLengths, setNumber, setRoot}
 use Rattle.rules.specs.declared.Formatted.{Formatted}
 

@@ -3,23 +3,22 @@
 -- Document 01 tells a split from the leaf upwards. The same bytes come of going downwards: a root that must split
 -- first gets a new root above it; then each full page is halved below a parent that has room; then the entry goes
 -- in. The numbers are chosen beforehand, lowest first: the leaf's halves, those of the level above, a new root last.
-use Prim.Native.Nat.{ℕ, zero, suc, _+_, _*_, _-_}
+use Prim.Native.Nat.{ℕ, _+_, _*_, _-_}
 use mathlib.Core.Bool.{Bool, true, false, not, _&&_, _||_}
 use mathlib.Core.List.{List, [], _∷_, _++_}
-use mathlib.Core.Option.{Option, some, none}
+use mathlib.Core.Option.{some, none}
 use lib.ListN.{length, take, drop, getD}
 use lib.Dec.{leb, ltb, eqb}
 use Rattle.rules.specs.Layout.{leafRoom, innerRoom, leafHalf, innerHalf, topKind, lastKey}
 use Rattle.rules.specs.Key.{keyOf, goodParts}
-use Rattle.rules.specs.Entry.{Entry, Cert, Child, Below, keys, find, put}
+use Rattle.rules.specs.Entry.{Cert, Child, keys, find, put}
 use Rattle.rules.specs.Page.{View, Page, isLeaf, fresh, touch}
 use Rattle.rules.specs.Table.{read, build, change, fit0, setRoot}
-use Rattle.rules.specs.Walk.{Step, Way, numbers, wayOf, certsAt}
+use Rattle.rules.specs.Walk.{Step, numbers, wayOf, certsAt}
 use Rattle.rules.specs.Marks.{taken, freed, waits, freePages}
 use Rattle.rules.specs.Call.{Left, lengthsFor}
 use Rattle.rules.specs.declared.Session.{Session}
 use Rattle.rules.specs.declared.Inserted.{Inserted}
-use Rattle.rules.specs.declared.Place.{Place}
 
 -- ── What must split ─────────────────────────────────────────────────────────────────────────────────────────────
 

@@ -4,10 +4,10 @@ use mathlib.Core.Bool.{true, false}
 use mathlib.Core.List.{List, [], _∷_}
 use lib.ListN.{length}
 use Rattle.rules.specs.Layout.{lastKey}
-use Rattle.rules.specs.Entry.{Entry, Cert, keys}
+use Rattle.rules.specs.Entry.{Cert, keys}
 use Rattle.rules.specs.Page.{over}
 use Rattle.rules.specs.Table.{fit0}
-use Rattle.rules.specs.Walk.{Walked, walkOf}
+use Rattle.rules.specs.Walk.{walkOf}
 use Rattle.rules.specs.Call.{lengthsFor}
 use Rattle.rules.specs.declared.Session.{Session}
 use Rattle.rules.specs.declared.Listed.{Listed}

@@ -2,7 +2,7 @@
 use Prim.Native.Nat.{ℕ, zero, suc, _+_, _-_}
 use mathlib.Core.Bool.{Bool, true, false, not, _&&_, _||_}
 use mathlib.Core.List.{List, [], _∷_}
-use lib.ListN.{getD, set, replicate}
+use lib.ListN.{getD, set}
 use Rattle.rules.specs.Layout.{mostPages}
 use Rattle.rules.specs.Test.{between, mem}
 use Rattle.rules.specs.Tree.{Tree}

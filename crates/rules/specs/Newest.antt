@@ -5,9 +5,9 @@ use mathlib.Core.List.{List, [], _∷_}
 use lib.Dec.{ltb}
 use Rattle.rules.specs.Layout.{lastKey}
 use Rattle.rules.specs.Key.{keyOf, issueOf}
-use Rattle.rules.specs.Entry.{Entry, Cert}
+use Rattle.rules.specs.Entry.{Cert}
 use Rattle.rules.specs.Table.{fit0}
-use Rattle.rules.specs.Walk.{Walked, walkOf}
+use Rattle.rules.specs.Walk.{walkOf}
 use Rattle.rules.specs.Call.{Left, lengthsFor}
 use Rattle.rules.specs.declared.Session.{Session}
 use Rattle.rules.specs.declared.Newest.{Newest}

@@ -10,7 +10,7 @@ use lib.ListN.{length, drop, replicate}
 use lib.Dec.{eqb}
 use Rattle.fields.specs.Field.{le, leAt}
 use Rattle.rules.specs.Layout.{pageSize, headerSize, certSize, childSize, leafKind}
-use Rattle.rules.specs.Entry.{Entry, Cert, Child}
+use Rattle.rules.specs.Entry.{Cert, Child}
 
 -- What a page shows: its kind and its entries. A leaf has certificates and no children, an inner page children and
 -- no certificates.

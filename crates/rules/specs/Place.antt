@@ -6,7 +6,7 @@ use mathlib.Core.Option.{Option, some, none}
 use lib.Dec.{leb, eqb}
 use Rattle.rules.specs.Layout.{lastKey}
 use Rattle.rules.specs.Test.{between, every, mem}
-use Rattle.rules.specs.Entry.{Entry, Cert, Child, Below, keys, cut}
+use Rattle.rules.specs.Entry.{Child, keys, cut}
 use Rattle.rules.specs.Page.{View, Page, isLeaf, fresh}
 use Rattle.rules.specs.Table.{read, root0, previous0, birth0}
 use Rattle.rules.specs.Sound.{sound}

@@ -1,14 +1,14 @@
 -- When a page is sound, whoever asks for it.
 use Prim.Native.Nat.{ℕ, _-_}
-use mathlib.Core.Bool.{Bool, true, false, _&&_, _||_}
-use mathlib.Core.List.{List, [], _∷_, _++_}
+use mathlib.Core.Bool.{Bool, false, _&&_, _||_}
+use mathlib.Core.List.{List, [], _∷_}
 use lib.ListN.{length}
 use lib.Dec.{leb, ltb, eqb}
 use Rattle.rules.specs.Layout.{leafRoom, innerRoom, leafKind, topKind}
 use Rattle.rules.specs.Test.{between, every, all}
 use Rattle.rules.specs.Key.{goodKey}
-use Rattle.rules.specs.Entry.{Entry, Cert, Child, Below, keys, rising}
-use Rattle.rules.specs.Page.{View, Page, isLeaf}
+use Rattle.rules.specs.Entry.{Child, keys, rising}
+use Rattle.rules.specs.Page.{Page, isLeaf}
 
 -- the first child starts at the page's low, so there is one at least
 unfoldable pub startsAt : ℕ → List Child → Bool

@@ -2,11 +2,11 @@
 use Prim.Native.Nat.{ℕ, zero, suc}
 use mathlib.Core.Bool.{Bool, true, false, not, _&&_}
 use mathlib.Core.List.{List, [], _∷_, _++_}
-use mathlib.Core.Option.{Option, some, none}
+use mathlib.Core.Option.{some, none}
 use Rattle.rules.specs.Layout.{topKind}
 use Rattle.rules.specs.Test.{every, all, mem, distinct}
-use Rattle.rules.specs.Entry.{Entry, Cert}
-use Rattle.rules.specs.Page.{View, Page}
+use Rattle.rules.specs.Entry.{Cert}
+use Rattle.rules.specs.Page.{View}
 use Rattle.rules.specs.Table.{read}
 use Rattle.rules.specs.Place.{rootPlace, kids, fits, show}
 use Rattle.rules.specs.declared.Place.{Place}

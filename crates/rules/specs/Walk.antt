@@ -7,10 +7,10 @@ use lib.ListN.{length, take}
 use lib.Dec.{leb, ltb}
 use Rattle.rules.specs.Layout.{topKind}
 use Rattle.rules.specs.Test.{every}
-use Rattle.rules.specs.Entry.{Entry, Cert, cut}
+use Rattle.rules.specs.Entry.{Cert, cut}
 use Rattle.rules.specs.Page.{View, Page}
 use Rattle.rules.specs.Place.{rootPlace, kids, pick}
-use Rattle.rules.specs.Enter.{Entered, enter}
+use Rattle.rules.specs.Enter.{enter}
 use Rattle.rules.specs.declared.Asked.{Asked}
 use Rattle.rules.specs.declared.Place.{Place}
 
