@@ -27,10 +27,6 @@ module _ (n : ℕ) (t : List ℕ) (fit : fit0 n t ≡ true) where
   root-below = omega (arith, root-from, between-high 1 (n - 1) (root0 t) fit-root)
 
   module _ (long : length t ≡ n * pageSize) where
-    -- page 0 is there
-    pub has-zero : pageSize ≤ length t
-    has-zero = omega (arith, long, root-below)
-
     module _ (c : ℕ) (a : Asked) (most : n ≤ mostPages) (bytes : Bytes t) (narrow : c < 256 ^ 4) where
       pub dry-whole : dryOf n a t .whole ≡ walkOf n c a t .whole
       dry-whole = sym (dry-decides n c a t most narrow long bytes root-from root-below .0)

@@ -11,7 +11,7 @@ use borrow.Author.Tests.{leb-true, leb-false, le-leb, lt-leb, lt-ltb, le-ltb, lt
 use Rattle.rules.specs.Layout.{headerSize, certSize, leafKind, leafRoom}
 use Rattle.rules.specs.Test.{between}
 use Rattle.rules.specs.Entry.{Cert, cut}
-use Rattle.rules.specs.Page.{View, readEach, certIn, pageIn}
+use Rattle.rules.specs.Page.{readEach, certIn, pageIn}
 use Rattle.rules.specs.Table.{pageAt, read}
 use Rattle.rules.specs.Place.{cutView}
 use Rattle.rules.specs.declared.Asked.{Asked}
@@ -21,10 +21,8 @@ use Rattle.rules.proofs.Each.{length-readEach}
 use Rattle.rules.proofs.Entries.{cut-nil, cut-in, cut-out, cut-all, cut-wider}
 use Rattle.head.specs.Head.{certAt, headIn}
 use Rattle.head.specs.declared.Head.{Head}
-use Rattle.head.proofs.Headers.{view-leaf, view-inner}
+use Rattle.head.proofs.Headers.{headOf, headIn-page, certs-leaf, certs-inner}
 use Rattle.head.proofs.Left.{left, left-all, left-more, left-none}
-use Rattle.seen.specs.Run.{kindAt, countAt}
-use Rattle.seen.proofs.Looks.{head-kind, head-count}
 use Rattle.dry.specs.Count.{larger, smaller, tallied, tally, tallyAll, liesIn, Within, tallyAt}
 
 -- ── The narrower range ──────────────────────────────────────────────────────────────────────────────────────────
@@ -220,18 +218,12 @@ module _ (h : Head) (low high : ℕ) where
 -- ── A page ──────────────────────────────────────────────────────────────────────────────────────────────────────
 
 module _ (t : List ℕ) (page : ℕ) (h : Head) (f : h ≡ headIn (pageAt t page)) where
-  certs-leaf : h .kind ≡ leafKind → read t page .view .certs ≡ readEach certIn certSize (h .count) (drop headerSize (pageAt t page))
-  unfolding read pageIn kindAt countAt
-  certs-leaf k =
-      ap (λ (v : View). v .certs) (view-leaf (pageAt t page) (sym (head-kind t page h f) ∙ k))
-      ∙ ap (λ (i : ℕ). readEach certIn certSize i (drop headerSize (pageAt t page))) (sym (head-count t page h f))
-
-  certs-inner : (h .kind ≡ leafKind → ⊥) → read t page .view .certs ≡ []
-  unfolding read pageIn kindAt
-  certs-inner k = ap (λ (v : View). v .certs) (view-inner (pageAt t page) (λ q. k (head-kind t page h f ∙ q)))
+  as-read : h ≡ headOf (read t page)
+  unfolding read
+  as-read = f ∙ headIn-page (pageAt t page)
 
   length-leaf : h .kind ≡ leafKind → length (read t page .view .certs) ≡ h .count
-  length-leaf k = ap length (certs-leaf k) ∙ length-readEach certIn certSize (h .count) (drop headerSize (pageAt t page))
+  length-leaf k = ap length (certs-leaf t page h as-read k) ∙ length-readEach certIn certSize (h .count) (drop headerSize (pageAt t page))
 
   pub leaf-room : Within (read t page) → h .kind ≡ leafKind → h .count ≤ leafRoom
   leaf-room w k = omega (arith, length-leaf k, w .room)
@@ -249,7 +241,7 @@ module _ (t : List ℕ) (page : ℕ) (h : Head) (f : h ≡ headIn (pageAt t page
     unfolding tallyAt cutView
     tally-inner k =
         sym
-        (ap (λ (xs : List Cert). tally (a .low) (a .high) (a .room) (cut (e .low) (e .high) xs) count) (certs-inner k)
+        (ap (λ (xs : List Cert). tally (a .low) (a .high) (a .room) (cut (e .low) (e .high) xs) count) (certs-inner t page h as-read k)
         ∙ ap (λ (xs : List Cert). tally (a .low) (a .high) (a .room) xs count) (cut-nil (e .low) (e .high))
         ∙ tally-nil (a .low) (a .high) (a .room) count)
 
@@ -258,7 +250,7 @@ module _ (t : List ℕ) (page : ℕ) (h : Head) (f : h ≡ headIn (pageAt t page
         ≡ tallyAt t page a e count
     unfolding tallyAt cutView tally
     tally-leaf low high k p q =
-        rw (p, q, sym (certs-leaf k), sym (cut-both (a .low) (a .high) (e .low) (e .high) (read t page .view .certs)))
+        rw (p, q, sym (certs-leaf t page h as-read k), sym (cut-both (a .low) (a .high) (e .low) (e .high) (read t page .view .certs)))
 
     -- a range that holds the page's cuts nothing
     module _ (low high : ℕ) (w : Within (read t page)) (i : liesIn h low high ≡ true) where
@@ -283,5 +275,5 @@ module _ (t : List ℕ) (page : ℕ) (h : Head) (f : h ≡ headIn (pageAt t page
           ap (λ (j : ℕ). count + smaller j (a .room - count)) (sym (length-leaf k))
           ∙ ap (λ (j : ℕ). count + j) (sym (length-first (a .room - count) (read t page .view .certs)))
           ∙ ap (λ (xs : List Cert). count + length (take (a .room - count) xs)) (sym cut-none-off)
-          ∙ ap (λ (xs : List Cert). tally low high (a .room) xs count) (certs-leaf k)
+          ∙ ap (λ (xs : List Cert). tally low high (a .room) xs count) (certs-leaf t page h as-read k)
           ∙ tally-leaf low high k p q

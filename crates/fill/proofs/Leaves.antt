@@ -11,10 +11,9 @@ use Rattle.rules.specs.Page.{certIn}
 use Rattle.rules.specs.Table.{pageAt, read}
 use Rattle.rules.proofs.Each.{length-readEach}
 use Rattle.head.specs.declared.Head.{Head}
-use Rattle.head.proofs.Headers.{headOf}
+use Rattle.head.proofs.Headers.{headOf, certs-leaf}
 use Rattle.entries.specs.Spot.{keysIn}
 use Rattle.entries.proofs.KeysIn.{keys-certs}
-use Rattle.sweep.proofs.Notes.{certs-leaf}
 use Rattle.fill.specs.Fills.{certsFrom, Sorted}
 
 module _ (t : List ℕ) (page : ℕ) (h : Head) (f : h ≡ headOf (read t page)) (q : h .kind ≡ leafKind) where

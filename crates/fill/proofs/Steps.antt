@@ -18,7 +18,7 @@ use Rattle.rules.specs.declared.Asked.{Asked}
 use Rattle.rules.specs.declared.Place.{Place}
 use Rattle.rules.proofs.Tests.{every-true}
 use Rattle.head.specs.declared.Head.{Head}
-use Rattle.head.proofs.Headers.{headOf}
+use Rattle.head.proofs.Headers.{headOf, certs-inner}
 use Rattle.entries.specs.Spot.{keysIn}
 use Rattle.enter.specs.Entering as entering
 use Rattle.enter.specs.declared.Entered.{Entered}
@@ -26,7 +26,6 @@ use Rattle.enter.specs.declared.Above.{Above}
 use Rattle.sweep.specs.Sweeps.{entersBy, aboveAt, Deep, Ready, placesLeft, firstOf, restOf, runOf, Lies}
 use Rattle.sweep.specs.declared.Run.{Run}
 use Rattle.sweep.proofs.Tests.{run-leaf}
-use Rattle.sweep.proofs.Notes.{certs-inner}
 use Rattle.sweep.proofs.Steps as steps
 use Rattle.sweep.proofs.Roots.{nothingAbove}
 use Rattle.fill.specs.Fills.{Lists, listing, listsOf, Fill, filling, filledIn, Known, Fills, sofar, certsFrom, listed, asked, Sorted}

@@ -6,12 +6,11 @@ use mathlib.Core.Option.{Option, some, none}
 use Prim.Native.Nat.{ℕ}
 use Rattle.rules.specs.Key.{keyOf, goodParts}
 use Rattle.rules.specs.Table.{fit0}
-use Rattle.rules.specs.Walk.{Step, Way, wayOf}
+use Rattle.rules.specs.Walk.{Step, wayOf}
 use Rattle.rules.specs.Call.{lengthsFor}
-use Rattle.rules.specs.Lookup.{lookup, lookupKey, lookupLeft, foundIn}
+use Rattle.rules.specs.Lookup.{lookup, lookupKey, lookupLeft}
 use Rattle.rules.specs.declared.Session.{Session}
 use Rattle.rules.specs.declared.Looked.{Looked}
-use Rattle.rules.specs.declared.Looking.{Looking}
 use Rattle.lookup.specs.Looks.{leaving, looked, answerOn, lookedAlong, Look}
 
 module _ (w t : List ℕ) (s : Session) (model serial issue : ℕ) where

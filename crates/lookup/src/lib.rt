@@ -16,7 +16,7 @@ use rules::Session;
 use way::Step;
 ghost use mathlib.Core.Path.{_≡_};
 ghost use mathlib.Core.Bool.{true};
-ghost use Prim.Native.Nat.{_+_, _*_, _≤_, _<_};
+ghost use Prim.Native.Nat.{_+_, _*_, _≤_};
 ghost use lib.ListN.{length, drop};
 ghost use Rattle.rules.specs.Layout.{pageSize, headerSize, certSize, leafRoom};
 ghost use Rattle.rules.specs.Entry.{keys, find, rising};

@@ -17,8 +17,7 @@ use Rattle.rules.specs.Walk.{Walked, finds}
 use Rattle.rules.specs.declared.Asked.{Asked}
 use Rattle.head.specs.Head.{certAt}
 use Rattle.head.specs.declared.Head.{Head}
-use Rattle.head.proofs.Headers.{headOf}
-pub use Rattle.head.proofs.Headers.{certs-leaf, certs-inner}
+use Rattle.head.proofs.Headers.{headOf, certs-leaf, certs-inner}
 use Rattle.head.proofs.Left.{left, left-all, left-more, left-none}
 use Rattle.sweep.specs.Sweeps.{lastOf, sofarOf, Sweep, sweeping, told, Known, noted, noteEach}
 use Rattle.sweep.specs.declared.Sofar.{Sofar}

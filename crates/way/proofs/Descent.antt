@@ -1,25 +1,23 @@
 -- The descent as the loop goes through it: what is left to do is the rules' descent from the place at hand.
 -- Assumes nothing.
 use mathlib.Core.Path.{_≡_, refl, sym, ap, _∙_, subst}
-use mathlib.Core.Bool.{Bool, true, false}
+use mathlib.Core.Bool.{true, false}
 use mathlib.Core.List.{List, [], _∷_}
-use mathlib.Core.Option.{Option, some, none}
-use Prim.Native.Nat.{ℕ, zero, suc, _+_, _-_, _*_, _^_, _≤_, _<_}
+use mathlib.Core.Option.{some, none}
+use Prim.Native.Nat.{ℕ, suc, _+_, _-_, _*_, _^_, _≤_, _<_}
 use native.Mathlib.Omega.{arith}
 use native.Mathlib.Numerals.{add-one}
-use lib.Dec.{eqb}
 use lib.ListN.{length}
 use borrow.Author.Tests.{ne-eqb}
 use Rattle.fields.specs.Field.{Bytes}
 use Rattle.rules.specs.Layout.{pageSize, leafKind, lastKey}
-use Rattle.rules.specs.Test.{mem, between}
-use Rattle.rules.specs.Page.{View, Page, isLeaf}
-use Rattle.rules.specs.Table.{read, root0, previous0, birth0, fit0}
+use Rattle.rules.specs.Test.{mem}
+use Rattle.rules.specs.Page.{Page, isLeaf}
+use Rattle.rules.specs.Table.{read, fit0}
 use Rattle.rules.specs.Place.{rootPlace, kids, pick}
 use Rattle.rules.specs.Enter as entry
 use Rattle.rules.specs.Walk as rules
 use Rattle.rules.specs.declared.Place.{Place}
-use Rattle.rules.proofs.Tests.{every-true, between-low, between-high}
 use Rattle.rules.proofs.Views.{Shaped, leaf-of-kind, inner-of-kind, shaped-read}
 use Rattle.rules.proofs.Asks.{pick-leaf}
 use Rattle.head.specs.declared.Head.{Head}
@@ -28,7 +26,7 @@ use Rattle.enter.specs.Entering as enters
 use Rattle.enter.specs.declared.Entered.{Entered}
 use Rattle.enter.specs.declared.Above.{Above}
 use Rattle.enter.proofs.Told.{enter-same, told-table, told-page, told-damaged}
-use Rattle.way.specs.Ways.{Leads, Holds, stepOf, firstOf, restOf, wayFor, thenOf, aboveIn, walking, wayOr, told}
+use Rattle.way.specs.Ways.{Leads, Holds, stepOf, wayFor, thenOf, aboveIn, walking, wayOr, told}
 use Rattle.way.specs.declared.Step.{Step}
 use Rattle.way.specs.declared.Way.{Way}
 use Rattle.way.proofs.Stood.{Ready, ready-root, ready-next, Stood, stood-here}
@@ -76,13 +74,6 @@ pub record Descent (n c k : ℕ) (t₀ t : List ℕ) (w : Way) (e : Place) (leve
   pub rest : rules.wayOf n c k t₀ ≡ rules.descend level n c k above t e
   pub deep : level + length above ≡ 3
   pub ready : Ready n c k t e
-
--- a table with a fit page 0 has a page
-pub has-zero : (n : ℕ) (t : List ℕ) → length t ≡ n * pageSize → fit0 n t ≡ true → pageSize ≤ length t
-unfolding fit0
-has-zero n t l f =
-    let r = every-true _ f .1 .1 .0 in
-    omega (arith, between-low 1 (n - 1) (root0 t) r, between-high 1 (n - 1) (root0 t) r)
 
 -- at the root
 pub begins : (n c k : ℕ) (t : List ℕ) (e : Place) (w : Way) → length t ≡ n * pageSize → fit0 n t ≡ true → Bytes t

@@ -1,16 +1,16 @@
 -- An inner page's entries by their keys: the place that a key leads to.
 -- Assumes nothing.
-use mathlib.Core.Path.{_≡_, refl, sym, ap, _∙_}
-use mathlib.Core.Bool.{Bool, true, false}
-use mathlib.Core.List.{List, [], _∷_}
-use mathlib.Core.Option.{some, none}
-use Prim.Native.Nat.{ℕ, zero, suc, _+_, _-_, _*_, _≤_, _<_}
+use mathlib.Core.Path.{_≡_, sym, ap, _∙_}
+use mathlib.Core.Bool.{true}
+use mathlib.Core.List.{List, _∷_}
+use mathlib.Core.Option.{some}
+use Prim.Native.Nat.{ℕ, _-_, _≤_, _<_}
 use native.Mathlib.Omega.{arith}
 use lib.ListN.{length, drop, getD}
 use Rattle.fields.specs.Field.{leAt}
-use Rattle.rules.specs.Layout.{headerSize, childSize, leafKind, innerRoom, pageSize}
+use Rattle.rules.specs.Layout.{headerSize, childSize, innerRoom}
 use Rattle.rules.specs.Entry.{Child, keys, rising}
-use Rattle.rules.specs.Page.{View, Page, readEach, childIn, viewIn, pageIn}
+use Rattle.rules.specs.Page.{View, readEach, childIn, viewIn, pageIn}
 use Rattle.rules.specs.Place.{placesIn, kids, pick}
 use Rattle.rules.specs.declared.Place.{Place}
 use Rattle.rules.proofs.Each.{length-readEach}

@@ -1,34 +1,30 @@
 -- The pages of a way stand in the table that the way leaves: each is read there as it was entered, fits its place and
 -- holds the key in its range, and the first is a leaf. Assumes nothing.
-use mathlib.Core.Path.{_≡_, refl, sym, ap, _∙_, subst}
+use mathlib.Core.Path.{_≡_, refl, sym, _∙_, subst}
 use mathlib.Core.Bool.{Bool, true, false}
 use mathlib.Core.List.{List, [], _∷_}
 use mathlib.Core.Option.{Option, some, none, Option·some-injective, Option·none-ne-some}
 use Prim.Native.Nat.{ℕ, zero, suc, _-_, _*_, _^_, _≤_, _<_}
 use native.Mathlib.Omega.{arith}
-use borrow.Author.Tests.{eqb-true, eqb-false}
-use lib.Dec.{eqb}
 use lib.ListN.{length}
 use Rattle.fields.specs.Field.{Bytes}
 use Rattle.fields.proofs.Field.{leAt-bound}
 use Rattle.rules.specs.Layout.{pageSize, lastKey}
-use Rattle.rules.specs.Test.{mem, distinct}
-use Rattle.rules.specs.Entry.{Entry, Child, Below, find}
-use Rattle.rules.specs.Page.{View, Page, isLeaf}
+use Rattle.rules.specs.Test.{mem}
+use Rattle.rules.specs.Page.{Page, isLeaf}
 use Rattle.rules.specs.Table.{read, root0, birth0, fit0}
 use Rattle.rules.specs.Place.{rootPlace, kids, pick}
 use Rattle.rules.specs.Enter as entry
-use Rattle.rules.specs.Walk.{Step, numbers, Way, descend, wayOf}
+use Rattle.rules.specs.Walk.{Step, numbers, descend, wayOf}
 use Rattle.rules.specs.declared.Place.{Place}
 use Rattle.rules.proofs.All.{All, nil, cons}
-use Rattle.rules.proofs.EntryBytes.{WideChild}
 use Rattle.rules.proofs.Pages.{Wide}
 use Rattle.rules.proofs.Tables.{wide-read}
-use Rattle.rules.proofs.Entries.{find-head, find-tail}
-use Rattle.rules.proofs.Tests.{every-true, between-low, between-high, mem-head, mem-tail, either}
+use Rattle.rules.proofs.Tests.{every-true, between-low, between-high, mem-head, mem-tail}
 use Rattle.rules.proofs.Places.{Fits}
 use Rattle.rules.proofs.Picks.{belowOf, pick-holds}
 use Rattle.rules.proofs.Asks.{kids-pick, kids-names, kids-total}
+use Rattle.enter.proofs.Finds.{wide-find}
 use Rattle.enter.proofs.Mended.{Narrow}
 use Rattle.enter.proofs.Stands.{comes, stands, stays, stays-long, stays-bytes, found-fits}
 
@@ -60,22 +56,6 @@ ready-root n c k t l f b m h =
       low = omega arith;
       high = h;
     }
-
-same-entry : {j k : ℕ} {a b : Below} → j ≡ k → a ≡ b → _≡_ {A = Child} (record { key = j; value = a }) (record { key = k; value = b })
-same-entry p q = cc
-
--- what is found among entries that fit their fields fits
-wide-find : {xs : List Child} (k : ℕ) (v : Below) → All WideChild xs → find k xs ≡ some v → WideChild (record { key = k; value = v })
-unfolding find
-wide-find k v nil h = absurd (Option·none-ne-some v h)
-wide-find k v (cons {x = x} {xs} w m) h = go (eqb k (x .key)) refl (wide-find k v m)
-  where
-    go : (t : Bool) → eqb k (x .key) ≡ t → (find k xs ≡ some v → WideChild (record { key = k; value = v }))
-        → WideChild (record { key = k; value = v })
-    go true e ih =
-        let q = Option·some-injective (x .value) v (sym (find-head k x xs (eqb-true k (x .key) e)) ∙ h) in
-        subst WideChild (same-entry (sym (eqb-true k (x .key) e)) q) w
-    go false e ih = ih (sym (find-tail k x xs (eqb-false k (x .key) e)) ∙ h)
 
 -- ── A page entered ──────────────────────────────────────────────────────────────────────────────────────────────
 

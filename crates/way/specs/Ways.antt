@@ -7,7 +7,7 @@ use mathlib.Core.Option.{Option, some, none}
 use lib.ListN.{length}
 use Rattle.rules.specs.Layout.{certSize, leafRoom, innerRoom}
 use Rattle.rules.specs.Entry.{keys, rising}
-use Rattle.rules.specs.Page.{View, Page, isLeaf}
+use Rattle.rules.specs.Page.{View, isLeaf}
 use Rattle.rules.specs.Sound.{startsAt}
 use Rattle.rules.specs.Table.{pageAt}
 use Rattle.rules.specs.Walk as rules

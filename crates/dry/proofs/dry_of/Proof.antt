@@ -2,13 +2,13 @@
 use mathlib.Core.Path.{ap, _∙_}
 use Rattle.rules.specs.declared.Place.{Place}
 use Rattle.dry.specs.Walk.{dry, untouched, dryOf}
-use Rattle.dry.proofs.Answers.{has-zero}
+use Rattle.rules.proofs.PageZero.{has-zero}
 use borrow.Author.Needs.{needs}
 use Rattle.dry.proofs.dry_of.Statement.{statement}
 use Rattle.dry.proofs.dry_of.Tie as tie
 
 root-place-requires : tie.Need-root-place-requires
-root-place-requires c κs = has-zero (c .before .args .n) (c .before .args .table .now) (c .before .pre .1) (c .before .pre .0)
+root-place-requires c κs = has-zero (c .before .args .n) (c .before .args .table .now) (c .before .pre .0) (c .before .pre .1)
 
 slice-aggregate-walk-page : tie.Need-slice-aggregate-walk-page
 slice-aggregate-walk-page c = search needs
