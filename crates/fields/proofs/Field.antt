@@ -2,20 +2,20 @@
 -- may be cut in two anywhere, and what was written piece by piece is read at its offset. Assumes nothing.
 use mathlib.Core.Path.{_≡_, refl, ap, _∙_}
 use mathlib.Core.Bool.{Bool, true, false, _||_}
-use mathlib.Core.List.{List, [], _∷_, _++_, append-assoc, append-nil}
+use mathlib.Core.List.{List, [], _∷_, _++_, append-nil}
 use Prim.Native.Nat.{ℕ, _+_, _-_, _*_, _/_, _%_, _^_, _≤_, _<_}
 use native.Mathlib.Nat.{add-zero, mul-zero, mod-eq-of-lt}
 use native.Mathlib.Omega.{arith}
 use borrow.Author.Tests.{leb-true}
 use lib.Dec.{leb}
 use lib.ListN.{length, getD, set, take, drop}
-use lib.Seq.{sets-eq, length-sets, take-at, drop-drop, drop-append-add, getD-drop}
+use lib.Seq.{length-sets, take-at, drop-drop, drop-append-add, getD-drop}
 use Rattle.fields.specs.Field.{number, le, leAt, putAt, apart, Bytes}
 use Rattle.fields.proofs.Bytes.{bytes-le, bytes-take, bytes-drop, bytes-sets}
 use Rattle.fields.proofs.Number.{length-le, number-le, le-number, number-take-add, number-take-bound, le-mod, le-add}
-use Rattle.fields.proofs.Run.{length-part, part-take, part-sets, part-sets-below, drop-sets, take-sets, sets-append}
+use Rattle.fields.proofs.Run.{length-part, part-take, part-sets, part-sets-below, drop-sets, sets-append}
 
--- ---- reading
+-- ── Reading ─────────────────────────────────────────────────────────────────────────────────────────────────────
 
 pub leAt-bound : (b : List ℕ) (off w : ℕ) → Bytes b → leAt b off w < 256 ^ w
 unfolding leAt
@@ -48,7 +48,7 @@ unfolding leAt
 le-leAt b off w h k =
     rw length-part at (le-number (take w (drop off b)) (bytes-take w (drop off b) (bytes-drop off b h)))
 
--- ---- reading what was written piece by piece: the first piece, the last one, and past a piece
+-- ── Reading what was written piece by piece: the first piece, the last one, and past a piece ────────────────────
 
 pub leAt-first : (w v : ℕ) (rest : List ℕ) → v < 256 ^ w → leAt (le w v ++ rest) 0 w ≡ v
 unfolding leAt
@@ -64,7 +64,7 @@ leAt-past u v rest off w h =
     ap (λ (n : ℕ). number (take w (drop n (le u v ++ rest)))) e
     ∙ ap (λ (l : List ℕ). number (take w l)) (drop-append-add (le u v) rest (off - u))
 
--- ---- writing
+-- ── Writing ─────────────────────────────────────────────────────────────────────────────────────────────────────
 
 pub length-put : (b : List ℕ) (off w v : ℕ) → length (putAt b off w v) ≡ length b
 unfolding putAt
@@ -73,10 +73,6 @@ length-put b off w v = length-sets b off (le w v)
 pub bytes-put : (b : List ℕ) (off w v : ℕ) → Bytes b → Bytes (putAt b off w v)
 unfolding putAt
 bytes-put b off w v h = bytes-sets (le w v) b off h (bytes-le w v)
-
-pub putAt-split : (b : List ℕ) (off w v : ℕ) → off + w ≤ length b → putAt b off w v ≡ take off b ++ (le w v ++ drop (off + w) b)
-unfolding putAt
-putAt-split b off w v h = rw (sets-eq (le w v) b off (rw length-le h), append-assoc, length-le)
 
 pub putAt-byte : (b : List ℕ) (off v : ℕ) → v < 256 → putAt b off 1 v ≡ set b off v
 unfolding putAt le
@@ -95,15 +91,11 @@ putAt-mod b off w v = rw le-mod
 pub putAt-parts : (b : List ℕ) (off u w v : ℕ) → putAt b off (u + w) v ≡ putAt (putAt b off u (v % 256 ^ u)) (off + u) w (v / 256 ^ u)
 putAt-parts b off u w v = rw (putAt-mod, putAt-add)
 
-pub take-put : (b : List ℕ) (off w v n : ℕ) → n ≤ off → take n (putAt b off w v) ≡ take n b
-unfolding putAt
-take-put b off w v n h = take-sets (le w v) b off n h
-
 pub drop-put : (b : List ℕ) (off w v n : ℕ) → off + w ≤ n → drop n (putAt b off w v) ≡ drop n b
 unfolding putAt
 drop-put b off w v n h = drop-sets (le w v) b off n (rw length-le h)
 
--- ---- reading after writing
+-- ── Reading after writing ───────────────────────────────────────────────────────────────────────────────────────
 
 pub get-put : (b : List ℕ) (off w v : ℕ) → off + w ≤ length b → v < 256 ^ w → leAt (putAt b off w v) off w ≡ v
 unfolding leAt putAt

@@ -8,10 +8,10 @@ use native.Mathlib.Omega.{arith}
 use lib.Arith.{mod-mul, digits-mod, digits-div}
 use lib.Dec.{lit<}
 use lib.ListN.{length, take, drop}
-use lib.Seq.{take-nil, take-length}
+use lib.Seq.{take-nil}
 use Rattle.fields.specs.Field.{number, le, Bytes}
 
--- ---- a number as bytes, and back
+-- ── A number as bytes, and back ─────────────────────────────────────────────────────────────────────────────────
 
 pub length-le : (w v : ℕ) → length (le w v) ≡ w
 unfolding le
@@ -38,12 +38,7 @@ le-mod zero v = refl
 le-mod (suc w) v =
     rw (pow-suc, mod-mul v (one-le-pow w 256 (lit< tt)) (lit< tt), digits-mod (v / 256 % 256 ^ w) (mod-lt v (lit< tt)), digits-div (v / 256 % 256 ^ w) (mod-lt v (lit< tt)), le-mod w (v / 256))
 
--- ---- cutting
-
-pub number-append : (xs ys : List ℕ) → number (xs ++ ys) ≡ number xs + 256 ^ length xs * number ys
-unfolding number
-number-append [] ys = rw (pow-zero, one-mul, zero-add)
-number-append (x ∷ xs) ys = rw (number-append xs ys, pow-succ', mul-assoc) (omega arith)
+-- ── Cutting ─────────────────────────────────────────────────────────────────────────────────────────────────────
 
 pub number-take-add : (u w : ℕ) (xs : List ℕ) → number (take (u + w) xs) ≡ number (take u xs) + 256 ^ u * number (take w (drop u xs))
 unfolding number
@@ -56,7 +51,7 @@ unfolding le
 le-add zero w v = rw (zero-add, pow-zero, div-one)
 le-add (suc u) w v = rw (suc-add, le-add u w (v / 256), pow-succ', div-div-eq-div-mul)
 
--- ---- bounds
+-- ── Bounds ──────────────────────────────────────────────────────────────────────────────────────────────────────
 
 pub number-take-bound : (w : ℕ) (xs : List ℕ) → Bytes xs → number (take w xs) < 256 ^ w
 unfolding number
@@ -64,6 +59,3 @@ number-take-bound zero xs h = rw pow-zero (lit< tt)
 number-take-bound (suc w) [] h = one-le-pow (suc w) 256 (lit< tt)
 number-take-bound (suc w) (x ∷ xs) h =
     rw pow-suc (omega (arith, h zero, number-take-bound w xs (λ i. h (suc i))))
-
-pub number-bound : (xs : List ℕ) → Bytes xs → number xs < 256 ^ length xs
-number-bound xs h = rw take-length at (number-take-bound (length xs) xs h)

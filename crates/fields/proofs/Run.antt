@@ -8,7 +8,7 @@ use native.Mathlib.Omega.{arith}
 use lib.ListN.{length, set, take, drop, length-drop}
 use lib.Seq.{sets, sets-eq, take-at, drop-at, take-take, drop-set-lt, take-set-le, length-take-le}
 
--- ---- a part
+-- ── A part ──────────────────────────────────────────────────────────────────────────────────────────────────────
 
 pub length-part : (w off : ℕ) (b : List ℕ) → off + w ≤ length b → length (take w (drop off b)) ≡ w
 length-part w off b h = length-take-le w (drop off b) (rw length-drop (omega arith))
@@ -20,7 +20,7 @@ part-take w (suc off) zero b h = absurd (omega arith)
 part-take w (suc off) (suc n) [] h = refl
 part-take w (suc off) (suc n) (x ∷ b) h = part-take w off n b (omega arith)
 
--- ---- a run of stores
+-- ── A run of stores ─────────────────────────────────────────────────────────────────────────────────────────────
 
 pub sets-append : (xs ys b : List ℕ) (i : ℕ) → sets b i (xs ++ ys) ≡ sets (sets b i xs) (i + length xs) ys
 sets-append [] ys b i = rw add-zero

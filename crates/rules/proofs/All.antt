@@ -44,7 +44,7 @@ pub all-map : {A : Type 0} {P Q : A → Type 0} {xs : List A} → ((x : A) → P
 all-map f nil = nil
 all-map f (cons {x = x} h k) = cons (f x h) (all-map f k)
 
--- ---- entries cut to a range, and an entry put among others
+-- ── Entries cut to a range, and an entry put among others ───────────────────────────────────────────────────────
 
 module _ {B : Type 0} {P : Entry B → Type 0} where
   pub all-cut : (low high : ℕ) {xs : List (Entry B)} → All P xs → All P (cut low high xs)

@@ -13,7 +13,7 @@ use Rattle.rules.specs.Sync.{syncDone}
 use Rattle.rules.specs.declared.Session.{Session}
 use Rattle.rules.proofs.PageZero.{number0-setNumber, pageAt-setNumber}
 
--- ---- an opening
+-- ── An opening ──────────────────────────────────────────────────────────────────────────────────────────────────
 
 module _ (s : List ℕ) where
   pub openDone-copies : openDone s .working ≡ openDone s .stable
@@ -32,7 +32,7 @@ module _ (s : List ℕ) where
   unfolding openDone
   pageAt-openDone i h = pageAt-setNumber s (number0 s + 1) i h
 
--- ---- a sync
+-- ── A sync ──────────────────────────────────────────────────────────────────────────────────────────────────────
 
 module _ (s : Session) (w : List ℕ) where
   pub syncDone-copies : syncDone s w .working ≡ syncDone s w .stable

@@ -12,7 +12,7 @@ use Rattle.fields.proofs.Bytes.{bytes-nil, bytes-append, bytes-drop}
 use Rattle.rules.specs.Page.{readEach, writeEach}
 use Rattle.rules.proofs.All.{All, nil, cons}
 
--- ---- reading
+-- ── Reading ─────────────────────────────────────────────────────────────────────────────────────────────────────
 
 module _ {A : Type 0} (read : List ℕ → A) (size : ℕ) where
   pub length-readEach : (k : ℕ) (b : List ℕ) → length (readEach read size k b) ≡ k
@@ -45,7 +45,7 @@ unfolding readEach
 all-readEach P read size f zero b h = nil
 all-readEach P read size f (suc k) b h = cons (f b h) (all-readEach P read size f k (drop size b) (bytes-drop size b h))
 
--- ---- writing
+-- ── Writing ─────────────────────────────────────────────────────────────────────────────────────────────────────
 
 module _ {A : Type 0} (write : A → List ℕ) where
   pub writeEach-append : (xs ys : List A) → writeEach write (xs ++ ys) ≡ writeEach write xs ++ writeEach write ys
@@ -64,7 +64,7 @@ module _ {A : Type 0} (write : A → List ℕ) (size : ℕ) (sized : (x : A) →
   length-writeEach [] = omega arith
   length-writeEach (x ∷ xs) = rw (length-append, sized x, length-writeEach xs, mul-suc) (omega arith)
 
--- ---- what was written is read, and what was read is written
+-- ── What was written is read, and what was read is written ──────────────────────────────────────────────────────
 
 module _ {A : Type 0} (read : List ℕ → A) (write : A → List ℕ) (size : ℕ) where
   pub readEach-writeEach : (P : A → Type 0) → ((x : A) → length (write x) ≡ size) → ((x : A) → P x → (rest : List ℕ) → read (write x ++ rest) ≡ x) → {xs : List A} → All P xs → (rest : List ℕ) → readEach read size (length xs) (writeEach write xs ++ rest) ≡ xs

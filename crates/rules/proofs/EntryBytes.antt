@@ -16,7 +16,7 @@ use Rattle.rules.specs.Page.{readEach, writeEach, certIn, certBytes, chi
 use Rattle.rules.proofs.All.{All}
 use Rattle.rules.proofs.Each.{length-writeEach, bytes-writeEach, readEach-writeEach, all-readEach}
 
--- ---- a certificate
+-- ── A certificate ───────────────────────────────────────────────────────────────────────────────────────────────
 
 -- every number of a certificate fits its field
 pub record WideCert (x : Cert) : Type 0 where
@@ -46,7 +46,7 @@ pub wide-certIn : (b : List ℕ) → Bytes b → WideCert (certIn b)
 unfolding certIn
 wide-certIn b h = record { key = leAt-bound b 0 8 h; value = leAt-bound b 8 4 h }
 
--- ---- a child
+-- ── A child ─────────────────────────────────────────────────────────────────────────────────────────────────────
 
 pub record WideChild (x : Child) : Type 0 where
   pub key : x .key < 256 ^ 8
@@ -86,7 +86,7 @@ pub wide-childIn : (b : List ℕ) → Bytes b → WideChild (childIn b)
 unfolding childIn
 wide-childIn b h = record { key = leAt-bound b 0 8 h; child = leAt-bound b 8 2 h; previous = leAt-bound b 10 2 h; birth = leAt-bound b 12 4 h }
 
--- ---- so many of them
+-- ── So many of them ─────────────────────────────────────────────────────────────────────────────────────────────
 
 pub length-writeCerts : (xs : List Cert) → length (writeEach certBytes xs) ≡ certSize * length xs
 length-writeCerts xs = length-writeEach certBytes certSize length-certBytes xs

@@ -103,7 +103,7 @@ module _ (n : ℕ) (least : fewestPages ≤ n) (most : n ≤ mostPages) where
   pub read-formatted : read (formatted n (n * pageSize)) 1 ≡ freshLeaf
   read-formatted = rw formatted-is (read-build-same zeroed 1 freshLeaf has1 room-freshLeaf wide-freshLeaf)
 
-  -- ---- page 0
+  -- ── Page 0 ────────────────────────────────────────────────────────────────────────────────────────────────────
 
   pub kind0-formatted : kind0 (formatted n (n * pageSize)) ≡ zeroKind
   unfolding zeroed named kind0
@@ -147,7 +147,7 @@ module _ (n : ℕ) (least : fewestPages ≤ n) (most : n ≤ mostPages) where
   fit0-formatted =
       rw (kind0-formatted, n0-formatted, root0-formatted, previous0-formatted, eq-eqb n n refl, le-leb 1 (n - 1) (omega arith), lt-ltb 0 n (omega arith))
 
-  -- ---- the tree as it stands
+  -- ── The tree as it stands ─────────────────────────────────────────────────────────────────────────────────────
 
   fits-formatted : fits n freshRoot (read (formatted n (n * pageSize)) 1) ≡ true
   fits-formatted = rw read-formatted (first-fits n)
@@ -174,7 +174,7 @@ module _ (n : ℕ) (least : fewestPages ≤ n) (most : n ≤ mostPages) where
   unfolding goodTree every distinct mem all
   goodTree-formatted = rw tree-formatted
 
-  -- ---- the two calls
+  -- ── The two calls ─────────────────────────────────────────────────────────────────────────────────────────────
 
   pub format-done : (w s : List ℕ) → length w ≡ n * pageSize → length s ≡ n * pageSize → format w s ≡ record { answer = Formatted.Done; stable = formatted n (n * pageSize) }
   unfolding format

@@ -69,7 +69,7 @@ pub keyOf-injective : (m s i m′ s′ i′ : ℕ) → s < 2 ^ 32 → i < 2 ^ 16
 unfolding keyOf
 keyOf-injective m s i m′ s′ i′ hs hi hs′ hi′ e = record { model = omega arith; serial = omega arith; issue = omega arith }
 
--- ---- good parts
+-- ── Good parts ──────────────────────────────────────────────────────────────────────────────────────────────────
 
 -- no part is zero
 pub record Good (m s i : ℕ) : Type 0 where

@@ -17,7 +17,7 @@ use Rattle.rules.specs.Marks.{taken, freed, waits, marksFrom, marks, isP
 use Rattle.rules.specs.declared.Session.{Session}
 use Rattle.rules.proofs.Tests.{between-low, between-high, between-of}
 
--- ---- a mark for each number
+-- ── A mark for each number ──────────────────────────────────────────────────────────────────────────────────────
 
 pub length-marksFrom : (mark : ℕ → Bool) (i k : ℕ) → length (marksFrom mark i k) ≡ k
 unfolding marksFrom
@@ -50,7 +50,7 @@ pub marks-same : (f g : ℕ → Bool) → ((j : ℕ) → j < mostPages → f j �
 unfolding marks
 marks-same f g h = marksFrom-same f g 0 mostPages (λ j l b. h j (omega arith))
 
--- ---- a session's lists of marks
+-- ── A session's lists of marks ──────────────────────────────────────────────────────────────────────────────────
 
 -- a mark for each page that a table can have
 pub record Sized (s : Session) : Type 0 where
@@ -81,7 +81,7 @@ sized-turned s = record {
   waiting = length-marks (λ i. not (isPage (s .n) i) && getD (s .waiting) i false);
 }
 
--- ---- one page's marks
+-- ── One page's marks ────────────────────────────────────────────────────────────────────────────────────────────
 
 module _ (s : Session) (i : ℕ) where
   -- a page taken is free no longer
@@ -108,7 +108,7 @@ module _ (s : Session) (i : ℕ) where
   pub waiting-waits-other : (j : ℕ) → j ≢ i → getD (waits i s .waiting) j false ≡ getD (s .waiting) j false
   waiting-waits-other j d = getD-set-other (s .waiting) i j true false d
 
--- ---- at opening, and after a sync
+-- ── At opening, and after a sync ────────────────────────────────────────────────────────────────────────────────
 
 module _ (i : ℕ) (h : i < mostPages) where
   pub free-opened : (n c : ℕ) (t : Tree) → getD (opened n c t .free) i false ≡ (isPage n i && (not (mem i (t .children)) && not (mem i (t .spared))))

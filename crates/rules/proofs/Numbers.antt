@@ -66,7 +66,7 @@ risesFrom-numbersFrom mark b i (suc k) h =
     go true e f g = rw (numbersFrom-here mark i k e, lt-ltb b i h) f
     go false e f g = rw (numbersFrom-past mark i k e) g
 
--- ---- the free pages
+-- ── The free pages ──────────────────────────────────────────────────────────────────────────────────────────────
 
 -- what is known of a page that an insert may take
 pub record FreePage (s : Session) (entered : List ℕ) (i : ℕ) : Type 0 where

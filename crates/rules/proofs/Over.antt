@@ -15,13 +15,13 @@ module _ {A : Type 0} where
   unfolding over
   length-over new old h = simp (length-append, length-drop) (omega arith)
 
-  -- ---- at the end of the new ones
+  -- ── At the end of the new ones ────────────────────────────────────────────────────────────────────────────────
 
   pub take-over : (new old : List A) → take (length new) (over new old) ≡ new
   unfolding over
   take-over new old = take-append-seam new (drop (length new) old)
 
-  -- ---- behind them
+  -- ── Behind them ───────────────────────────────────────────────────────────────────────────────────────────────
 
   pub drop-over-behind : (new old : List A) (k : ℕ) → length new ≤ k → drop k (over new old) ≡ drop k old
   unfolding over
@@ -32,7 +32,7 @@ module _ {A : Type 0} where
       ∙ drop-drop (k - length new) (length new) old
       ∙ ap (λ (n : ℕ). drop n old) (sym e)
 
-  -- ---- one over another
+  -- ── One over another ──────────────────────────────────────────────────────────────────────────────────────────
 
   pub over-over : (new mid old : List A) → length mid ≤ length new → over new (over mid old) ≡ over new old
   unfolding over

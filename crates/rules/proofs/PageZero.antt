@@ -18,7 +18,7 @@ use Rattle.rules.specs.Place.{rootPlace}
 use Rattle.rules.proofs.Tests.{every-true, between-low, between-high}
 use Rattle.rules.proofs.Tables.{Has, Room, pageAt-build-other, pageAt-change-other}
 
--- ---- two tables with the same page 0
+-- ── Two tables with the same page 0 ─────────────────────────────────────────────────────────────────────────────
 
 -- a field of page 0 is one of the table
 pub leAt-page0 : (t : List ℕ) (off w : ℕ) → off + w ≤ pageSize → leAt (pageAt t 0) off w ≡ leAt t off w
@@ -63,7 +63,7 @@ module _ (t : List ℕ) (i : ℕ) (h : Has t i) (pos : 1 ≤ i) where
   pub same0-change : (p : Page) → Room p → Same0 (change t i p) t
   same0-change p r = same0 (change t i p) t (pageAt-change-other t i p h r 0 (λ z. omega arith))
 
--- ---- what a fit page 0 tells of the table
+-- ── What a fit page 0 tells of the table ────────────────────────────────────────────────────────────────────────
 
 pub has-zero : (n : ℕ) (t : List ℕ) → length t ≡ n * pageSize → fit0 n t ≡ true → pageSize ≤ length t
 unfolding fit0
@@ -75,7 +75,7 @@ pub root-previous : (n : ℕ) (t : List ℕ) → fit0 n t ≡ true → rootPlace
 unfolding fit0 rootPlace
 root-previous n t f = ltb-true (previous0 t) n (every-true _ f .1 .1 .1 .0)
 
--- ---- the number set
+-- ── The number set ──────────────────────────────────────────────────────────────────────────────────────────────
 
 pub length-setNumber : (t : List ℕ) (x : ℕ) → length (setNumber t x) ≡ length t
 unfolding setNumber
@@ -127,7 +127,7 @@ module _ (t : List ℕ) (x : ℕ) where
   unfolding read
   read-setNumber i h = ap pageIn (pageAt-setNumber i h)
 
--- ---- the root set
+-- ── The root set ────────────────────────────────────────────────────────────────────────────────────────────────
 
 module _ (t : List ℕ) (root previous birth : ℕ) where
   pub length-setRoot : length (setRoot t root previous birth) ≡ length t
@@ -182,7 +182,7 @@ module _ (t : List ℕ) (root previous birth : ℕ) where
   unfolding read
   read-setRoot i h = ap pageIn (pageAt-setRoot i h)
 
--- ---- page 0 itself: a field put in the table is put in the page
+-- ── Page 0 itself: a field put in the table is put in the page ──────────────────────────────────────────────────
 
 take-sets-in : (vs l : List ℕ) (n i : ℕ) → i + length vs ≤ n → take n (sets l i vs) ≡ sets (take n l) i vs
 take-sets-in [] l n i h = refl

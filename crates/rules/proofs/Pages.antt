@@ -23,7 +23,7 @@ use Rattle.rules.proofs.Over.{length-over, bytes-over}
 use Rattle.rules.proofs.Each.{length-readEach}
 use Rattle.rules.proofs.EntryBytes.{WideCert, WideChild, length-writeCerts, length-writeChildren, bytes-writeCerts, bytes-writeChildren, readCerts-writeCerts, readChildren-writeChildren, wide-readCerts, wide-readChildren}
 
--- ---- what a page must be to be read as it was written
+-- ── What a page must be to be read as it was written ────────────────────────────────────────────────────────────
 
 -- every number of what a page shows fits its field
 pub record WideView (v : View) : Type 0 where
@@ -42,7 +42,7 @@ pub record Wide (p : Page) : Type 0 where
   pub low : p .low < 256 ^ 8
   pub high : p .high < 256 ^ 8
 
--- ---- what is read: a leaf or an inner page
+-- ── What is read: a leaf or an inner page ───────────────────────────────────────────────────────────────────────
 
 pub viewIn-leaf : (b : List ℕ) → eqb (leAt b 0 2) leafKind ≡ true → viewIn b ≡ record { kind = leAt b 0 2; certs = readEach certIn certSize (leAt b 2 2) (drop headerSize b); children = [] }
 unfolding viewIn
@@ -100,7 +100,7 @@ wide-pageIn b h = record {
   high = leAt-bound b 24 8 h;
 }
 
--- ---- what is written: lengths and bytes
+-- ── What is written: lengths and bytes ──────────────────────────────────────────────────────────────────────────
 
 pub length-headerBytes : (p : Page) → length (headerBytes p) ≡ headerSize
 unfolding headerBytes
@@ -171,7 +171,7 @@ pub bytes-buildBytes : (p : Page) → Bytes (buildBytes p)
 unfolding buildBytes
 bytes-buildBytes p = bytes-over (pageBytes p) blank (bytes-pageBytes p) bytes-blank
 
--- ---- what was written is read
+-- ── What was written is read ────────────────────────────────────────────────────────────────────────────────────
 
 -- what a leaf and an inner page are read as, given their kind and their entries
 leaf-back : (kind : ℕ) (certs : List Cert) (children : List Child) (b : List ℕ) → leAt b 0 2 ≡ kind → leAt b 2 2 ≡ length certs → readEach certIn certSize (length certs) (drop headerSize b) ≡ certs → eqb kind leafKind ≡ true → children ≡ [] → viewIn b ≡ record { kind = kind; certs = certs; children = children }
@@ -253,7 +253,7 @@ pub pageIn-changeBytes : {p : Page} → Wide p → (old : List ℕ) → pageIn (
 unfolding changeBytes
 pageIn-changeBytes w old = pageIn-over w old
 
--- ---- the header that was read is written
+-- ── The header that was read is written ─────────────────────────────────────────────────────────────────────────
 
 take-header : (b : List ℕ) → take headerSize b ≡ take 2 b ++ (take 2 (drop 2 b) ++ (take 4 (drop 4 b) ++ (take 4 (drop 8 b) ++ (take 4 (drop 12 b) ++ (take 8 (drop 16 b) ++ take 8 (drop 24 b))))))
 take-header b =
@@ -268,7 +268,7 @@ headerBytes-pageIn b h l =
     rw (kind, count, le-leAt b 4 4 h (omega arith), le-leAt b 8 4 h (omega arith), le-leAt b 12 4 h (omega arith), le-leAt b 16 8 h (omega arith), le-leAt b 24 8 h (omega arith))
     (sym (take-header b))
 
--- ---- pages that a call makes fit
+-- ── Pages that a call makes fit ─────────────────────────────────────────────────────────────────────────────────
 
 pub wide-fresh : {c birth low high : ℕ} {v : View} → WideView v → c < 256 ^ 4 → birth < 256 ^ 4 → low < 256 ^ 8 → high < 256 ^ 8 → Wide (fresh c birth low high v)
 unfolding fresh

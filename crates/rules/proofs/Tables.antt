@@ -27,7 +27,7 @@ Room p = length (pageBytes p) ≤ pageSize
 pub has-page : (t : List ℕ) (n i : ℕ) → length t ≡ n * pageSize → i < n → Has t i
 has-page t n i e h = omega arith
 
--- ---- a page set
+-- ── A page set ──────────────────────────────────────────────────────────────────────────────────────────────────
 
 pub length-pageAt : (t : List ℕ) (i : ℕ) → Has t i → length (pageAt t i) ≡ pageSize
 unfolding pageAt
@@ -70,7 +70,7 @@ module _ (t : List ℕ) (i : ℕ) (q : List ℕ) (h : Has t i) (e : length q ≡
       go true f = part-sets-below q t (i * pageSize) (j * pageSize) pageSize (omega (arith, ltb-true j i f))
       go false f = ap (take pageSize) (drop-sets q t (i * pageSize) (j * pageSize) (omega (arith, ltb-false j i f)))
 
--- ---- a table is determined by its pages
+-- ── A table is determined by its pages ──────────────────────────────────────────────────────────────────────────
 
 pub pageAt-suc : (t : List ℕ) (i : ℕ) → pageAt t (suc i) ≡ pageAt (drop pageSize t) i
 unfolding pageAt
@@ -88,7 +88,7 @@ pages-ext (suc n) t u e f h =
     (pages-ext n (drop pageSize t) (drop pageSize u) (rw length-drop (omega arith)) (rw length-drop (omega arith)) (λ i b. sym (pageAt-suc t i) ∙ h (suc i) (omega arith) ∙ pageAt-suc u i))
     ∙ take-append-drop pageSize u
 
--- ---- a page built, or changed where it stands
+-- ── A page built, or changed where it stands ────────────────────────────────────────────────────────────────────
 
 module _ (t : List ℕ) (i : ℕ) (p : Page) (h : Has t i) (r : Room p) where
   pub length-build : length (build t i p) ≡ length t

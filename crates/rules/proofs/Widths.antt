@@ -20,7 +20,7 @@ use Rattle.rules.proofs.All.{All, nil, cons, all-take, all-drop, all-cu
 use Rattle.rules.proofs.EntryBytes.{WideCert, WideChild}
 use Rattle.rules.proofs.Pages.{WideView, Wide, wide-fresh}
 
--- ---- views
+-- ── Views ───────────────────────────────────────────────────────────────────────────────────────────────────────
 
 module _ {v : View} (w : WideView v) where
   pub wide-cutView : (low high : ℕ) → WideView (cutView low high v)
@@ -74,7 +74,7 @@ module _ {v : View} (w : WideView v) where
     children = all-put x h (w .children);
   }
 
--- ---- pages
+-- ── Pages ───────────────────────────────────────────────────────────────────────────────────────────────────────
 
 -- the key at which a page is divided is one of its keys
 keys-bound : {B : Type 0} {P : Entry B → Type 0} → ((x : Entry B) → P x → x .key < 256 ^ 8) → {xs : List (Entry B)} → All P xs → All (λ k. k < 256 ^ 8) (keys xs)

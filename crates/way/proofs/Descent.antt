@@ -3,7 +3,7 @@
 use mathlib.Core.Path.{_≡_, refl, sym, ap, _∙_, subst}
 use mathlib.Core.Bool.{true, false}
 use mathlib.Core.List.{List, [], _∷_}
-use mathlib.Core.Option.{some, none}
+use mathlib.Core.Option.{some}
 use Prim.Native.Nat.{ℕ, suc, _+_, _-_, _*_, _^_, _≤_, _<_}
 use native.Mathlib.Omega.{arith}
 use native.Mathlib.Numerals.{add-one}
@@ -22,6 +22,7 @@ use Rattle.rules.proofs.Views.{Shaped, leaf-of-kind, inner-of-kind, shaped-read
 use Rattle.rules.proofs.Asks.{pick-leaf}
 use Rattle.head.specs.declared.Head.{Head}
 use Rattle.head.proofs.Headers.{headOf}
+use Rattle.rules.proofs.WalkSteps.{descend-damaged, descend-ends, descend-below}
 use Rattle.enter.specs.Entering as enters
 use Rattle.enter.specs.declared.Entered.{Entered}
 use Rattle.enter.specs.declared.Above.{Above}
@@ -44,27 +45,6 @@ numbers-above (s ∷ (u ∷ (v ∷ ss))) i h o = absurd (omega arith)
 -- one step more of the rules' is one step more of the code's
 then-for : (ss : List rules.Step) (s : rules.Step) → thenOf (wayFor ss) (stepOf s) ≡ wayFor (s ∷ ss)
 then-for ss s = rw add-one
-
--- ── One step of the rules' descent ──────────────────────────────────────────────────────────────────────────────
-
-module _ (level n c k : ℕ) (above : List rules.Step) (t : List ℕ) (e : Place) where
-  descend-none : entry.enter n c (rules.numbers above) t e .page ≡ none
-      → rules.descend (suc level) n c k above t e ≡ rules.noWay (entry.enter n c (rules.numbers above) t e .table)
-  unfolding rules.descend
-  descend-none h = rw (rules.descend, h)
-
-  module _ (p : Page) (h : entry.enter n c (rules.numbers above) t e .page ≡ some p) where
-    descend-leaf : pick k (kids e (p .view)) ≡ none
-        → rules.descend (suc level) n c k above t e
-        ≡ record { table = entry.enter n c (rules.numbers above) t e .table; steps = some (record { place = e; page = p } ∷ above) }
-    unfolding rules.descend
-    descend-leaf q = rw (rules.descend, h, q)
-
-    descend-inner : (d : Place) → pick k (kids e (p .view)) ≡ some d
-        → rules.descend (suc level) n c k above t e
-        ≡ rules.descend level n c k (record { place = e; page = p } ∷ above) (entry.enter n c (rules.numbers above) t e .table) d
-    unfolding rules.descend
-    descend-inner d q = rw (rules.descend, h, q)
 
 -- ── Where the loop stands ───────────────────────────────────────────────────────────────────────────────────────
 
@@ -114,7 +94,7 @@ module _ {n c k : ℕ} {t₀ t : List ℕ} {w : Way} {e : Place} {level : ℕ} (
       let y = entry.enter n c (rules.numbers (d .above)) t e in
       let i = h ∙ ap enters.told as-rules in
       ap (λ (x : List ℕ). walking x (wayFor [])) (told-table y i)
-      ∙ sym (ap told (d .rest ∙ (one-level ∙ descend-none (level - 1) n c k (d .above) t e (told-damaged y i))))
+      ∙ sym (ap told (d .rest ∙ (one-level ∙ descend-damaged (level - 1) n c k (d .above) t e (told-damaged y i))))
 
   module _ (u : List ℕ) (h : Head) (f : enters.entering u (Entered.Page h) ≡ enters.told (entry.enter n c (enters.aboveOf a) t e)) where
     page : (p : Page) × (entry.enter n c (rules.numbers (d .above)) t e .page ≡ some p) × (h ≡ headOf p)
@@ -152,7 +132,7 @@ module _ {n c k : ℕ} {t₀ t : List ℕ} {w : Way} {e : Place} {level : ℕ} (
         let o = pick-leaf k e v s (leaf-of-kind v (sym kind-here ∙ q)) in
         ap (λ (x : List ℕ). walking x (thenOf w (record { place = e; head = h }))) table
         ∙ (ap (walking (entry.enter n c (rules.numbers (d .above)) t e .table)) then-here
-        ∙ sym (ap told (d .rest ∙ (one-level ∙ descend-leaf (level - 1) n c k (d .above) t e (page .0) (page .1) o))))
+        ∙ sym (ap told (d .rest ∙ (one-level ∙ descend-ends (level - 1) n c k (d .above) t e (page .0) (page .1) o))))
 
     pub holds : h .kind ≡ leafKind → Holds (read u (e .child) .view)
     holds q =
@@ -190,7 +170,7 @@ module _ {n c k : ℕ} {t₀ t : List ℕ} {w : Way} {e : Place} {level : ℕ} (
           record {
             above = record { place = e; page = page .0 } ∷ d .above;
             way = then-here;
-            rest = d .rest ∙ (one-level ∙ (descend-inner (level - 1) n c k (d .above) t e (page .0) (page .1) b q′
+            rest = d .rest ∙ (one-level ∙ (descend-below (level - 1) n c k (d .above) t e (page .0) (page .1) b q′
                 ∙ ap (λ (x : List ℕ). rules.descend (level - 1) n c k (record { place = e; page = page .0 } ∷ d .above) x b) (sym table)));
             deep = omega (arith, d .deep);
             ready = subst (λ (x : List ℕ). Ready n c k x b) (sym table) (ready-next (d .ready) (rules.numbers (d .above)) (page .0) (page .1) b q′);

@@ -1,3 +1,4 @@
+-- `way::above`: the numbers of the last two pages. Assumes nothing.
 use mathlib.Core.Path.{refl}
 use Rattle.way.proofs.above.Statement.{statement}
 use Rattle.way.proofs.above.Tie as tie

@@ -1,3 +1,4 @@
+-- `way::then`: each page moves up by one. Assumes nothing.
 use borrow.Author.Needs.{needs}
 use Rattle.way.proofs.then.Statement.{statement}
 use Rattle.way.proofs.then.Tie as tie
