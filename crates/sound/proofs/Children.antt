@@ -1,13 +1,14 @@
 -- An inner page's entries as code tests them: what one names, and that the first starts at low. Assumes nothing.
-use Prim.Native.Nat.{ℕ, _+_, _-_, _≤_, _<_}
+use Prim.Native.Nat.{ℕ, zero, suc, _+_, _-_, _%_, _^_, _≤_, _<_}
 use mathlib.Core.Path.{_≡_, refl, sym}
 use mathlib.Core.Bool.{Bool, true, false, not, _&&_, and-false}
 use mathlib.Core.List.{List}
 use native.Mathlib.Omega.{arith}
 use lib.Dec.{leb, ltb, eqb}
 use lib.ListN.{drop}
-use borrow.Author.Tests.{eq-eqb, ne-eqb}
+use borrow.Author.Tests.{ltb-true, ltb-false, le-ltb, eq-eqb, ne-eqb}
 use Rattle.rules.specs.Layout.{headerSize, childSize}
+use Rattle.rules.specs.Test.{between}
 use Rattle.rules.specs.Entry.{Child}
 use Rattle.rules.specs.Page.{readEach, childIn}
 use Rattle.rules.specs.Sound.{startsAt, namesPages}
@@ -19,18 +20,23 @@ use Rattle.sound.proofs.Turn.{after, first-bad, first-on, turn-stop, tu
 
 -- ── What an entry names ─────────────────────────────────────────────────────────────────────────────────────────
 
-module _ (n : ℕ) (x : Child) {child : ℕ} (e : child ≡ x .value .child) where
-  pub names-zero : child ≡ 0 → false ≡ namesPages n x
+-- one less than the child, and one less than n, wrap: 0 becomes the largest number
+module _ (n : ℕ) (x : Child) {child r m : ℕ} (e : child ≡ x .value .child) (p : (r + 1) % 2 ^ 64 ≡ child) (q : (m + 1) % 2 ^ 64 ≡ n) (u : r < 2 ^ 64) (v : m < 2 ^ 64) where
+  pub names-outside : m ≤ r → false ≡ namesPages n x
   unfolding namesPages
-  names-zero z = sym (rw (between-below 1 (n - 1) (x .value .child) (omega arith)))
+  names-outside l = sym (rw (← e) (rw (go (ltb child 1) refl)))
+    where
+      go : (t : Bool) → ltb child 1 ≡ t → between 1 (n - 1) child ≡ false
+      go true z = between-below 1 (n - 1) child (ltb-true child 1 z)
+      go false z = between-above 1 (n - 1) child (omega (arith, ltb-false child 1 z, l, p, q, u, v))
 
-  pub names-beyond : (child ≡ 0 → ⊥) → n ≤ child → false ≡ namesPages n x
+  pub names-by-previous : {previous : ℕ} → previous ≡ x .value .previous → r < m → ltb previous n ≡ namesPages n x
   unfolding namesPages
-  names-beyond z l = sym (rw (between-above 1 (n - 1) (x .value .child) (omega arith)))
-
-  pub names-by-previous : {previous : ℕ} → previous ≡ x .value .previous → (child ≡ 0 → ⊥) → child < n → ltb previous n ≡ namesPages n x
-  unfolding namesPages
-  names-by-previous q z l = rw (q, between-of 1 (n - 1) (x .value .child) (omega arith) (omega arith))
+  names-by-previous {previous} f l = rw (f, ← e) (go n refl)
+    where
+      go : (i : ℕ) → i ≡ n → ltb (x .value .previous) n ≡ (between 1 (n - 1) child && ltb (x .value .previous) n)
+      go zero z = rw (← z, le-ltb (x .value .previous) 0 (omega arith), and-false)
+      go (suc i) z = rw (between-of 1 (n - 1) child (omega (arith, z, l, p, q, u, v)) (omega (arith, z, l, p, q, u, v)))
 
 -- ── The first entry ─────────────────────────────────────────────────────────────────────────────────────────────
 

@@ -19,6 +19,7 @@ use rules::PAGE;
 use rules::Place;
 use rules::SERIAL;
 use rules::TOP;
+use std::num::wrapping_sub_usize;
 ghost use mathlib.Core.Path.{_≡_};
 ghost use mathlib.Core.Bool.{_&&_};
 ghost use lib.Dec.{ltb};
@@ -98,16 +99,14 @@ fn certs_pass(page: &[u8], count: usize, low: u64, high: u64) -> bool
     key <= high
 }
 
-// A child is a page other than page 0, and its previous is a page or 0.
+// A child is a page other than page 0, and its previous is a page or 0. One less, page 0 is the largest number, so a
+// single comparison tests both ends of the child's range: every entry of every inner page on a way comes here.
 fn names_pages(page: &[u8], j: usize, n: usize) -> bool
     requires { ⌜ headerSize + childSize * (j + 1) ≤ length (now page) ⌝ }
     ensures { λ r. ⌜ r ≡ namesPages n (childAt (now (page .entry)) j) ⌝ }
 {
     let child = child_number(page, j) as usize;
-    if child == 0 {
-        return false;
-    }
-    if child >= n {
+    if wrapping_sub_usize(child, 1) >= wrapping_sub_usize(n, 1) {
         return false;
     }
     (child_previous(page, j) as usize) < n

@@ -1,7 +1,7 @@
--- `sound::names_pages`: the child first, then its previous.
+-- `sound::names_pages`: the child by one comparison, then its previous.
 -- Assumes nothing.
 use Rattle.head.specs.Head.{childAt}
-use Rattle.sound.proofs.Children.{names-zero, names-beyond, names-by-previous}
+use Rattle.sound.proofs.Children.{names-outside, names-by-previous}
 use borrow.Author.Needs.{needs}
 use Rattle.sound.proofs.names_pages.Statement.{statement}
 use Rattle.sound.proofs.names_pages.Tie as tie
@@ -12,11 +12,16 @@ child-number-requires c κs = search needs
 cast-child : tie.Need-cast-child
 cast-child c = search needs
 
-returns : tie.Need-returns
-returns c = names-zero (c .before .before .before .args .n) (childAt (c .before .before .before .args .page .now) (c .before .before .before .args .j)) (c .before .child-number .ensures) (c .if1 .taken)
+wrapping-sub-usize-requires : tie.Need-wrapping-sub-usize-requires
+wrapping-sub-usize-requires c κs = search needs
 
-returns-2 : tie.Need-returns-2
-returns-2 c = names-beyond (c .before .before .before .before .args .n) (childAt (c .before .before .before .before .args .page .now) (c .before .before .before .before .args .j)) (c .before .before .child-number .ensures) (c .before .if1 .left) (c .if2 .taken)
+wrapping-sub-usize-requires-2 : tie.Need-wrapping-sub-usize-requires-2
+wrapping-sub-usize-requires-2 c κs = search needs
+
+returns : tie.Need-returns
+returns c =
+    let a = c .before .before .before .before .before .args in
+    names-outside (a .n) (childAt (a .page .now) (a .j)) (c .before .before .before .child-number .ensures) (c .before .before .wrapping-sub-usize .ensures) (c .before .wrapping-sub-usize2 .ensures) (c .before .before .wrapping-sub-usize .ok) (c .before .wrapping-sub-usize2 .ok) (c .if1 .taken)
 
 child-previous-requires : tie.Need-child-previous-requires
 child-previous-requires c κs = search needs
@@ -24,8 +29,10 @@ child-previous-requires c κs = search needs
 cast-result : tie.Need-cast-result
 cast-result c = search needs
 
-returns-3 : tie.Need-returns-3
-returns-3 c = names-by-previous (c .before .before .before .before .before .args .n) (childAt (c .before .before .before .before .before .args .page .now) (c .before .before .before .before .before .args .j)) (c .before .before .before .child-number .ensures) (c .child-previous .ensures) (c .before .before .if1 .left) (c .before .if2 .left)
+returns-2 : tie.Need-returns-2
+returns-2 c =
+    let a = c .before .before .before .before .before .before .args in
+    names-by-previous (a .n) (childAt (a .page .now) (a .j)) (c .before .before .before .before .child-number .ensures) (c .before .before .before .wrapping-sub-usize .ensures) (c .before .before .wrapping-sub-usize2 .ensures) (c .before .before .before .wrapping-sub-usize .ok) (c .before .before .wrapping-sub-usize2 .ok) (c .child-previous .ensures) (c .before .if1 .left)
 
 pub names-pages-spec : {M : Type 1} → statement M
 names-pages-spec =
@@ -33,8 +40,9 @@ names-pages-spec =
     (tie.spec
     child-number-requires
     cast-child
+    wrapping-sub-usize-requires
+    wrapping-sub-usize-requires-2
     returns
-    returns-2
     child-previous-requires
     cast-result
-    returns-3)
+    returns-2)
