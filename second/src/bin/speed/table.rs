@@ -16,6 +16,9 @@ const ROWS: [&str; 8] = [
     "refused at once",
 ];
 
+/// Lists in a round: one alone is over before the processor has learnt its way.
+const LISTS: usize = 10;
+
 pub struct Table {
     subjects: Vec<Box<dyn Subject>>,
     /// The best time of each row, for each subject; none where there is no such thing.
@@ -71,7 +74,11 @@ fn round(
             assert!(subject.newest(*model, *serial).is_some());
         }
     });
-    let list = each(count, || assert_eq!(subject.list(), count));
+    let list = each(count * LISTS, || {
+        for _ in 0..LISTS {
+            assert_eq!(subject.list(), count);
+        }
+    });
     subject.put(all.absent[0], 1);
     let sync = each(1, || subject.sync());
     let mut opened = false;
