@@ -22,19 +22,33 @@ array-read-grow : tie.Need-array-read-grow
 array-read-grow c = search needs
 
 grow-requires : tie.Need-grow-requires
-grow-requires c κs = start-grows (c .before .before .before .before .before .pre) (c .before .before .if1 .taken) (c .before .step-on .result) (c .before .step-on .ensures)
+grow-requires c κs =
+    let pre = c .before .before .before .before .before .pre in
+    let step-on = c .before .step-on in
+    start-grows pre (c .before .before .if1 .taken) (step-on .result) (step-on .ensures)
 
 same-length : tie.Need-same-length
 same-length c = search needs
 
 returns : tie.Need-returns
-returns c = start-grown (c .before .before .before .before .before .before .before .before .args .c) (c .before .before .before .before .before .before .before .before .args .table .now) (c .before .before .before .before .before .before .before .before .args .way) (c .before .before .before .before .before .before .before .before .args .t5) (c .before .before .before .before .before .before .before .before .args .many) (c .before .before .before .before .before .before .before .before .args .session) (c .before .before .before .before .before .if1 .taken) (c .before .before .before .before .step-on .result) (c .before .before .before .before .step-on .ensures) (making (c .before .before .grow .last .0) (c .before .before .grow .result .session) (c .before .before .grow .result .at)) (c .before .before .grow .ensures)
+returns c =
+    let args = c .before .before .before .before .before .before .before .before .args in
+    let if1 = c .before .before .before .before .before .if1 in
+    let step-on = c .before .before .before .before .step-on in
+    let grow = c .before .before .grow in
+    start-grown (args .c) (args .table .now) (args .way) (args .t5) (args .many) (args .session) (if1 .taken)
+    (step-on .result) (step-on .ensures) (making (grow .last .0) (grow .result .session) (grow .result .at))
+    (grow .ensures)
 
 step-on-requires-2 : tie.Need-step-on-requires-2
 step-on-requires-2 c κs = search needs
 
 returns-2 : tie.Need-returns-2
-returns-2 c = start-stays (c .before .before .before .before .args .c) (c .before .before .before .before .args .table .now) (c .before .before .before .before .args .way) (c .before .before .before .before .args .t5) (c .before .before .before .before .args .many) (c .before .before .before .before .args .session) (c .before .if1 .left) (c .step-on2 .result) (c .step-on2 .ensures)
+returns-2 c =
+    let args = c .before .before .before .before .args in
+    let step-on2 = c .step-on2 in
+    start-stays (args .c) (args .table .now) (args .way) (args .t5) (args .many) (args .session)
+    (c .before .if1 .left) (step-on2 .result) (step-on2 .ensures)
 
 pub start-spec : {M : Type 1} → statement M
 start-spec =

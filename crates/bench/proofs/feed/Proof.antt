@@ -23,16 +23,26 @@ shared-slice-read-step : tie.Need-shared-slice-read-step Inv-loop μ-loop
 shared-slice-read-step c = omega arith
 
 step-requires : tie.Need-step-requires Inv-loop μ-loop
-step-requires c κs = (c .before .before .before .before .loop .inv .1, c .before .before .before .before .loop .inv .2)
+step-requires c κs =
+    let loop = c .before .before .before .before .loop in
+    (loop .inv .1, loop .inv .2)
 
 print-requires : tie.Need-print-requires Inv-loop μ-loop
 print-requires c κs = search needs
 
 same-length : tie.Need-same-length Inv-loop μ-loop
-same-length c = c .before .before .before .before .before .before .before .step .kept .1 .0 ∙ c .before .before .before .before .before .before .before .before .before .before .before .before .loop .inv .1 ∙ sym (c .before .before .before .before .before .before .before .before .before .before .before .before .before .before .before .before .pre .0)
+same-length c =
+    let pre = c .before .before .before .before .before .before .before .before .before .before .before .before .before .before .before .before .pre in
+    let loop = c .before .before .before .before .before .before .before .before .before .before .before .before .loop in
+    let step = c .before .before .before .before .before .before .before .step in
+    step .kept .1 .0 ∙ loop .inv .1 ∙ sym (pre .0)
 
 same-length-2 : tie.Need-same-length-2 Inv-loop μ-loop
-same-length-2 c = c .before .before .before .before .before .before .before .step .kept .1 .1 .0 ∙ c .before .before .before .before .before .before .before .before .before .before .before .before .loop .inv .2 ∙ sym (c .before .before .before .before .before .before .before .before .before .before .before .before .before .before .before .before .pre .1)
+same-length-2 c =
+    let pre = c .before .before .before .before .before .before .before .before .before .before .before .before .before .before .before .before .pre in
+    let loop = c .before .before .before .before .before .before .before .before .before .before .before .before .loop in
+    let step = c .before .before .before .before .before .before .before .step in
+    step .kept .1 .1 .0 ∙ loop .inv .2 ∙ sym (pre .1)
 
 returns : tie.Need-returns Inv-loop μ-loop
 returns c = λ e. cc
@@ -44,7 +54,18 @@ loop-less : tie.Need-loop-less Inv-loop μ-loop
 loop-less c = omega arith
 
 loop-again : tie.Need-loop-again Inv-loop μ-loop
-loop-again c = (omega arith, c .before .before .before .before .before .before .before .step .kept .1 .0 ∙ c .before .before .before .before .before .before .before .before .before .before .before .before .loop .inv .1, c .before .before .before .before .before .before .before .step .kept .1 .1 .0 ∙ c .before .before .before .before .before .before .before .before .before .before .before .before .loop .inv .2, ap (run (drop (c .before .before .before .before .before .before .before .before .before .before .before .before .loop .i + 1) (c .before .before .before .before .before .before .before .before .before .before .before .before .before .before .before .before .args .input .now))) (step-after (c .before .before .before .before .before .before .before .step .result) (c .before .before .before .before .before .before .before .step .last .1 .0) (c .before .before .before .before .before .before .before .step .last .1 .1 .0) (getD (c .before .before .before .before .before .before .before .before .before .before .before .before .before .before .before .before .args .input .now) (c .before .before .before .before .before .before .before .before .before .before .before .before .loop .i) 0) (c .before .before .before .before .before .before .before .before .before .before .before .before .loop .m) (c .before .before .before .before .before .before .before .before .before .before .before .before .loop .working) (c .before .before .before .before .before .before .before .before .before .before .before .before .loop .stable) (c .before .before .before .before .before .before .before .step .ensures)) ∙ sym (run-next (c .before .before .before .before .before .before .before .before .before .before .before .before .before .before .before .before .args .input .now) (c .before .before .before .before .before .before .before .before .before .before .before .before .loop .i) (stand (c .before .before .before .before .before .before .before .before .before .before .before .before .loop .m) (c .before .before .before .before .before .before .before .before .before .before .before .before .loop .working) (c .before .before .before .before .before .before .before .before .before .before .before .before .loop .stable)) (omega arith)) ∙ c .before .before .before .before .before .before .before .before .before .before .before .before .loop .inv .3)
+loop-again c =
+    let args = c .before .before .before .before .before .before .before .before .before .before .before .before .before .before .before .before .args in
+    let loop = c .before .before .before .before .before .before .before .before .before .before .before .before .loop in
+    let step = c .before .before .before .before .before .before .before .step in (
+      omega arith,
+      step .kept .1 .0 ∙ loop .inv .1,
+      step .kept .1 .1 .0 ∙ loop .inv .2,
+      ap (run (drop (loop .i + 1) (args .input .now)))
+          (step-after (step .result) (step .last .1 .0) (step .last .1 .1 .0) (getD (args .input .now) (loop .i) 0) (loop .m) (loop .working) (loop .stable) (step .ensures))
+          ∙ sym (run-next (args .input .now) (loop .i) (stand (loop .m) (loop .working) (loop .stable)) (omega arith))
+          ∙ loop .inv .3,
+    )
 
 same-length-3 : tie.Need-same-length-3 Inv-loop μ-loop
 same-length-3 c = c .before .loop .inv .1 ∙ sym (c .before .before .before .before .before .pre .0)
@@ -53,7 +74,10 @@ same-length-4 : tie.Need-same-length-4 Inv-loop μ-loop
 same-length-4 c = c .before .loop .inv .2 ∙ sym (c .before .before .before .before .before .pre .1)
 
 returns-2 : tie.Need-returns-2 Inv-loop μ-loop
-returns-2 c = λ e. sym (run-end (c .before .before .before .before .before .args .input .now) (c .before .loop .i) (stand (c .before .loop .m) (c .before .loop .working) (c .before .loop .stable)) (omega arith)) ∙ c .before .loop .inv .3
+returns-2 c =
+    let args = c .before .before .before .before .before .args in
+    let loop = c .before .loop in
+    λ e. sym (run-end (args .input .now) (loop .i) (stand (loop .m) (loop .working) (loop .stable)) (omega arith)) ∙ loop .inv .3
 
 pub feed-spec : {M : Type 1} → statement M
 feed-spec =

@@ -9,10 +9,12 @@ spell-requires : tie.Need-spell-requires
 spell-requires c κs = search needs
 
 array-share-prefix-bytes : tie.Need-array-share-prefix-bytes
-array-share-prefix-bytes c = rw (c .before .spell .ensures) (shown-within (answerLine (c .before .before .args .reply)))
+array-share-prefix-bytes c =
+    rw (c .before .spell .ensures) (shown-within (answerLine (c .before .before .args .reply)))
 
 slice-aggregate-write-all : tie.Need-slice-aggregate-write-all
-slice-aggregate-write-all c = rw (c .before .before .spell .ensures) (shown-length (answerLine (c .before .before .before .args .reply)))
+slice-aggregate-write-all c =
+    rw (c .before .before .spell .ensures) (shown-length (answerLine (c .before .before .before .args .reply)))
 
 write-all-requires : tie.Need-write-all-requires
 write-all-requires c κs = search needs

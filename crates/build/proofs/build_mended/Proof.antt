@@ -33,7 +33,8 @@ unfolding read pageIn
 cut-page-requires c κs =
     let a = c .before .before .before .before .args in
     let pre = c .before .before .before .before .pre in
-    rw (page-part (a .table .now) (a .e .previous)) (length-pageAt (a .table .now) (a .e .previous) (omega arith), pre .1)
+    rw (page-part (a .table .now) (a .e .previous))
+    (length-pageAt (a .table .now) (a .e .previous) (omega arith), pre .1)
 
 cast-store : tie.Need-cast-store
 cast-store c = search needs

@@ -26,7 +26,8 @@ start-requires c κs =
     let get16 = c .before .before .get16 in
     let a = c .before .before .before .before .args in
     let pre = c .before .before .before .before .pre in
-    rw (c .before .size-of .ensures, get16 .ensures, c .get162 .ensures) (omega (arith, size-bound (leAt (a .from .now) 0 2)), omega (arith, pre .0, entries-fit (a .from .now) (pre .1 .roomy)))
+    rw (c .before .size-of .ensures, get16 .ensures, c .get162 .ensures)
+    (omega (arith, size-bound (leAt (a .from .now) 0 2)), omega (arith, pre .0, entries-fit (a .from .now) (pre .1 .roomy)))
 
 spot-requires : tie.Need-spot-requires
 spot-requires c κs =
@@ -34,7 +35,8 @@ spot-requires c κs =
     let get16 = c .before .before .before .get16 in
     let a = c .before .before .before .before .before .args in
     let pre = c .before .before .before .before .before .pre in
-    rw (size-of .ensures, get16 .ensures, c .before .get162 .ensures) (omega (arith, size-bound (leAt (a .from .now) 0 2)), omega (arith, pre .0, entries-fit (a .from .now) (pre .1 .roomy)))
+    rw (size-of .ensures, get16 .ensures, c .before .get162 .ensures)
+    (omega (arith, size-bound (leAt (a .from .now) 0 2)), omega (arith, pre .0, entries-fit (a .from .now) (pre .1 .roomy)))
 
 range-page-requires : tie.Need-range-page-requires
 range-page-requires c κs =
@@ -42,8 +44,14 @@ range-page-requires c κs =
     let size-of = c .before .before .before .size-of in
     let get16 = c .before .before .before .before .get16 in
     let get162 = c .before .before .get162 in
-    let a = c .before .before .before .before .before .before .args in
-    ((pre .0, pre .1 .roomy), (rw (c .before .start .ensures, size-of .ensures, get16 .ensures, get162 .ensures) (start-count (a .from .now) (a .low)), rw (c .spot .ensures, size-of .ensures, get16 .ensures, get162 .ensures) (spot-count (a .from .now) (a .high))))
+    let a = c .before .before .before .before .before .before .args in (
+      (pre .0, pre .1 .roomy),
+      (
+        rw (c .before .start .ensures, size-of .ensures, get16 .ensures, get162 .ensures)
+            (start-count (a .from .now) (a .low)),
+        rw (c .spot .ensures, size-of .ensures, get16 .ensures, get162 .ensures) (spot-count (a .from .now) (a .high)),
+      ),
+    )
 
 returns : tie.Need-returns
 returns c =
@@ -53,7 +61,8 @@ returns c =
     let get162 = c .before .before .before .get162 in
     let a = c .before .before .before .before .before .before .before .args in
     let pre = c .before .before .before .before .before .before .before .pre in
-    rw (c .range-page .ensures, start .ensures, c .before .spot .ensures, size-of .ensures, get16 .ensures, get162 .ensures, cut-view (a .from .now) (a .low) (a .high) (pre .1))
+    rw
+    (c .range-page .ensures, start .ensures, c .before .spot .ensures, size-of .ensures, get16 .ensures, get162 .ensures, cut-view (a .from .now) (a .low) (a .high) (pre .1))
 
 pub cut-page-spec : {M : Type 1} → statement M
 cut-page-spec =

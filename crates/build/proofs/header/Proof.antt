@@ -42,7 +42,9 @@ returns c =
     let put162 = c .before .before .before .before .before .before .before .before .before .before .before .before .before .before .before .before .before .before .before .before .before .before .put162 in
     let put16 = c .before .before .before .before .before .before .before .before .before .before .before .before .before .before .before .before .before .before .before .before .before .before .before .before .before .before .put16 in
     let a = c .before .before .before .before .before .before .before .before .before .before .before .before .before .before .before .before .before .before .before .before .before .before .before .before .before .before .before .before .before .args in
-    rw (put642 .ensures, put64 .ensures, put323 .ensures, put322 .ensures, put32 .ensures, put162 .ensures, put16 .ensures) (sym (header-puts (a .page .now) (a .kind) (a .count) (a .birth) (a .c) (a .c) (a .low) (a .high)))
+    rw
+    (put642 .ensures, put64 .ensures, put323 .ensures, put322 .ensures, put32 .ensures, put162 .ensures, put16 .ensures)
+    (sym (header-puts (a .page .now) (a .kind) (a .count) (a .birth) (a .c) (a .c) (a .low) (a .high)))
 
 pub header-spec : {M : Type 1} → statement M
 header-spec =

@@ -29,8 +29,14 @@ range-page-requires c κs =
     let pre = c .before .before .before .before .before .pre in
     let half-of = c .before .before .half-of in
     let get16 = c .before .before .before .get16 in
-    let a = c .before .before .before .before .before .args in
-    ((pre .0, pre .1 .roomy), (omega arith, rw (half-of .ensures, get16 .ensures, count-viewIn (a .from .now)) (omega (arith, half-below (a .from .now) (pre .1)))))
+    let a = c .before .before .before .before .before .args in (
+      (pre .0, pre .1 .roomy),
+      (
+        omega arith,
+        rw (half-of .ensures, get16 .ensures, count-viewIn (a .from .now))
+            (omega (arith, half-below (a .from .now) (pre .1))),
+      ),
+    )
 
 returns : tie.Need-returns
 unfolding lowerPage pageIn
@@ -40,7 +46,8 @@ returns c =
     let get16 = c .before .before .before .before .get16 in
     let a = c .before .before .before .before .before .before .args in
     let pre = c .before .before .before .before .before .before .pre in
-    rw (c .range-page .ensures, get64 .ensures, c .before .middle .ensures, half-of .ensures, get16 .ensures, lower-half (a .from .now) (half-below (a .from .now) (pre .1)))
+    rw
+    (c .range-page .ensures, get64 .ensures, c .before .middle .ensures, half-of .ensures, get16 .ensures, lower-half (a .from .now) (half-below (a .from .now) (pre .1)))
 
 pub lower-page-spec : {M : Type 1} → statement M
 lower-page-spec =

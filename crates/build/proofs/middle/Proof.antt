@@ -18,27 +18,33 @@ half-of-requires c κs = search needs
 
 mul-get64 : tie.Need-mul-get64
 mul-get64 c =
+    let half-of = c .half-of in
     let a = c .before .before .before .before .args in
     let get16 = c .before .before .get16 in
     let size-of = c .before .size-of in
     let pre = c .before .before .before .before .pre in
-    omega (arith, middle-fits (a .page .now) (get16 .result) (size-of .result) (c .half-of .result) (pre .1) (get16 .ensures) (size-of .ensures) (c .half-of .ensures))
+    omega
+    (arith, middle-fits (a .page .now) (get16 .result) (size-of .result) (half-of .result) (pre .1) (get16 .ensures) (size-of .ensures) (half-of .ensures))
 
 add-get64 : tie.Need-add-get64
 add-get64 c =
+    let half-of = c .half-of in
     let a = c .before .before .before .before .args in
     let get16 = c .before .before .get16 in
     let size-of = c .before .size-of in
     let pre = c .before .before .before .before .pre in
-    omega (arith, middle-fits (a .page .now) (get16 .result) (size-of .result) (c .half-of .result) (pre .1) (get16 .ensures) (size-of .ensures) (c .half-of .ensures))
+    omega
+    (arith, middle-fits (a .page .now) (get16 .result) (size-of .result) (half-of .result) (pre .1) (get16 .ensures) (size-of .ensures) (half-of .ensures))
 
 get64-requires : tie.Need-get64-requires
 get64-requires c κs =
+    let half-of = c .half-of in
     let a = c .before .before .before .before .args in
     let get16 = c .before .before .get16 in
     let size-of = c .before .size-of in
     let pre = c .before .before .before .before .pre in
-    omega (arith, middle-fits (a .page .now) (get16 .result) (size-of .result) (c .half-of .result) (pre .1) (get16 .ensures) (size-of .ensures) (c .half-of .ensures))
+    omega
+    (arith, middle-fits (a .page .now) (get16 .result) (size-of .result) (half-of .result) (pre .1) (get16 .ensures) (size-of .ensures) (half-of .ensures))
 
 returns : tie.Need-returns
 returns c =
@@ -46,7 +52,8 @@ returns c =
     let get16 = c .before .before .before .get16 in
     let a = c .before .before .before .before .before .args in
     let pre = c .before .before .before .before .before .pre in
-    rw (c .get64 .ensures, size-of .ensures, c .before .half-of .ensures, get16 .ensures) (sym (divide-at (a .page .now) (half-below (a .page .now) (pre .1))))
+    rw (c .get64 .ensures, size-of .ensures, c .before .half-of .ensures, get16 .ensures)
+    (sym (divide-at (a .page .now) (half-below (a .page .now) (pre .1))))
 
 pub middle-spec : {M : Type 1} → statement M
 middle-spec =

@@ -28,7 +28,8 @@ middle-requires : tie.Need-middle-requires
 unfolding read pageIn
 middle-requires c κs =
     let a = c .before .before .args in
-    rw (page-part (a .table .now) (a .i)) (length-pageAt (a .table .now) (a .i) (omega arith), c .before .before .pre .1)
+    rw (page-part (a .table .now) (a .i))
+    (length-pageAt (a .table .now) (a .i) (omega arith), c .before .before .pre .1)
 
 returns : tie.Need-returns
 unfolding read pageIn

@@ -30,7 +30,8 @@ cast-header c =
     let size-of = c .before .before .before .size-of in
     let span = c .before .before .span in
     let pre = c .before .before .before .before .before .before .pre in
-    omega (arith, range-fits (a .from .now) (get16 .result) (size-of .result) (a .first) (a .past) (span .result) (pre .0 .1) (pre .1 .0) (pre .1 .1) (get16 .ensures) (size-of .ensures) (span .ensures))
+    omega
+    (arith, range-fits (a .from .now) (get16 .result) (size-of .result) (a .first) (a .past) (span .result) (pre .0 .1) (pre .1 .0) (pre .1 .1) (get16 .ensures) (size-of .ensures) (span .ensures))
 
 header-requires : tie.Need-header-requires
 header-requires c κs = search needs
@@ -45,7 +46,8 @@ mul-copy c =
     let size-of = c .before .before .before .before .before .before .size-of in
     let span = c .before .before .before .before .before .span in
     let pre = c .before .before .before .before .before .before .before .before .before .pre in
-    omega (arith, range-fits (a .from .now) (get16 .result) (size-of .result) (a .first) (a .past) (span .result) (pre .0 .1) (pre .1 .0) (pre .1 .1) (get16 .ensures) (size-of .ensures) (span .ensures))
+    omega
+    (arith, range-fits (a .from .now) (get16 .result) (size-of .result) (a .first) (a .past) (span .result) (pre .0 .1) (pre .1 .0) (pre .1 .1) (get16 .ensures) (size-of .ensures) (span .ensures))
 
 add-copy : tie.Need-add-copy
 add-copy c =
@@ -54,7 +56,8 @@ add-copy c =
     let size-of = c .before .before .before .before .before .before .size-of in
     let span = c .before .before .before .before .before .span in
     let pre = c .before .before .before .before .before .before .before .before .before .pre in
-    omega (arith, range-fits (a .from .now) (get16 .result) (size-of .result) (a .first) (a .past) (span .result) (pre .0 .1) (pre .1 .0) (pre .1 .1) (get16 .ensures) (size-of .ensures) (span .ensures))
+    omega
+    (arith, range-fits (a .from .now) (get16 .result) (size-of .result) (a .first) (a .past) (span .result) (pre .0 .1) (pre .1 .0) (pre .1 .1) (get16 .ensures) (size-of .ensures) (span .ensures))
 
 mul-copy-2 : tie.Need-mul-copy-2
 mul-copy-2 c =
@@ -63,7 +66,8 @@ mul-copy-2 c =
     let size-of = c .before .before .before .before .before .before .size-of in
     let span = c .before .before .before .before .before .span in
     let pre = c .before .before .before .before .before .before .before .before .before .pre in
-    omega (arith, range-fits (a .from .now) (get16 .result) (size-of .result) (a .first) (a .past) (span .result) (pre .0 .1) (pre .1 .0) (pre .1 .1) (get16 .ensures) (size-of .ensures) (span .ensures))
+    omega
+    (arith, range-fits (a .from .now) (get16 .result) (size-of .result) (a .first) (a .past) (span .result) (pre .0 .1) (pre .1 .0) (pre .1 .1) (get16 .ensures) (size-of .ensures) (span .ensures))
 
 copy-requires : tie.Need-copy-requires
 copy-requires c κs =
@@ -72,7 +76,9 @@ copy-requires c κs =
     let size-of = c .before .before .before .before .before .before .size-of in
     let span = c .before .before .before .before .before .span in
     let pre = c .before .before .before .before .before .before .before .before .before .pre in
-    let f = range-fits (a .from .now) (get16 .result) (size-of .result) (a .first) (a .past) (span .result) (pre .0 .1) (pre .1 .0) (pre .1 .1) (get16 .ensures) (size-of .ensures) (span .ensures) in (omega arith, omega arith)
+    let f = range-fits (a .from .now) (get16 .result) (size-of .result) (a .first) (a .past) (span .result)
+    (pre .0 .1) (pre .1 .0) (pre .1 .1) (get16 .ensures) (size-of .ensures) (span .ensures) in
+    (omega arith, omega arith)
 
 returns : tie.Need-returns
 returns c =
@@ -84,7 +90,8 @@ returns c =
     let a = c .before .before .before .before .before .before .before .before .before .before .before .args in
     let pre = c .before .before .before .before .before .before .before .before .before .before .before .pre in
     let shared-slice-known = c .before .before .before .before .before .before .before .before .before .before .shared-slice-known in
-    rw (c .before .copy .ensures, header .ensures, zeros .ensures, span .ensures, size-of .ensures, get16 .ensures) (sym (range-bytes (a .from .now) (a .first) (a .past) (rw (← count-viewIn (a .from .now)) (pre .1 .0)) (rw (← count-viewIn (a .from .now)) (pre .1 .1)) (a .birth) (a .c) (a .low) (a .high) (shared-slice-known .given) (pre .0 .0) (entries-fit (a .from .now) (pre .0 .1))))
+    rw (c .before .copy .ensures, header .ensures, zeros .ensures, span .ensures, size-of .ensures, get16 .ensures)
+    (sym (range-bytes (a .from .now) (a .first) (a .past) (rw (← count-viewIn (a .from .now)) (pre .1 .0)) (rw (← count-viewIn (a .from .now)) (pre .1 .1)) (a .birth) (a .c) (a .low) (a .high) (shared-slice-known .given) (pre .0 .0) (entries-fit (a .from .now) (pre .0 .1))))
 
 pub range-page-spec : {M : Type 1} → statement M
 range-page-spec =

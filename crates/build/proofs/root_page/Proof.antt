@@ -27,7 +27,8 @@ returns c =
     let header = c .before .before .before .before .header in
     let zeros = c .before .before .before .before .before .before .zeros in
     let a = c .before .before .before .before .before .before .before .args in
-    rw (c .before .write-child .ensures, header .ensures, zeros .ensures) (sym (root-bytes (a .kind) (a .c) (newChild (a .birth) (a .key) (a .child) (a .previous))))
+    rw (c .before .write-child .ensures, header .ensures, zeros .ensures)
+    (sym (root-bytes (a .kind) (a .c) (newChild (a .birth) (a .key) (a .child) (a .previous))))
 
 pub root-page-spec : {M : Type 1} → statement M
 root-page-spec =

@@ -33,8 +33,14 @@ range-page-requires c κs =
     let half-of = c .before .before .before .half-of in
     let get16 = c .before .before .before .before .get16 in
     let a = c .before .before .before .before .before .before .args in
-    let get162 = c .before .before .get162 in
-    ((pre .0, pre .1 .roomy), (rw (half-of .ensures, get16 .ensures, count-viewIn (a .from .now)) (omega (arith, half-below (a .from .now) (pre .1))), rw (count-viewIn (a .from .now)) (omega (arith, get162 .ensures))))
+    let get162 = c .before .before .get162 in (
+      (pre .0, pre .1 .roomy),
+      (
+        rw (half-of .ensures, get16 .ensures, count-viewIn (a .from .now))
+            (omega (arith, half-below (a .from .now) (pre .1))),
+        rw (count-viewIn (a .from .now)) (omega (arith, get162 .ensures)),
+      ),
+    )
 
 returns : tie.Need-returns
 unfolding upperPage pageIn
@@ -45,7 +51,8 @@ returns c =
     let get16 = c .before .before .before .before .before .get16 in
     let a = c .before .before .before .before .before .before .before .args in
     let pre = c .before .before .before .before .before .before .before .pre in
-    rw (c .range-page .ensures, get64 .ensures, c .before .middle .ensures, half-of .ensures, get162 .ensures, get16 .ensures, upper-half (a .from .now) (half-below (a .from .now) (pre .1)))
+    rw
+    (c .range-page .ensures, get64 .ensures, c .before .middle .ensures, half-of .ensures, get162 .ensures, get16 .ensures, upper-half (a .from .now) (half-below (a .from .now) (pre .1)))
 
 pub upper-page-spec : {M : Type 1} → statement M
 upper-page-spec =

@@ -38,7 +38,9 @@ same-length-2 : tie.Need-same-length-2
 same-length-2 c = search needs
 
 returns : tie.Need-returns
-returns c = rw (c .before .before .before .before .before .before .line .given .1) (c .before .before .insert-line .ensures)
+returns c =
+    let line = c .before .before .before .before .before .before .line in
+    rw (line .given .1) (c .before .before .insert-line .ensures)
 
 same-length-3 : tie.Need-same-length-3
 same-length-3 c = search needs
@@ -47,7 +49,9 @@ same-length-4 : tie.Need-same-length-4
 same-length-4 c = search needs
 
 returns-2 : tie.Need-returns-2
-returns-2 c = rw (c .before .before .before .before .before .before .line2 .given .1) (c .before .before .find-line .ensures)
+returns-2 c =
+    let line2 = c .before .before .before .before .before .before .line2 in
+    rw (line2 .given .1) (c .before .before .find-line .ensures)
 
 same-length-5 : tie.Need-same-length-5
 same-length-5 c = search needs
@@ -56,7 +60,10 @@ same-length-6 : tie.Need-same-length-6
 same-length-6 c = search needs
 
 returns-3 : tie.Need-returns-3
-returns-3 c = rw (c .before .before .before .before .before .before .before .enum-told .given .1) (c .before .before .before .before .sync-line .ensures)
+returns-3 c =
+    let enum-told′ = c .before .before .before .before .before .before .before .enum-told in
+    let sync-line = c .before .before .before .before .sync-line in
+    rw (enum-told′ .given .1) (sync-line .ensures)
 
 same-length-7 : tie.Need-same-length-7
 same-length-7 c = search needs
@@ -65,7 +72,10 @@ same-length-8 : tie.Need-same-length-8
 same-length-8 c = search needs
 
 returns-4 : tie.Need-returns-4
-returns-4 c = rw (c .before .before .before .before .before .before .before .before .line3 .given .1) (c .before .before .before .before .crash-line .ensures)
+returns-4 c =
+    let line3 = c .before .before .before .before .before .before .before .before .line3 in
+    let crash-line = c .before .before .before .before .crash-line in
+    rw (line3 .given .1) (crash-line .ensures)
 
 returns-5 : tie.Need-returns-5
 unfolding acted

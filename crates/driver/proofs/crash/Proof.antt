@@ -6,7 +6,9 @@ use Rattle.driver.proofs.crash.Statement.{statement}
 use Rattle.driver.proofs.crash.Tie as tie
 
 returns : tie.Need-returns
-returns c = crashed-not (c .before .before .before .args .written) (c .before .before .before .args .n) (c .before .before .before .args .working .now) (c .before .before .before .args .stable .now) (c .if1 .taken)
+returns c =
+    let args = c .before .before .before .args in
+    crashed-not (args .written) (args .n) (args .working .now) (args .stable .now) (c .if1 .taken)
 
 write-pages-requires : tie.Need-write-pages-requires
 write-pages-requires c κs = search needs
@@ -15,7 +17,11 @@ same-length : tie.Need-same-length
 same-length c = search needs
 
 returns-2 : tie.Need-returns-2
-returns-2 c = c .before .before .write-pages .ensures ∙ crashed-mix (c .before .before .before .before .before .before .before .args .written) (c .before .before .before .before .before .before .before .args .n) (c .before .before .before .before .before .before .before .args .working .now) (c .before .before .before .before .before .before .before .args .stable .now) (c .before .before .before .before .if1 .left)
+returns-2 c =
+    let args = c .before .before .before .before .before .before .before .args in
+    let if1 = c .before .before .before .before .if1 in
+    c .before .before .write-pages .ensures ∙ crashed-mix (args .written) (args .n) (args .working .now)
+    (args .stable .now) (if1 .left)
 
 pub crash-spec : {M : Type 1} → statement M
 crash-spec = tie.close (tie.spec returns write-pages-requires same-length returns-2)

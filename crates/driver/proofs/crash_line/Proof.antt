@@ -23,7 +23,11 @@ same-length-2 c = search needs
 
 returns : tie.Need-returns
 unfolding acted
-returns c = rw (c .opened .ensures) (ap (told openedReply) (c .before .before .before .before .before .before .«open» .ensures ∙ ap (opening (c .before .before .before .before .before .before .before .before .before .before .before .before .before .before .before .before .args .working .now)) (c .before .before .before .before .before .before .before .before .before .before .before .crash .ensures)))
+returns c =
+    let args = c .before .before .before .before .before .before .before .before .before .before .before .before .before .before .before .before .args in
+    let crash = c .before .before .before .before .before .before .before .before .before .before .before .crash in
+    rw (c .opened .ensures)
+    (ap (told openedReply) (c .before .before .before .before .before .before .«open» .ensures ∙ ap (opening (args .working .now)) (crash .ensures)))
 
 pub crash-line-spec : {M : Type 1} → statement M
 crash-line-spec =

@@ -19,7 +19,9 @@ same-length-2 c = search needs
 
 returns : tie.Need-returns
 unfolding acted
-returns c = rw (c .synced .ensures) (ap (told syncedReply) (c .before .before .before .before .before .before .sync .ensures))
+returns c =
+    let sync = c .before .before .before .before .before .before .sync in
+    rw (c .synced .ensures) (ap (told syncedReply) (sync .ensures))
 
 pub sync-line-spec : {M : Type 1} → statement M
 sync-line-spec =

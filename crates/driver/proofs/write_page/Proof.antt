@@ -39,10 +39,14 @@ same-length c = search needs
 
 returns : tie.Need-returns
 unfolding setPage pageAt
-returns c = rw (c .before .before .copy .ensures, add-sub-cancel-left, c .before .before .before .before .before .if1 .taken)
+returns c =
+    let if1 = c .before .before .before .before .before .if1 in
+    rw (c .before .before .copy .ensures, add-sub-cancel-left, if1 .taken)
 
 returns-2 : tie.Need-returns-2
-returns-2 c = rw (c .if1 .left) (sym (setPage-pageAt (c .before .before .before .args .stable .now) (c .before .before .before .args .i)))
+returns-2 c =
+    let args = c .before .before .before .args in
+    rw (c .if1 .left) (sym (setPage-pageAt (args .stable .now) (args .i)))
 
 pub write-page-spec : {M : Type 1} → statement M
 write-page-spec =

@@ -28,7 +28,9 @@ array-read-write-page : tie.Need-array-read-write-page Inv-loop μ-loop
 array-read-write-page c = omega arith
 
 write-page-requires : tie.Need-write-page-requires Inv-loop μ-loop
-write-page-requires c κs = (omega arith, c .before .before .before .before .before .pre .0, c .before .before .loop .inv .1)
+write-page-requires c κs =
+    let pre = c .before .before .before .before .before .pre in
+    (omega arith, pre .0, c .before .before .loop .inv .1)
 
 add-i : tie.Need-add-i Inv-loop μ-loop
 add-i c = omega arith
@@ -37,13 +39,29 @@ loop-less : tie.Need-loop-less Inv-loop μ-loop
 loop-less c = omega arith
 
 loop-again : tie.Need-loop-again Inv-loop μ-loop
-loop-again c = (omega arith, c .before .before .write-page .kept .1 .0 ∙ c .before .before .before .before .before .loop .inv .1, c .before .before .write-page .ensures ∙ ap (λ (t : List ℕ). setPage t (c .before .before .before .before .before .loop .i) (chosen (getD (c .before .before .before .before .before .before .before .before .args .t3) (c .before .before .before .before .before .loop .i) false) (pageAt (c .before .before .before .before .before .before .before .before .args .working .now) (c .before .before .before .before .before .loop .i)) (pageAt t (c .before .before .before .before .before .loop .i)))) (c .before .before .before .before .before .loop .inv .2) ∙ sym (mix-more benchPages (c .before .before .before .before .before .before .before .before .args .t3) (c .before .before .before .before .before .before .before .before .args .working .now) (c .before .before .before .before .before .before .before .before .args .stable .now) (c .before .before .before .before .before .loop .i) (c .before .before .before .before .before .before .before .before .pre .0) (c .before .before .before .before .before .before .before .before .pre .1) (omega arith)))
+loop-again c =
+    let args = c .before .before .before .before .before .before .before .before .args in
+    let pre = c .before .before .before .before .before .before .before .before .pre in
+    let loop = c .before .before .before .before .before .loop in
+    let write-page = c .before .before .write-page in (
+      omega arith,
+      write-page .kept .1 .0 ∙ loop .inv .1,
+      write-page .ensures ∙ ap
+          (λ (t : List ℕ). setPage t (loop .i) (chosen (getD (args .t3) (loop .i) false) (pageAt (args .working .now) (loop .i)) (pageAt t (loop .i))))
+          (loop .inv .2) ∙ sym
+          (mix-more benchPages (args .t3) (args .working .now) (args .stable .now) (loop .i) (pre .0) (pre .1) (omega arith)),
+    )
 
 same-length : tie.Need-same-length Inv-loop μ-loop
 same-length c = c .before .loop .inv .1 ∙ sym (c .before .before .before .before .pre .1)
 
 returns : tie.Need-returns Inv-loop μ-loop
-returns c = c .before .loop .inv .2 ∙ ap (λ (l : List Bool). mix l (c .before .before .before .before .args .working .now) (c .before .before .before .before .args .stable .now)) (take-all (c .before .loop .i) (c .before .before .before .before .args .t3) (omega (arith, c .before .before .before .before .pre .2)))
+returns c =
+    let args = c .before .before .before .before .args in
+    let pre = c .before .before .before .before .pre in
+    let loop = c .before .loop in
+    loop .inv .2 ∙ ap (λ (l : List Bool). mix l (args .working .now) (args .stable .now))
+    (take-all (loop .i) (args .t3) (omega (arith, pre .2)))
 
 pub write-pages-spec : {M : Type 1} → statement M
 write-pages-spec =

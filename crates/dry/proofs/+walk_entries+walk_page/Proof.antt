@@ -64,7 +64,10 @@ abbrev walk-page-in : ℕ → walk-page-lts.Claims
 walk-page-in t = (meets-place-reads.Asked, meets-place-reads.Learnt, source-at-reads.Asked, source-at-reads.Learnt, mark-by-reads.Asked, mark-by-reads.Learnt, head-at-reads.Asked, head-at-reads.Learnt, tally-leaf-reads.Asked, tally-leaf-reads.Learnt, run-in-reads.Asked, run-in-reads.Learnt, walk-entries-below t, walk-entries.Post)
 
 walk-entries-returns : (t : ℕ) → walk-entries-lts.Need-returns (walk-entries-in t) (walk-entries-at t) walk-entries.Post
-walk-entries-returns t c = run-none (dry (c .before .before .before .before .args .level) (c .before .before .before .before .args .n) (c .before .before .before .before .args .a) (c .before .before .before .before .args .parent) (c .before .before .before .before .args .top) (c .before .before .before .before .args .table .now)) (c .before .before .before .before .args .table .now) (c .before .before .before .before .args .high) (c .before .before .before .before .args .r) (sofar true (c .before .before .before .before .args .count .now) (c .before .before .before .before .args .marks .now)) (c .if1 .taken)
+walk-entries-returns t c =
+    let args = c .before .before .before .before .args in
+    run-none (dry (args .level) (args .n) (args .a) (args .parent) (args .top) (args .table .now)) (args .table .now)
+    (args .high) (args .r) (sofar true (args .count .now) (args .marks .now)) (c .if1 .taken)
 
 walk-entries-place-in-requires : (t : ℕ) → walk-entries-lts.Need-place-in-requires (walk-entries-in t) (walk-entries-at t) walk-entries.Post
 walk-entries-place-in-requires t c κs = search needs
@@ -76,28 +79,70 @@ walk-entries-same-length : (t : ℕ) → walk-entries-lts.Need-same-length (walk
 walk-entries-same-length t c = search needs
 
 walk-entries-returns-2 : (t : ℕ) → walk-entries-lts.Need-returns-2 (walk-entries-in t) (walk-entries-at t) walk-entries.Post
-walk-entries-returns-2 t c = run-breaks (dry (c .before .before .before .before .before .before .before .before .before .before .before .args .level) (c .before .before .before .before .before .before .before .before .before .before .before .args .n) (c .before .before .before .before .before .before .before .before .before .before .before .args .a) (c .before .before .before .before .before .before .before .before .before .before .before .args .parent) (c .before .before .before .before .before .before .before .before .before .before .before .args .top) (c .before .before .before .before .before .before .before .before .before .before .before .args .table .now)) (c .before .before .before .before .before .before .before .before .before .before .before .args .table .now) (c .before .before .before .before .before .before .before .before .before .before .before .args .high) (c .before .before .before .before .before .before .before .before .before .before .before .args .r) (sofar true (c .before .before .before .before .before .before .before .before .before .before .before .args .count .now) (c .before .before .before .before .before .before .before .before .before .before .before .args .marks .now)) (c .before .before .before .before .before .before .place-in .result) (c .before .before .before .walk-page .result) (c .before .before .before .walk-page .last .1 .1 .1 .1 .1 .1 .1 .0) (c .before .before .before .walk-page .last .1 .1 .1 .1 .1 .1 .1 .1 .0) (omega (arith, c .before .before .before .before .before .before .before .if1 .left)) (c .before .before .before .before .before .before .place-in .ensures) (c .before .before .before .walk-page .ensures) (dry-halts (c .before .before .before .before .before .before .before .before .before .before .before .args .n) (c .before .before .before .before .before .before .before .before .before .before .before .args .a) (c .before .before .before .before .before .before .before .before .before .before .before .args .parent) (c .before .before .before .before .before .before .before .before .before .before .before .args .top) (c .before .before .before .before .before .before .before .before .before .before .before .args .table .now) (c .before .before .before .before .before .before .before .before .before .before .before .args .level)) (not-true (c .before .before .before .walk-page .result) (c .if2 .taken))
+walk-entries-returns-2 t c =
+    let args = c .before .before .before .before .before .before .before .before .before .before .before .args in
+    let if1 = c .before .before .before .before .before .before .before .if1 in
+    let place-in = c .before .before .before .before .before .before .place-in in
+    let walk-page′ = c .before .before .before .walk-page in
+    run-breaks (dry (args .level) (args .n) (args .a) (args .parent) (args .top) (args .table .now))
+    (args .table .now) (args .high) (args .r) (sofar true (args .count .now) (args .marks .now)) (place-in .result)
+    (walk-page′ .result) (walk-page′ .last .1 .1 .1 .1 .1 .1 .1 .0) (walk-page′ .last .1 .1 .1 .1 .1 .1 .1 .1 .0)
+    (omega (arith, if1 .left)) (place-in .ensures) (walk-page′ .ensures)
+    (dry-halts (args .n) (args .a) (args .parent) (args .top) (args .table .now) (args .level))
+    (not-true (walk-page′ .result) (c .if2 .taken))
 
 walk-entries-rest-of-requires : (t : ℕ) → walk-entries-lts.Need-rest-of-requires (walk-entries-in t) (walk-entries-at t) walk-entries.Post
 walk-entries-rest-of-requires t c κs = search needs
 
 walk-entries-walk-entries-requires : (t : ℕ) → walk-entries-lts.Need-walk-entries-requires (walk-entries-in t) (walk-entries-at t) walk-entries.Post
-walk-entries-walk-entries-requires t c κs = (omega (arith, c .before .before .before .before .before .before .before .before .before .before .before .before .before .before .pre .0, ap (λ (x : Run). x .left) (c .before .before .rest-of .ensures), c .before .before .before .before .before .before .before .before .before .before .if1 .left), (c .before .before .before .before .before .before .before .before .before .before .before .before .before .before .pre .1 .0, lies-rest (c .before .before .before .before .before .before .before .before .before .before .before .before .before .before .args .n) (c .before .before .before .before .before .before .before .before .before .before .before .before .before .before .args .r) (c .before .before .rest-of .result) (c .before .before .rest-of .ensures) (omega (arith, c .before .before .before .before .before .before .before .before .before .before .if1 .left)) (c .before .before .before .before .before .before .before .before .before .before .before .before .before .before .pre .1 .1)))
+walk-entries-walk-entries-requires t c κs =
+    let args = c .before .before .before .before .before .before .before .before .before .before .before .before .before .before .args in
+    let pre = c .before .before .before .before .before .before .before .before .before .before .before .before .before .before .pre in
+    let if1 = c .before .before .before .before .before .before .before .before .before .before .if1 in
+    let rest-of = c .before .before .rest-of in (
+      omega (arith, pre .0, ap (λ (x : Run). x .left) (rest-of .ensures), if1 .left),
+      (
+        pre .1 .0,
+        lies-rest (args .n) (args .r) (rest-of .result) (rest-of .ensures) (omega (arith, if1 .left)) (pre .1 .1),
+      ),
+    )
 
 walk-entries-same-length-2 : (t : ℕ) → walk-entries-lts.Need-same-length-2 (walk-entries-in t) (walk-entries-at t) walk-entries.Post
 walk-entries-same-length-2 t c = search needs
 
 walk-entries-returns-3 : (t : ℕ) → walk-entries-lts.Need-returns-3 (walk-entries-in t) (walk-entries-at t) walk-entries.Post
-walk-entries-returns-3 t c = run-step (dry (c .before .before .before .before .before .before .before .before .before .before .before .before .before .before .before .before .before .args .level) (c .before .before .before .before .before .before .before .before .before .before .before .before .before .before .before .before .before .args .n) (c .before .before .before .before .before .before .before .before .before .before .before .before .before .before .before .before .before .args .a) (c .before .before .before .before .before .before .before .before .before .before .before .before .before .before .before .before .before .args .parent) (c .before .before .before .before .before .before .before .before .before .before .before .before .before .before .before .before .before .args .top) (c .before .before .before .before .before .before .before .before .before .before .before .before .before .before .before .before .before .args .table .now)) (c .before .before .before .before .before .before .before .before .before .before .before .before .before .before .before .before .before .args .table .now) (c .before .before .before .before .before .before .before .before .before .before .before .before .before .before .before .before .before .args .high) (c .before .before .before .before .before .before .before .before .before .before .before .before .before .before .before .before .before .args .r) (sofar true (c .before .before .before .before .before .before .before .before .before .before .before .before .before .before .before .before .before .args .count .now) (c .before .before .before .before .before .before .before .before .before .before .before .before .before .before .before .before .before .args .marks .now)) (c .before .before .before .before .before .before .before .before .before .before .before .before .place-in .result) (c .before .before .before .before .before .before .before .before .before .walk-page .result) (c .before .before .before .before .before .before .before .before .before .walk-page .last .1 .1 .1 .1 .1 .1 .1 .0) (c .before .before .before .before .before .before .before .before .before .walk-page .last .1 .1 .1 .1 .1 .1 .1 .1 .0) (omega (arith, c .before .before .before .before .before .before .before .before .before .before .before .before .before .if1 .left)) (c .before .before .before .before .before .before .before .before .before .before .before .before .place-in .ensures) (c .before .before .before .before .before .before .before .before .before .walk-page .ensures) (c .before .before .before .before .before .rest-of .result) (sofar (c .before .before .walk-entries .result) (c .before .before .walk-entries .last .1 .1 .1 .1 .1 .1 .1 .1 .0) (c .before .before .walk-entries .last .1 .1 .1 .1 .1 .1 .1 .1 .1 .0)) (not-false (c .before .before .before .before .before .before .before .before .before .walk-page .result) (c .before .before .before .before .before .before .if2 .left)) (c .before .before .before .before .before .rest-of .ensures) (c .before .before .walk-entries .ensures)
+walk-entries-returns-3 t c =
+    let args = c .before .before .before .before .before .before .before .before .before .before .before .before .before .before .before .before .before .args in
+    let if1 = c .before .before .before .before .before .before .before .before .before .before .before .before .before .if1 in
+    let place-in = c .before .before .before .before .before .before .before .before .before .before .before .before .place-in in
+    let walk-page′ = c .before .before .before .before .before .before .before .before .before .walk-page in
+    let if2 = c .before .before .before .before .before .before .if2 in
+    let rest-of = c .before .before .before .before .before .rest-of in
+    let walk-entries′ = c .before .before .walk-entries in
+    run-step (dry (args .level) (args .n) (args .a) (args .parent) (args .top) (args .table .now)) (args .table .now)
+    (args .high) (args .r) (sofar true (args .count .now) (args .marks .now)) (place-in .result) (walk-page′ .result)
+    (walk-page′ .last .1 .1 .1 .1 .1 .1 .1 .0) (walk-page′ .last .1 .1 .1 .1 .1 .1 .1 .1 .0)
+    (omega (arith, if1 .left)) (place-in .ensures) (walk-page′ .ensures) (rest-of .result)
+    (sofar (walk-entries′ .result) (walk-entries′ .last .1 .1 .1 .1 .1 .1 .1 .1 .0) (walk-entries′ .last .1 .1 .1 .1 .1 .1 .1 .1 .1 .0))
+    (not-false (walk-page′ .result) (if2 .left)) (rest-of .ensures) (walk-entries′ .ensures)
 
 walk-page-returns : (t : ℕ) → walk-page-lts.Need-returns (walk-page-in t) (walk-page-at t) walk-page.Post
-walk-page-returns t c = step-deep (c .before .before .before .args .n) (c .before .before .before .args .a) (c .before .before .before .args .parent) (c .before .before .before .args .top) (c .before .before .before .args .table .now) (c .before .before .before .args .e) (sofar true (c .before .before .before .args .count .now) (c .before .before .before .args .marks .now)) (c .before .before .before .args .level) (c .if1 .taken)
+walk-page-returns t c =
+    let args = c .before .before .before .args in
+    step-deep (args .n) (args .a) (args .parent) (args .top) (args .table .now) (args .e)
+    (sofar true (args .count .now) (args .marks .now)) (args .level) (c .if1 .taken)
 
 walk-page-meets-place-requires : (t : ℕ) → walk-page-lts.Need-meets-place-requires (walk-page-in t) (walk-page-at t) walk-page.Post
 walk-page-meets-place-requires t c κs = search needs
 
 walk-page-returns-2 : (t : ℕ) → walk-page-lts.Need-returns-2 (walk-page-in t) (walk-page-at t) walk-page.Post
-walk-page-returns-2 t c = step-passes (c .before .before .before .before .before .before .args .n) (c .before .before .before .before .before .before .args .a) (c .before .before .before .before .before .before .args .parent) (c .before .before .before .before .before .before .args .top) (c .before .before .before .before .before .before .args .table .now) (c .before .before .before .before .before .before .args .e) (sofar true (c .before .before .before .before .before .before .args .count .now) (c .before .before .before .before .before .before .args .marks .now)) (c .before .before .before .before .before .before .args .level) (omega (arith, c .before .before .before .if1 .left)) (sym (c .before .meets-place .ensures) ∙ not-true (c .before .meets-place .result) (c .if2 .taken))
+walk-page-returns-2 t c =
+    let args = c .before .before .before .before .before .before .args in
+    let meets-place = c .before .meets-place in
+    step-passes (args .n) (args .a) (args .parent) (args .top) (args .table .now) (args .e)
+    (sofar true (args .count .now) (args .marks .now)) (args .level)
+    (omega (arith, c .before .before .before .if1 .left))
+    (sym (meets-place .ensures) ∙ not-true (meets-place .result) (c .if2 .taken))
 
 walk-page-source-at-requires : (t : ℕ) → walk-page-lts.Need-source-at-requires (walk-page-in t) (walk-page-at t) walk-page.Post
 walk-page-source-at-requires t c κs = search needs
@@ -112,7 +157,15 @@ walk-page-same-length : (t : ℕ) → walk-page-lts.Need-same-length (walk-page-
 walk-page-same-length t c = search needs
 
 walk-page-returns-3 : (t : ℕ) → walk-page-lts.Need-returns-3 (walk-page-in t) (walk-page-at t) walk-page.Post
-walk-page-returns-3 t c = step-damaged (c .before .before .before .before .before .before .before .before .before .before .args .n) (c .before .before .before .before .before .before .before .before .before .before .args .a) (c .before .before .before .before .before .before .before .before .before .before .args .parent) (c .before .before .before .before .before .before .before .before .before .before .args .top) (c .before .before .before .before .before .before .before .before .before .before .args .table .now) (c .before .before .before .before .before .before .before .before .before .before .args .e) (sofar true (c .before .before .before .before .before .before .before .before .before .before .args .count .now) (c .before .before .before .before .before .before .before .before .before .before .args .marks .now)) (c .before .before .before .before .before .before .before .before .before .before .args .level) (omega (arith, c .before .before .before .before .before .before .before .if1 .left)) (sym (c .before .before .before .before .before .meets-place .ensures) ∙ not-false (c .before .before .before .before .before .meets-place .result) (c .before .before .before .before .if2 .left)) (sym (c .before .before .source-at .ensures) ∙ c .enum-told .given .1)
+walk-page-returns-3 t c =
+    let args = c .before .before .before .before .before .before .before .before .before .before .args in
+    let if1 = c .before .before .before .before .before .before .before .if1 in
+    let meets-place = c .before .before .before .before .before .meets-place in
+    let if2 = c .before .before .before .before .if2 in
+    step-damaged (args .n) (args .a) (args .parent) (args .top) (args .table .now) (args .e)
+    (sofar true (args .count .now) (args .marks .now)) (args .level) (omega (arith, if1 .left))
+    (sym (meets-place .ensures) ∙ not-false (meets-place .result) (if2 .left))
+    (sym (c .before .before .source-at .ensures) ∙ c .enum-told .given .1)
 
 walk-page-mark-by-requires : (t : ℕ) → walk-page-lts.Need-mark-by-requires (walk-page-in t) (walk-page-at t) walk-page.Post
 walk-page-mark-by-requires t c κs = search needs
@@ -121,31 +174,95 @@ walk-page-cast-i : (t : ℕ) → walk-page-lts.Need-cast-i (walk-page-in t) (wal
 walk-page-cast-i t c = search needs
 
 walk-page-head-at-requires : (t : ℕ) → walk-page-lts.Need-head-at-requires (walk-page-in t) (walk-page-at t) walk-page.Post
-walk-page-head-at-requires t c κs = source-inside (c .before .before .before .before .before .before .before .before .before .before .before .before .before .before .before .args .n) (c .before .before .before .before .before .before .before .before .before .before .before .before .before .before .before .args .table .now) (c .before .before .before .before .before .before .before .before .before .before .before .before .before .before .before .pre .1) (c .before .before .before .before .before .page .given .0 .0) (sourced (c .before .before .before .before .before .before .before .before .before .before .before .before .before .before .before .args .n) (c .before .before .before .before .before .before .before .before .before .before .before .before .before .before .before .args .table .now) (c .before .before .before .before .before .before .before .before .before .before .before .before .before .before .before .pre .1) (c .before .before .before .before .before .before .before .before .before .before .before .before .before .before .before .args .parent ∷ c .before .before .before .before .before .before .before .before .before .before .before .before .before .before .before .args .top ∷ []) (c .before .before .before .before .before .before .before .before .before .before .before .before .before .before .before .args .marks .now) (c .before .before .before .before .before .before .before .before .before .before .before .before .before .before .before .args .e) (c .before .before .before .before .before .page .given .0 .0) (sym (c .before .before .before .before .before .before .before .source-at .ensures) ∙ c .before .before .before .before .before .page .given .1))
+walk-page-head-at-requires t c κs =
+    let args = c .before .before .before .before .before .before .before .before .before .before .before .before .before .before .before .args in
+    let pre = c .before .before .before .before .before .before .before .before .before .before .before .before .before .before .before .pre in
+    let source-at = c .before .before .before .before .before .before .before .source-at in
+    let page = c .before .before .before .before .before .page in
+    source-inside (args .n) (args .table .now) (pre .1) (page .given .0 .0)
+    (sourced (args .n) (args .table .now) (pre .1) (args .parent ∷ args .top ∷ []) (args .marks .now) (args .e) (page .given .0 .0) (sym (source-at .ensures) ∙ page .given .1))
 
 walk-page-tally-leaf-requires : (t : ℕ) → walk-page-lts.Need-tally-leaf-requires (walk-page-in t) (walk-page-at t) walk-page.Post
-walk-page-tally-leaf-requires t c κs = source-leaf (c .before .before .before .before .before .before .before .before .before .before .before .before .before .before .before .before .before .before .args .n) (c .before .before .before .before .before .before .before .before .before .before .before .before .before .before .before .before .before .before .args .table .now) (c .before .before .before .before .before .before .before .before .before .before .before .before .before .before .before .before .before .before .pre .1) (c .before .before .before .before .before .before .before .before .page .given .0 .0) (sourced (c .before .before .before .before .before .before .before .before .before .before .before .before .before .before .before .before .before .before .args .n) (c .before .before .before .before .before .before .before .before .before .before .before .before .before .before .before .before .before .before .args .table .now) (c .before .before .before .before .before .before .before .before .before .before .before .before .before .before .before .before .before .before .pre .1) (c .before .before .before .before .before .before .before .before .before .before .before .before .before .before .before .before .before .before .args .parent ∷ c .before .before .before .before .before .before .before .before .before .before .before .before .before .before .before .before .before .before .args .top ∷ []) (c .before .before .before .before .before .before .before .before .before .before .before .before .before .before .before .before .before .before .args .marks .now) (c .before .before .before .before .before .before .before .before .before .before .before .before .before .before .before .before .before .before .args .e) (c .before .before .before .before .before .before .before .before .page .given .0 .0) (sym (c .before .before .before .before .before .before .before .before .before .before .source-at .ensures) ∙ c .before .before .before .before .before .before .before .before .page .given .1)) (c .before .before .head-at .result) (c .before .before .head-at .ensures) (c .if3 .taken)
+walk-page-tally-leaf-requires t c κs =
+    let args = c .before .before .before .before .before .before .before .before .before .before .before .before .before .before .before .before .before .before .args in
+    let pre = c .before .before .before .before .before .before .before .before .before .before .before .before .before .before .before .before .before .before .pre in
+    let source-at = c .before .before .before .before .before .before .before .before .before .before .source-at in
+    let page = c .before .before .before .before .before .before .before .before .page in
+    let head-at = c .before .before .head-at in
+    source-leaf (args .n) (args .table .now) (pre .1) (page .given .0 .0)
+    (sourced (args .n) (args .table .now) (pre .1) (args .parent ∷ args .top ∷ []) (args .marks .now) (args .e) (page .given .0 .0) (sym (source-at .ensures) ∙ page .given .1))
+    (head-at .result) (head-at .ensures) (c .if3 .taken)
 
 walk-page-same-length-2 : (t : ℕ) → walk-page-lts.Need-same-length-2 (walk-page-in t) (walk-page-at t) walk-page.Post
 walk-page-same-length-2 t c = search needs
 
 walk-page-returns-4 : (t : ℕ) → walk-page-lts.Need-returns-4 (walk-page-in t) (walk-page-at t) walk-page.Post
-walk-page-returns-4 t c = leaf-ends (c .before .before .before .before .before .before .before .before .before .before .before .before .before .before .before .before .before .before .before .args .n) (c .before .before .before .before .before .before .before .before .before .before .before .before .before .before .before .before .before .before .before .args .table .now) (c .before .before .before .before .before .before .before .before .before .before .before .before .before .before .before .before .before .before .before .pre .1) (c .before .before .before .before .before .before .before .before .before .before .before .before .before .before .before .before .before .before .before .args .a) (c .before .before .before .before .before .before .before .before .before .before .before .before .before .before .before .before .before .before .before .args .parent) (c .before .before .before .before .before .before .before .before .before .before .before .before .before .before .before .before .before .before .before .args .top) (c .before .before .before .before .before .before .before .before .before .before .before .before .before .before .before .before .before .before .before .args .e) (c .before .before .before .before .before .before .before .before .before .before .before .before .before .before .before .before .before .before .before .args .count .now) (c .before .before .before .before .before .before .before .before .before .before .before .before .before .before .before .before .before .before .before .args .marks .now) (c .before .before .before .before .before .before .before .before .before .before .before .before .before .before .before .before .before .before .before .args .level) (c .before .before .before .before .before .before .before .before .before .page .given .0 .0) (c .before .before .before .before .before .before .mark-by .last .0) (c .before .before .before .before .before .before .before .before .before .before .before .before .before .before .before .before .if1 .left) (sym (c .before .before .before .before .before .before .before .before .before .before .before .before .before .before .meets-place .ensures) ∙ not-false (c .before .before .before .before .before .before .before .before .before .before .before .before .before .before .meets-place .result) (c .before .before .before .before .before .before .before .before .before .before .before .before .before .if2 .left)) (sym (c .before .before .before .before .before .before .before .before .before .before .before .source-at .ensures) ∙ c .before .before .before .before .before .before .before .before .before .page .given .1) (c .before .before .before .before .before .before .mark-by .ensures) (c .before .before .before .head-at .result) (c .before .before .before .head-at .ensures) (c .tally-leaf .result) (c .before .if3 .taken) (c .tally-leaf .ensures)
+walk-page-returns-4 t c =
+    let args = c .before .before .before .before .before .before .before .before .before .before .before .before .before .before .before .before .before .before .before .args in
+    let pre = c .before .before .before .before .before .before .before .before .before .before .before .before .before .before .before .before .before .before .before .pre in
+    let if1 = c .before .before .before .before .before .before .before .before .before .before .before .before .before .before .before .before .if1 in
+    let meets-place = c .before .before .before .before .before .before .before .before .before .before .before .before .before .before .meets-place in
+    let if2 = c .before .before .before .before .before .before .before .before .before .before .before .before .before .if2 in
+    let source-at = c .before .before .before .before .before .before .before .before .before .before .before .source-at in
+    let page = c .before .before .before .before .before .before .before .before .before .page in
+    let mark-by = c .before .before .before .before .before .before .mark-by in
+    let head-at = c .before .before .before .head-at in
+    let tally-leaf = c .tally-leaf in
+    leaf-ends (args .n) (args .table .now) (pre .1) (args .a) (args .parent) (args .top) (args .e) (args .count .now)
+    (args .marks .now) (args .level) (page .given .0 .0) (mark-by .last .0) (if1 .left)
+    (sym (meets-place .ensures) ∙ not-false (meets-place .result) (if2 .left))
+    (sym (source-at .ensures) ∙ page .given .1) (mark-by .ensures) (head-at .result) (head-at .ensures)
+    (tally-leaf .result) (c .before .if3 .taken) (tally-leaf .ensures)
 
 walk-page-run-in-requires : (t : ℕ) → walk-page-lts.Need-run-in-requires (walk-page-in t) (walk-page-at t) walk-page.Post
-walk-page-run-in-requires t c κs = source-runs (c .before .before .before .before .before .before .before .before .before .before .before .before .before .before .before .before .before .before .args .n) (c .before .before .before .before .before .before .before .before .before .before .before .before .before .before .before .before .before .before .args .table .now) (c .before .before .before .before .before .before .before .before .before .before .before .before .before .before .before .before .before .before .pre .1) (c .before .before .before .before .before .before .before .before .page .given .0 .0) (sourced (c .before .before .before .before .before .before .before .before .before .before .before .before .before .before .before .before .before .before .args .n) (c .before .before .before .before .before .before .before .before .before .before .before .before .before .before .before .before .before .before .args .table .now) (c .before .before .before .before .before .before .before .before .before .before .before .before .before .before .before .before .before .before .pre .1) (c .before .before .before .before .before .before .before .before .before .before .before .before .before .before .before .before .before .before .args .parent ∷ c .before .before .before .before .before .before .before .before .before .before .before .before .before .before .before .before .before .before .args .top ∷ []) (c .before .before .before .before .before .before .before .before .before .before .before .before .before .before .before .before .before .before .args .marks .now) (c .before .before .before .before .before .before .before .before .before .before .before .before .before .before .before .before .before .before .args .e) (c .before .before .before .before .before .before .before .before .page .given .0 .0) (sym (c .before .before .before .before .before .before .before .before .before .before .source-at .ensures) ∙ c .before .before .before .before .before .before .before .before .page .given .1))
+walk-page-run-in-requires t c κs =
+    let args = c .before .before .before .before .before .before .before .before .before .before .before .before .before .before .before .before .before .before .args in
+    let pre = c .before .before .before .before .before .before .before .before .before .before .before .before .before .before .before .before .before .before .pre in
+    let source-at = c .before .before .before .before .before .before .before .before .before .before .source-at in
+    let page = c .before .before .before .before .before .before .before .before .page in
+    source-runs (args .n) (args .table .now) (pre .1) (page .given .0 .0)
+    (sourced (args .n) (args .table .now) (pre .1) (args .parent ∷ args .top ∷ []) (args .marks .now) (args .e) (page .given .0 .0) (sym (source-at .ensures) ∙ page .given .1))
 
 walk-page-sub-below : (t : ℕ) → walk-page-lts.Need-sub-below (walk-page-in t) (walk-page-at t) walk-page.Post
 walk-page-sub-below t c = search needs
 
 walk-page-walk-entries-requires : (t : ℕ) → walk-page-lts.Need-walk-entries-requires (walk-page-in t) (walk-page-at t) walk-page.Post
-walk-page-walk-entries-requires t c κs = let w = source-lies (c .before .before .before .before .before .before .before .before .before .before .before .before .before .before .before .before .before .before .before .before .before .args .n) (c .before .before .before .before .before .before .before .before .before .before .before .before .before .before .before .before .before .before .before .before .before .args .table .now) (c .before .before .before .before .before .before .before .before .before .before .before .before .before .before .before .before .before .before .before .before .before .pre .1) (c .before .before .before .before .before .before .before .before .before .before .before .page .given .0 .0) (sourced (c .before .before .before .before .before .before .before .before .before .before .before .before .before .before .before .before .before .before .before .before .before .args .n) (c .before .before .before .before .before .before .before .before .before .before .before .before .before .before .before .before .before .before .before .before .before .args .table .now) (c .before .before .before .before .before .before .before .before .before .before .before .before .before .before .before .before .before .before .before .before .before .pre .1) (c .before .before .before .before .before .before .before .before .before .before .before .before .before .before .before .before .before .before .before .before .before .args .parent ∷ c .before .before .before .before .before .before .before .before .before .before .before .before .before .before .before .before .before .before .before .before .before .args .top ∷ []) (c .before .before .before .before .before .before .before .before .before .before .before .before .before .before .before .before .before .before .before .before .before .args .marks .now) (c .before .before .before .before .before .before .before .before .before .before .before .before .before .before .before .before .before .before .before .before .before .args .e) (c .before .before .before .before .before .before .before .before .before .before .before .page .given .0 .0) (sym (c .before .before .before .before .before .before .before .before .before .before .before .before .before .source-at .ensures) ∙ c .before .before .before .before .before .before .before .before .before .before .before .page .given .1)) (c .before .before .before .before .before .before .before .before .before .before .before .before .before .before .before .before .before .before .before .before .before .args .e .low) (c .before .before .before .before .before .before .before .before .before .before .before .before .before .before .before .before .before .before .before .before .before .args .e .high) (c .before .before .run-in .result) (c .before .before .run-in .ensures) in (omega (arith, c .before .before .before .before .before .before .before .before .before .before .before .before .before .before .before .before .before .before .before .before .before .pre .0, w .end, c .before .before .before .before .before .before .before .before .before .before .before .before .before .before .before .before .before .before .if1 .left), (c .before .before .before .before .before .before .before .before .before .before .before .before .before .before .before .before .before .before .before .before .before .pre .1, w))
+walk-page-walk-entries-requires t c κs =
+    let args = c .before .before .before .before .before .before .before .before .before .before .before .before .before .before .before .before .before .before .before .before .before .args in
+    let pre = c .before .before .before .before .before .before .before .before .before .before .before .before .before .before .before .before .before .before .before .before .before .pre in
+    let if1 = c .before .before .before .before .before .before .before .before .before .before .before .before .before .before .before .before .before .before .if1 in
+    let source-at = c .before .before .before .before .before .before .before .before .before .before .before .before .before .source-at in
+    let page = c .before .before .before .before .before .before .before .before .before .before .before .page in
+    let run-in = c .before .before .run-in in
+    let w = source-lies (args .n) (args .table .now) (pre .1) (page .given .0 .0)
+    (sourced (args .n) (args .table .now) (pre .1) (args .parent ∷ args .top ∷ []) (args .marks .now) (args .e) (page .given .0 .0) (sym (source-at .ensures) ∙ page .given .1))
+    (args .e .low) (args .e .high) (run-in .result) (run-in .ensures) in
+    (omega (arith, pre .0, w .end, if1 .left), (pre .1, w))
 
 walk-page-same-length-3 : (t : ℕ) → walk-page-lts.Need-same-length-3 (walk-page-in t) (walk-page-at t) walk-page.Post
 walk-page-same-length-3 t c = search needs
 
 walk-page-returns-5 : (t : ℕ) → walk-page-lts.Need-returns-5 (walk-page-in t) (walk-page-at t) walk-page.Post
-walk-page-returns-5 t c = page-goes (c .before .before .before .before .before .before .before .before .before .before .before .before .before .before .before .before .before .before .before .before .before .before .before .before .args .n) (c .before .before .before .before .before .before .before .before .before .before .before .before .before .before .before .before .before .before .before .before .before .before .before .before .args .table .now) (c .before .before .before .before .before .before .before .before .before .before .before .before .before .before .before .before .before .before .before .before .before .before .before .before .pre .1) (c .before .before .before .before .before .before .before .before .before .before .before .before .before .before .before .before .before .before .before .before .before .before .before .before .args .a) (c .before .before .before .before .before .before .before .before .before .before .before .before .before .before .before .before .before .before .before .before .before .before .before .before .args .parent) (c .before .before .before .before .before .before .before .before .before .before .before .before .before .before .before .before .before .before .before .before .before .before .before .before .args .top) (c .before .before .before .before .before .before .before .before .before .before .before .before .before .before .before .before .before .before .before .before .before .before .before .before .args .e) (c .before .before .before .before .before .before .before .before .before .before .before .before .before .before .before .before .before .before .before .before .before .before .before .before .args .count .now) (c .before .before .before .before .before .before .before .before .before .before .before .before .before .before .before .before .before .before .before .before .before .before .before .before .args .marks .now) (c .before .before .before .before .before .before .before .before .before .before .before .before .before .before .before .before .before .before .before .before .before .before .before .before .args .level) (c .before .before .before .before .before .before .before .before .before .before .before .before .before .before .page .given .0 .0) (c .before .before .before .before .before .before .before .before .before .before .before .mark-by .last .0) (c .before .before .before .before .before .before .before .before .before .before .before .before .before .before .before .before .before .before .before .before .before .if1 .left) (sym (c .before .before .before .before .before .before .before .before .before .before .before .before .before .before .before .before .before .before .before .meets-place .ensures) ∙ not-false (c .before .before .before .before .before .before .before .before .before .before .before .before .before .before .before .before .before .before .before .meets-place .result) (c .before .before .before .before .before .before .before .before .before .before .before .before .before .before .before .before .before .before .if2 .left)) (sym (c .before .before .before .before .before .before .before .before .before .before .before .before .before .before .before .before .source-at .ensures) ∙ c .before .before .before .before .before .before .before .before .before .before .before .before .before .before .page .given .1) (c .before .before .before .before .before .before .before .before .before .before .before .mark-by .ensures) (c .before .before .before .before .before .before .before .before .head-at .result) (c .before .before .before .before .before .before .before .before .head-at .ensures) (c .before .before .before .before .before .run-in .result) (sofar (c .before .before .walk-entries .result) (c .before .before .walk-entries .last .1 .1 .1 .1 .1 .1 .1 .1 .0) (c .before .before .walk-entries .last .1 .1 .1 .1 .1 .1 .1 .1 .1 .0)) (c .before .before .before .before .before .before .if3 .left) (c .before .before .before .before .before .run-in .ensures) (c .before .before .walk-entries .ensures)
+walk-page-returns-5 t c =
+    let args = c .before .before .before .before .before .before .before .before .before .before .before .before .before .before .before .before .before .before .before .before .before .before .before .before .args in
+    let pre = c .before .before .before .before .before .before .before .before .before .before .before .before .before .before .before .before .before .before .before .before .before .before .before .before .pre in
+    let if1 = c .before .before .before .before .before .before .before .before .before .before .before .before .before .before .before .before .before .before .before .before .before .if1 in
+    let meets-place = c .before .before .before .before .before .before .before .before .before .before .before .before .before .before .before .before .before .before .before .meets-place in
+    let if2 = c .before .before .before .before .before .before .before .before .before .before .before .before .before .before .before .before .before .before .if2 in
+    let source-at = c .before .before .before .before .before .before .before .before .before .before .before .before .before .before .before .before .source-at in
+    let page = c .before .before .before .before .before .before .before .before .before .before .before .before .before .before .page in
+    let mark-by = c .before .before .before .before .before .before .before .before .before .before .before .mark-by in
+    let head-at = c .before .before .before .before .before .before .before .before .head-at in
+    let if3 = c .before .before .before .before .before .before .if3 in
+    let run-in = c .before .before .before .before .before .run-in in
+    let walk-entries′ = c .before .before .walk-entries in
+    page-goes (args .n) (args .table .now) (pre .1) (args .a) (args .parent) (args .top) (args .e) (args .count .now)
+    (args .marks .now) (args .level) (page .given .0 .0) (mark-by .last .0) (if1 .left)
+    (sym (meets-place .ensures) ∙ not-false (meets-place .result) (if2 .left))
+    (sym (source-at .ensures) ∙ page .given .1) (mark-by .ensures) (head-at .result) (head-at .ensures)
+    (run-in .result)
+    (sofar (walk-entries′ .result) (walk-entries′ .last .1 .1 .1 .1 .1 .1 .1 .1 .0) (walk-entries′ .last .1 .1 .1 .1 .1 .1 .1 .1 .1 .0))
+    (if3 .left) (run-in .ensures) (walk-entries′ .ensures)
 
 pub +walk-entries+walk-page-spec : {M : Type 1} → statement M
 +walk-entries+walk-page-spec = close μ-walk-entries μ-walk-page (λ t. walk-entries-lts.spec (walk-entries-in t)

@@ -8,7 +8,10 @@ use Rattle.dry.proofs.dry_of.Statement.{statement}
 use Rattle.dry.proofs.dry_of.Tie as tie
 
 root-place-requires : tie.Need-root-place-requires
-root-place-requires c κs = has-zero (c .before .args .n) (c .before .args .table .now) (c .before .pre .0) (c .before .pre .1)
+root-place-requires c κs =
+    let args = c .before .args in
+    let pre = c .before .pre in
+    has-zero (args .n) (args .table .now) (pre .0) (pre .1)
 
 slice-aggregate-walk-page : tie.Need-slice-aggregate-walk-page
 slice-aggregate-walk-page c = search needs
@@ -18,7 +21,11 @@ walk-page-requires c κs = search needs
 
 returns : tie.Need-returns
 unfolding untouched dryOf
-returns c = c .before .walk-page .ensures ∙ ap (λ (e : Place). dry 3 (c .before .before .before .before .before .before .args .n) (c .before .before .before .before .before .before .args .a) 0 0 (c .before .before .before .before .before .before .args .table .now) e untouched) (c .before .before .before .before .root-place .ensures)
+returns c =
+    let args = c .before .before .before .before .before .before .args in
+    let root-place = c .before .before .before .before .root-place in
+    c .before .walk-page .ensures ∙ ap (λ (e : Place). dry 3 (args .n) (args .a) 0 0 (args .table .now) e untouched)
+    (root-place .ensures)
 
 pub dry-of-spec : {M : Type 1} → statement M
 dry-of-spec =

@@ -14,14 +14,20 @@ marked-requires c κs = search needs
 
 returns : tie.Need-returns
 unfolding marked
-returns c = helps-marked (c .before .before .before .before .before .args .n) (c .before .before .before .before .before .args .table .now) (c .before .before .before .before .before .args .marks .now) (c .before .before .before .before .before .args .e) (sym (c .before .marked .ensures) ∙ c .if1 .taken)
+returns c =
+    let args = c .before .before .before .before .before .args in
+    helps-marked (args .n) (args .table .now) (args .marks .now) (args .e)
+    (sym (c .before .marked .ensures) ∙ c .if1 .taken)
 
 mendable-at-requires : tie.Need-mendable-at-requires
 mendable-at-requires c κs = search needs
 
 returns-2 : tie.Need-returns-2
 unfolding marked
-returns-2 c = c .mendable-at .ensures ∙ helps-lies (c .before .before .before .before .before .before .args .n) (c .before .before .before .before .before .before .args .table .now) (c .before .before .before .before .before .before .args .marks .now) (c .before .before .before .before .before .before .args .e) (sym (c .before .before .marked .ensures) ∙ c .before .if1 .left)
+returns-2 c =
+    let args = c .before .before .before .before .before .before .args in
+    c .mendable-at .ensures ∙ helps-lies (args .n) (args .table .now) (args .marks .now) (args .e)
+    (sym (c .before .before .marked .ensures) ∙ c .before .if1 .left)
 
 pub helps-child-spec : {M : Type 1} → statement M
 helps-child-spec =

@@ -14,14 +14,20 @@ marked-requires c κs = search needs
 
 returns : tie.Need-returns
 unfolding marked
-returns c = keeps-marked (c .before .before .before .before .before .args .n) (c .before .before .before .before .before .args .table .now) (c .before .before .before .before .before .args .marks .now) (c .before .before .before .before .before .args .e) (sym (c .before .marked .ensures) ∙ c .if1 .taken)
+returns c =
+    let args = c .before .before .before .before .before .args in
+    keeps-marked (args .n) (args .table .now) (args .marks .now) (args .e)
+    (sym (c .before .marked .ensures) ∙ c .if1 .taken)
 
 fits-at-requires : tie.Need-fits-at-requires
 fits-at-requires c κs = search needs
 
 returns-2 : tie.Need-returns-2
 unfolding marked
-returns-2 c = c .fits-at .ensures ∙ keeps-lies (c .before .before .before .before .before .before .args .n) (c .before .before .before .before .before .before .args .table .now) (c .before .before .before .before .before .before .args .marks .now) (c .before .before .before .before .before .before .args .e) (sym (c .before .before .marked .ensures) ∙ c .before .if1 .left)
+returns-2 c =
+    let args = c .before .before .before .before .before .before .args in
+    c .fits-at .ensures ∙ keeps-lies (args .n) (args .table .now) (args .marks .now) (args .e)
+    (sym (c .before .before .marked .ensures) ∙ c .before .if1 .left)
 
 pub keeps-child-spec : {M : Type 1} → statement M
 keeps-child-spec =

@@ -5,10 +5,14 @@ use Rattle.dry.proofs.lies_in.Statement.{statement}
 use Rattle.dry.proofs.lies_in.Tie as tie
 
 returns : tie.Need-returns
-returns c = lies-below (c .before .before .args .head) (c .before .before .args .low) (c .before .before .args .high) (omega (arith, c .if1 .taken))
+returns c =
+    let args = c .before .before .args in
+    lies-below (args .head) (args .low) (args .high) (omega (arith, c .if1 .taken))
 
 returns-2 : tie.Need-returns-2
-returns-2 c = lies-up-to (c .before .before .before .args .head) (c .before .before .before .args .low) (c .before .before .before .args .high) (omega (arith, c .before .if1 .left))
+returns-2 c =
+    let args = c .before .before .before .args in
+    lies-up-to (args .head) (args .low) (args .high) (omega (arith, c .before .if1 .left))
 
 pub lies-in-spec : {M : Type 1} → statement M
 lies-in-spec = tie.close (tie.spec returns returns-2)

@@ -9,22 +9,42 @@ stands-above-requires : tie.Need-stands-above-requires
 stands-above-requires c κs = search needs
 
 returns : tie.Need-returns
-returns c = source-above (c .before .before .before .before .args .n) _ (c .before .before .before .before .args .table .now) (c .before .before .before .before .args .marks .now) (c .before .before .before .before .args .e) (sym (c .before .stands-above .ensures) ∙ c .if1 .taken)
+returns c =
+    let args = c .before .before .before .before .args in
+    source-above (args .n) _ (args .table .now) (args .marks .now) (args .e)
+    (sym (c .before .stands-above .ensures) ∙ c .if1 .taken)
 
 keeps-child-requires : tie.Need-keeps-child-requires
 keeps-child-requires c κs = search needs
 
 returns-2 : tie.Need-returns-2
-returns-2 c = source-child (c .before .before .before .before .before .before .args .n) _ (c .before .before .before .before .before .before .args .table .now) (c .before .before .before .before .before .before .args .marks .now) (c .before .before .before .before .before .before .args .e) (sym (c .before .before .before .stands-above .ensures) ∙ c .before .before .if1 .left) (sym (c .before .keeps-child .ensures) ∙ c .if2 .taken)
+returns-2 c =
+    let args = c .before .before .before .before .before .before .args in
+    source-child (args .n) _ (args .table .now) (args .marks .now) (args .e)
+    (sym (c .before .before .before .stands-above .ensures) ∙ c .before .before .if1 .left)
+    (sym (c .before .keeps-child .ensures) ∙ c .if2 .taken)
 
 helps-child-requires : tie.Need-helps-child-requires
 helps-child-requires c κs = search needs
 
 returns-3 : tie.Need-returns-3
-returns-3 c = source-previous (c .before .before .before .before .before .before .before .before .args .n) _ (c .before .before .before .before .before .before .before .before .args .table .now) (c .before .before .before .before .before .before .before .before .args .marks .now) (c .before .before .before .before .before .before .before .before .args .e) (sym (c .before .before .before .before .before .stands-above .ensures) ∙ c .before .before .before .before .if1 .left) (sym (c .before .before .before .keeps-child .ensures) ∙ c .before .before .if2 .left) (sym (c .before .helps-child .ensures) ∙ c .if3 .taken)
+returns-3 c =
+    let args = c .before .before .before .before .before .before .before .before .args in
+    let stands-above = c .before .before .before .before .before .stands-above in
+    let if1 = c .before .before .before .before .if1 in
+    source-previous (args .n) _ (args .table .now) (args .marks .now) (args .e)
+    (sym (stands-above .ensures) ∙ if1 .left)
+    (sym (c .before .before .before .keeps-child .ensures) ∙ c .before .before .if2 .left)
+    (sym (c .before .helps-child .ensures) ∙ c .if3 .taken)
 
 returns-4 : tie.Need-returns-4
-returns-4 c = source-none (c .before .before .before .before .before .before .before .before .args .n) _ (c .before .before .before .before .before .before .before .before .args .table .now) (c .before .before .before .before .before .before .before .before .args .marks .now) (c .before .before .before .before .before .before .before .before .args .e) (sym (c .before .before .before .before .before .stands-above .ensures) ∙ c .before .before .before .before .if1 .left) (sym (c .before .before .before .keeps-child .ensures) ∙ c .before .before .if2 .left) (sym (c .before .helps-child .ensures) ∙ c .if3 .left)
+returns-4 c =
+    let args = c .before .before .before .before .before .before .before .before .args in
+    let stands-above = c .before .before .before .before .before .stands-above in
+    let if1 = c .before .before .before .before .if1 in
+    source-none (args .n) _ (args .table .now) (args .marks .now) (args .e) (sym (stands-above .ensures) ∙ if1 .left)
+    (sym (c .before .before .before .keeps-child .ensures) ∙ c .before .before .if2 .left)
+    (sym (c .before .helps-child .ensures) ∙ c .if3 .left)
 
 pub source-at-spec : {M : Type 1} → statement M
 source-at-spec =

@@ -30,10 +30,26 @@ loop-less : tie.Need-loop-less Inv-loop μ-loop
 loop-less c = search needs
 
 loop-again : tie.Need-loop-again Inv-loop μ-loop
-loop-again c = (omega (arith, c .before .before .loop-test .taken), tally-turn (c .before .before .before .before .before .args .low) (c .before .before .before .before .before .args .high) (c .before .before .before .before .before .args .room) (pageAt (c .before .before .before .before .before .args .table .now) (c .before .before .before .before .before .args .page)) (c .before .before .before .before .before .args .entries) (c .before .before .before .loop .j) (c .before .cert-key-at .result) (c .before .before .before .loop .found) (c .tally-key .result) (c .before .before .loop-test .taken) (c .before .cert-key-at .ensures) (c .tally-key .ensures) ∙ c .before .before .before .loop .inv .1)
+loop-again c =
+    let args = c .before .before .before .before .before .args in
+    let loop = c .before .before .before .loop in
+    let loop-test = c .before .before .loop-test in
+    let cert-key-at = c .before .cert-key-at in
+    let tally-key = c .tally-key in (
+      omega (arith, loop-test .taken),
+      tally-turn (args .low) (args .high) (args .room) (pageAt (args .table .now) (args .page)) (args .entries)
+          (loop .j) (cert-key-at .result) (loop .found) (tally-key .result) (loop-test .taken) (cert-key-at .ensures)
+          (tally-key .ensures) ∙ loop .inv .1,
+    )
 
 returns : tie.Need-returns Inv-loop μ-loop
-returns c = sym (tally-end (c .before .before .before .args .low) (c .before .before .before .args .high) (c .before .before .before .args .room) (pageAt (c .before .before .before .args .table .now) (c .before .before .before .args .page)) (c .before .before .before .args .entries) (c .before .loop .j) (c .before .loop .found) (c .loop-test .left)) ∙ (c .before .loop .inv .1 ∙ tally-start (c .before .before .before .args .low) (c .before .before .before .args .high) (c .before .before .before .args .room) (pageAt (c .before .before .before .args .table .now) (c .before .before .before .args .page)) (c .before .before .before .args .entries) (c .before .before .before .args .count))
+returns c =
+    let args = c .before .before .before .args in
+    let loop = c .before .loop in
+    sym
+    (tally-end (args .low) (args .high) (args .room) (pageAt (args .table .now) (args .page)) (args .entries) (loop .j) (loop .found) (c .loop-test .left))
+    ∙
+    (loop .inv .1 ∙ tally-start (args .low) (args .high) (args .room) (pageAt (args .table .now) (args .page)) (args .entries) (args .count))
 
 pub tally-each-spec : {M : Type 1} → statement M
 tally-each-spec =

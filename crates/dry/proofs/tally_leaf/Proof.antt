@@ -21,13 +21,30 @@ tally-all-requires : tie.Need-tally-all-requires
 tally-all-requires c κs = search needs
 
 returns : tie.Need-returns
-returns c = c .tally-all .ensures ∙ tally-whole (c .before .before .before .before .before .before .before .args .table .now) (c .before .before .before .before .before .before .before .args .page) (c .before .before .before .before .before .before .before .args .head) (c .before .before .before .before .before .before .before .pre .read-head) (c .before .before .before .before .before .before .before .args .a) (c .before .before .before .before .before .before .before .args .e) (c .before .before .before .before .before .before .before .args .count) (c .before .before .before .before .larger .result) (c .before .before .before .smaller .result) (c .before .before .before .before .before .before .before .pre .within) (sym (c .before .before .lies-in .ensures) ∙ c .before .if1 .taken) (c .before .before .before .before .before .before .before .pre .kind) (c .before .before .before .before .larger .ensures) (c .before .before .before .smaller .ensures)
+returns c =
+    let args = c .before .before .before .before .before .before .before .args in
+    let pre = c .before .before .before .before .before .before .before .pre in
+    let larger = c .before .before .before .before .larger in
+    let smaller = c .before .before .before .smaller in
+    c .tally-all .ensures ∙ tally-whole (args .table .now) (args .page) (args .head) (pre .read-head) (args .a)
+    (args .e) (args .count) (larger .result) (smaller .result) (pre .within)
+    (sym (c .before .before .lies-in .ensures) ∙ c .before .if1 .taken) (pre .kind) (larger .ensures)
+    (smaller .ensures)
 
 tally-each-requires : tie.Need-tally-each-requires
-tally-each-requires c κs = (c .before .before .before .before .before .before .pre .inside, leaf-room (c .before .before .before .before .before .before .args .table .now) (c .before .before .before .before .before .before .args .page) (c .before .before .before .before .before .before .args .head) (c .before .before .before .before .before .before .pre .read-head) (c .before .before .before .before .before .before .pre .within) (c .before .before .before .before .before .before .pre .kind))
+tally-each-requires c κs =
+    let args = c .before .before .before .before .before .before .args in
+    let pre = c .before .before .before .before .before .before .pre in
+    (pre .inside, leaf-room (args .table .now) (args .page) (args .head) (pre .read-head) (pre .within) (pre .kind))
 
 returns-2 : tie.Need-returns-2
-returns-2 c = c .tally-each .ensures ∙ tally-leaf (c .before .before .before .before .before .before .before .args .table .now) (c .before .before .before .before .before .before .before .args .page) (c .before .before .before .before .before .before .before .args .head) (c .before .before .before .before .before .before .before .pre .read-head) (c .before .before .before .before .before .before .before .args .a) (c .before .before .before .before .before .before .before .args .e) (c .before .before .before .before .before .before .before .args .count) (c .before .before .before .before .larger .result) (c .before .before .before .smaller .result) (c .before .before .before .before .before .before .before .pre .kind) (c .before .before .before .before .larger .ensures) (c .before .before .before .smaller .ensures)
+returns-2 c =
+    let args = c .before .before .before .before .before .before .before .args in
+    let pre = c .before .before .before .before .before .before .before .pre in
+    let larger = c .before .before .before .before .larger in
+    let smaller = c .before .before .before .smaller in
+    c .tally-each .ensures ∙ tally-leaf (args .table .now) (args .page) (args .head) (pre .read-head) (args .a)
+    (args .e) (args .count) (larger .result) (smaller .result) (pre .kind) (larger .ensures) (smaller .ensures)
 
 pub tally-leaf-spec : {M : Type 1} → statement M
 tally-leaf-spec =

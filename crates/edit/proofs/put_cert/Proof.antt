@@ -30,7 +30,8 @@ put-cert-in-requires : tie.Need-put-cert-in-requires
 unfolding read pageIn
 put-cert-in-requires c κs =
     let a = c .before .before .args in
-    rw (page-part (a .table .now) (a .i)) (length-pageAt (a .table .now) (a .i) (omega arith), c .before .before .pre .1)
+    rw (page-part (a .table .now) (a .i))
+    (length-pageAt (a .table .now) (a .i) (omega arith), c .before .before .pre .1)
 
 same-length : tie.Need-same-length
 same-length c = search needs

@@ -23,17 +23,21 @@ spot-requires c κs =
 
 mul-at : tie.Need-mul-at
 mul-at c =
+    let spot = c .spot in
     let get16 = c .before .before .get16 in
     let a = c .before .before .before .before .before .args in
     let pre = c .before .before .before .before .before .pre in
-    omega (arith, get16 .ensures, spot-below 12 (get16 .result) (a .key) (c .spot .result) (a .page .now) (c .spot .ensures), leaf-room (a .page .now) (a .key) (pre .1))
+    omega
+    (arith, get16 .ensures, spot-below 12 (get16 .result) (a .key) (spot .result) (a .page .now) (spot .ensures), leaf-room (a .page .now) (a .key) (pre .1))
 
 add-at : tie.Need-add-at
 add-at c =
+    let spot = c .spot in
     let get16 = c .before .before .get16 in
     let a = c .before .before .before .before .before .args in
     let pre = c .before .before .before .before .before .pre in
-    omega (arith, get16 .ensures, spot-below 12 (get16 .result) (a .key) (c .spot .result) (a .page .now) (c .spot .ensures), leaf-room (a .page .now) (a .key) (pre .1))
+    omega
+    (arith, get16 .ensures, spot-below 12 (get16 .result) (a .key) (spot .result) (a .page .now) (spot .ensures), leaf-room (a .page .now) (a .key) (pre .1))
 
 cast-move-up : tie.Need-cast-move-up
 cast-move-up c = search needs
@@ -49,8 +53,10 @@ move-up-requires c κs =
     let get16 = c .before .before .before .get16 in
     let a = c .before .before .before .before .before .before .args in
     let spot = c .before .spot in
-    let pre = c .before .before .before .before .before .before .pre in
-    (omega (arith, spot-below 12 (get16 .result) (a .key) (spot .result) (a .page .now) (spot .ensures)), omega (arith, get16 .ensures, pre .0, leaf-room (a .page .now) (a .key) (pre .1)))
+    let pre = c .before .before .before .before .before .before .pre in (
+      omega (arith, spot-below 12 (get16 .result) (a .key) (spot .result) (a .page .now) (spot .ensures)),
+      omega (arith, get16 .ensures, pre .0, leaf-room (a .page .now) (a .key) (pre .1)),
+    )
 
 write-cert-requires : tie.Need-write-cert-requires
 write-cert-requires c κs =
@@ -59,7 +65,8 @@ write-cert-requires c κs =
     let move-up = c .before .before .before .move-up in
     let a = c .before .before .before .before .before .before .before .before .before .before .args in
     let spot = c .before .before .before .before .before .spot in
-    omega (arith, get16 .ensures, pre .0, move-up .kept .0, spot-below 12 (get16 .result) (a .key) (spot .result) (a .page .now) (spot .ensures), leaf-room (a .page .now) (a .key) (pre .1))
+    omega
+    (arith, get16 .ensures, pre .0, move-up .kept .0, spot-below 12 (get16 .result) (a .key) (spot .result) (a .page .now) (spot .ensures), leaf-room (a .page .now) (a .key) (pre .1))
 
 add-stamp : tie.Need-add-stamp
 add-stamp c =
@@ -85,8 +92,10 @@ returns c =
     let move-up = c .before .before .before .before .before .before .before .before .before .before .move-up in
     let slice-known = c .before .before .before .before .before .before .before .before .before .before .before .before .before .before .before .before .slice-known in
     let pre = c .before .before .before .before .before .before .before .before .before .before .before .before .before .before .before .before .before .pre in
-    let e : spot .result ≡ spotOf (a .key) (keysIn 12 (leAt (a .page .now) 2 2) (a .page .now)) = rw (get16 .ensures) at (spot .ensures) in
-    rw (stamp .ensures, write-cert .ensures, move-up .ensures, get16 .ensures) (sym (cert-bytes (a .page .now) (newCert (a .key) (a .value)) (a .c) (spot .result) (slice-known .given) (pre .0) (pre .1) e))
+    let e : spot .result ≡ spotOf (a .key) (keysIn 12 (leAt (a .page .now) 2 2) (a .page .now)) = rw (get16 .ensures)
+    at (spot .ensures) in
+    rw (stamp .ensures, write-cert .ensures, move-up .ensures, get16 .ensures)
+    (sym (cert-bytes (a .page .now) (newCert (a .key) (a .value)) (a .c) (spot .result) (slice-known .given) (pre .0) (pre .1) e))
 
 pub put-cert-in-spec : {M : Type 1} → statement M
 put-cert-in-spec =

@@ -19,22 +19,28 @@ cast-spot c = search needs
 spot-requires : tie.Need-spot-requires
 spot-requires c κs =
     let pre = c .before .before .before .before .pre in
-    let a = c .before .before .before .before .args in
-    (omega arith, omega (arith, c .before .get16 .ensures, pre .0, inner-room (a .page .now) (pre .1 .inner) (pre .1 .room)))
+    let a = c .before .before .before .before .args in (
+      omega arith,
+      omega (arith, c .before .get16 .ensures, pre .0, inner-room (a .page .now) (pre .1 .inner) (pre .1 .room)),
+    )
 
 mul-at : tie.Need-mul-at
 mul-at c =
+    let spot = c .spot in
     let get16 = c .before .before .get16 in
     let a = c .before .before .before .before .before .args in
     let pre = c .before .before .before .before .before .pre in
-    omega (arith, get16 .ensures, spot-below 16 (get16 .result) (a .key) (c .spot .result) (a .page .now) (c .spot .ensures), inner-room (a .page .now) (pre .1 .inner) (pre .1 .room))
+    omega
+    (arith, get16 .ensures, spot-below 16 (get16 .result) (a .key) (spot .result) (a .page .now) (spot .ensures), inner-room (a .page .now) (pre .1 .inner) (pre .1 .room))
 
 add-at : tie.Need-add-at
 add-at c =
+    let spot = c .spot in
     let get16 = c .before .before .get16 in
     let a = c .before .before .before .before .before .args in
     let pre = c .before .before .before .before .before .pre in
-    omega (arith, get16 .ensures, spot-below 16 (get16 .result) (a .key) (c .spot .result) (a .page .now) (c .spot .ensures), inner-room (a .page .now) (pre .1 .inner) (pre .1 .room))
+    omega
+    (arith, get16 .ensures, spot-below 16 (get16 .result) (a .key) (spot .result) (a .page .now) (spot .ensures), inner-room (a .page .now) (pre .1 .inner) (pre .1 .room))
 
 cast-move-up : tie.Need-cast-move-up
 cast-move-up c = search needs
@@ -50,8 +56,10 @@ move-up-requires c κs =
     let get16 = c .before .before .before .get16 in
     let a = c .before .before .before .before .before .before .args in
     let spot = c .before .spot in
-    let pre = c .before .before .before .before .before .before .pre in
-    (omega (arith, spot-below 16 (get16 .result) (a .key) (spot .result) (a .page .now) (spot .ensures)), omega (arith, get16 .ensures, pre .0, inner-room (a .page .now) (pre .1 .inner) (pre .1 .room)))
+    let pre = c .before .before .before .before .before .before .pre in (
+      omega (arith, spot-below 16 (get16 .result) (a .key) (spot .result) (a .page .now) (spot .ensures)),
+      omega (arith, get16 .ensures, pre .0, inner-room (a .page .now) (pre .1 .inner) (pre .1 .room)),
+    )
 
 write-child-requires : tie.Need-write-child-requires
 write-child-requires c κs =
@@ -60,7 +68,8 @@ write-child-requires c κs =
     let move-up = c .before .before .before .move-up in
     let a = c .before .before .before .before .before .before .before .before .before .before .args in
     let spot = c .before .before .before .before .before .spot in
-    omega (arith, get16 .ensures, pre .0, move-up .kept .0, spot-below 16 (get16 .result) (a .key) (spot .result) (a .page .now) (spot .ensures), inner-room (a .page .now) (pre .1 .inner) (pre .1 .room))
+    omega
+    (arith, get16 .ensures, pre .0, move-up .kept .0, spot-below 16 (get16 .result) (a .key) (spot .result) (a .page .now) (spot .ensures), inner-room (a .page .now) (pre .1 .inner) (pre .1 .room))
 
 add-stamp : tie.Need-add-stamp
 add-stamp c =
@@ -86,8 +95,10 @@ returns c =
     let move-up = c .before .before .before .before .before .before .before .before .before .before .move-up in
     let slice-known = c .before .before .before .before .before .before .before .before .before .before .before .before .before .before .before .before .slice-known in
     let pre = c .before .before .before .before .before .before .before .before .before .before .before .before .before .before .before .before .before .pre in
-    let e : spot .result ≡ spotOf (a .key) (keysIn 16 (leAt (a .page .now) 2 2) (a .page .now)) = rw (get16 .ensures) at (spot .ensures) in
-    rw (stamp .ensures, write-child .ensures, move-up .ensures, get16 .ensures) (sym (child-bytes (a .page .now) (newChild (a .c) (a .key) (a .child) (a .previous)) (a .c) (spot .result) (slice-known .given) (pre .0) e (pre .1)))
+    let e : spot .result ≡ spotOf (a .key) (keysIn 16 (leAt (a .page .now) 2 2) (a .page .now)) = rw (get16 .ensures)
+    at (spot .ensures) in
+    rw (stamp .ensures, write-child .ensures, move-up .ensures, get16 .ensures)
+    (sym (child-bytes (a .page .now) (newChild (a .c) (a .key) (a .child) (a .previous)) (a .c) (spot .result) (slice-known .given) (pre .0) e (pre .1)))
 
 pub put-child-in-spec : {M : Type 1} → statement M
 put-child-in-spec =

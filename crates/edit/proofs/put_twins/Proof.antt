@@ -30,7 +30,8 @@ put-twins-in-requires : tie.Need-put-twins-in-requires
 unfolding read pageIn
 put-twins-in-requires c κs =
     let a = c .before .before .args in
-    rw (page-part (a .table .now) (a .i)) (length-pageAt (a .table .now) (a .i) (omega arith), c .before .before .pre .1)
+    rw (page-part (a .table .now) (a .i))
+    (length-pageAt (a .table .now) (a .i) (omega arith), c .before .before .pre .1)
 
 same-length : tie.Need-same-length
 same-length c = search needs

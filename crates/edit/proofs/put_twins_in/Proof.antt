@@ -21,8 +21,10 @@ put-child-in-requires c κs =
     let slice-known = c .before .before .before .before .before .slice-known in
     let pre = c .before .before .before .before .before .before .pre in
     let x : Child = newChild (a .c) (a .low) (a .lower) (a .previous) in
-    let w : WideChild x = wide-newChild (a .c) (a .low) (a .lower) (a .previous) (fits .c) (fits .low) (fits .lower) (fits .previous) in
-    rw (set-child-in .ensures) (long-first (a .page .now) x (a .c) (slice-known .given) (pre .0) (pre .1 .has) w (w .birth), takes-first (a .page .now) x (a .c) (slice-known .given) (pre .0) (pre .1 .has) w (w .birth) (a .middle) (pre .1 .absent))
+    let w : WideChild x = wide-newChild (a .c) (a .low) (a .lower) (a .previous) (fits .c) (fits .low) (fits .lower)
+    (fits .previous) in
+    rw (set-child-in .ensures)
+    (long-first (a .page .now) x (a .c) (slice-known .given) (pre .0) (pre .1 .has) w (w .birth), takes-first (a .page .now) x (a .c) (slice-known .given) (pre .0) (pre .1 .has) w (w .birth) (a .middle) (pre .1 .absent))
 
 same-length : tie.Need-same-length
 same-length c = search needs
@@ -37,8 +39,10 @@ returns c =
     let slice-known = c .before .before .before .before .before .before .before .before .slice-known in
     let pre = c .before .before .before .before .before .before .before .before .before .pre in
     let x : Child = newChild (a .c) (a .low) (a .lower) (a .previous) in
-    let w : WideChild x = wide-newChild (a .c) (a .low) (a .lower) (a .previous) (fits .c) (fits .low) (fits .lower) (fits .previous) in
-    rw (put-child-in .ensures, set-child-in .ensures) (change-twice (a .page .now) x (a .c) (slice-known .given) (pre .0) (pre .1 .has) w (w .birth) (newChild (a .c) (a .middle) (a .upper) (a .previous)))
+    let w : WideChild x = wide-newChild (a .c) (a .low) (a .lower) (a .previous) (fits .c) (fits .low) (fits .lower)
+    (fits .previous) in
+    rw (put-child-in .ensures, set-child-in .ensures)
+    (change-twice (a .page .now) x (a .c) (slice-known .given) (pre .0) (pre .1 .has) w (w .birth) (newChild (a .c) (a .middle) (a .upper) (a .previous)))
 
 pub put-twins-in-spec : {M : Type 1} → statement M
 put-twins-in-spec =

@@ -19,8 +19,10 @@ cast-spot c = search needs
 spot-requires : tie.Need-spot-requires
 spot-requires c κs =
     let pre = c .before .before .before .before .pre in
-    let a = c .before .before .before .before .args in
-    (omega arith, omega (arith, c .before .get16 .ensures, pre .0, inner-room (a .page .now) (pre .1 .inner) (pre .1 .room)))
+    let a = c .before .before .before .before .args in (
+      omega arith,
+      omega (arith, c .before .get16 .ensures, pre .0, inner-room (a .page .now) (pre .1 .inner) (pre .1 .room)),
+    )
 
 sub-write-child : tie.Need-sub-write-child
 unfolding newChild
@@ -30,7 +32,8 @@ sub-write-child c =
     let slice-known = c .before .before .before .before .before .slice-known in
     let pre = c .before .before .before .before .before .before .pre in
     let get16 = c .before .before .before .get16 in
-    omega (arith, other-spot (a .page .now) (newChild (a .c) (a .key) (a .child) (a .previous)) (a .c) (spot .result) (slice-known .given) (pre .0) (rw (get16 .ensures) at (spot .ensures)) (pre .1))
+    omega
+    (arith, other-spot (a .page .now) (newChild (a .c) (a .key) (a .child) (a .previous)) (a .c) (spot .result) (slice-known .given) (pre .0) (rw (get16 .ensures) at (spot .ensures)) (pre .1))
 
 mul-write-child : tie.Need-mul-write-child
 mul-write-child c =
@@ -38,7 +41,8 @@ mul-write-child c =
     let a = c .before .before .before .before .before .before .args in
     let spot = c .before .spot in
     let pre = c .before .before .before .before .before .before .pre in
-    omega (arith, get16 .ensures, spot-below 16 (get16 .result) (a .key) (spot .result) (a .page .now) (spot .ensures), inner-room (a .page .now) (pre .1 .inner) (pre .1 .room))
+    omega
+    (arith, get16 .ensures, spot-below 16 (get16 .result) (a .key) (spot .result) (a .page .now) (spot .ensures), inner-room (a .page .now) (pre .1 .inner) (pre .1 .room))
 
 add-write-child : tie.Need-add-write-child
 add-write-child c =
@@ -46,7 +50,8 @@ add-write-child c =
     let a = c .before .before .before .before .before .before .args in
     let spot = c .before .spot in
     let pre = c .before .before .before .before .before .before .pre in
-    omega (arith, get16 .ensures, spot-below 16 (get16 .result) (a .key) (spot .result) (a .page .now) (spot .ensures), inner-room (a .page .now) (pre .1 .inner) (pre .1 .room))
+    omega
+    (arith, get16 .ensures, spot-below 16 (get16 .result) (a .key) (spot .result) (a .page .now) (spot .ensures), inner-room (a .page .now) (pre .1 .inner) (pre .1 .room))
 
 write-child-requires : tie.Need-write-child-requires
 write-child-requires c κs =
@@ -54,7 +59,8 @@ write-child-requires c κs =
     let pre = c .before .before .before .before .before .before .pre in
     let a = c .before .before .before .before .before .before .args in
     let spot = c .before .spot in
-    omega (arith, get16 .ensures, pre .0, spot-below 16 (get16 .result) (a .key) (spot .result) (a .page .now) (spot .ensures), inner-room (a .page .now) (pre .1 .inner) (pre .1 .room))
+    omega
+    (arith, get16 .ensures, pre .0, spot-below 16 (get16 .result) (a .key) (spot .result) (a .page .now) (spot .ensures), inner-room (a .page .now) (pre .1 .inner) (pre .1 .room))
 
 stamp-requires : tie.Need-stamp-requires
 stamp-requires c κs = search needs
@@ -72,8 +78,10 @@ returns c =
     let write-child = c .before .before .before .before .before .before .write-child in
     let slice-known = c .before .before .before .before .before .before .before .before .before .before .before .before .slice-known in
     let pre = c .before .before .before .before .before .before .before .before .before .before .before .before .before .pre in
-    let e : spot .result ≡ spotOf (a .key) (keysIn 16 (leAt (a .page .now) 2 2) (a .page .now)) = rw (get16 .ensures) at (spot .ensures) in
-    rw (stamp .ensures, write-child .ensures, get16 .ensures) (sym (other-bytes (a .page .now) (newChild (a .c) (a .key) (a .child) (a .previous)) (a .c) (spot .result) (slice-known .given) (pre .0) e (pre .1)))
+    let e : spot .result ≡ spotOf (a .key) (keysIn 16 (leAt (a .page .now) 2 2) (a .page .now)) = rw (get16 .ensures)
+    at (spot .ensures) in
+    rw (stamp .ensures, write-child .ensures, get16 .ensures)
+    (sym (other-bytes (a .page .now) (newChild (a .c) (a .key) (a .child) (a .previous)) (a .c) (spot .result) (slice-known .given) (pre .0) e (pre .1)))
 
 pub set-child-in-spec : {M : Type 1} → statement M
 set-child-in-spec =

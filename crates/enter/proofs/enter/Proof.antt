@@ -13,7 +13,10 @@ stands-above-requires : tie.Need-stands-above-requires
 stands-above-requires c κs = search needs
 
 returns : tie.Need-returns
-returns c = enter-above (c .before .before .before .args .n) (c .before .before .before .args .c) (c .before .before .before .args .t .now) (c .before .before .before .args .e) (aboveOf (c .before .before .before .args .above)) (sym (c .before .stands-above .ensures) ∙ c .if1 .taken)
+returns c =
+    let args = c .before .before .before .args in
+    enter-above (args .n) (args .c) (args .t .now) (args .e) (aboveOf (args .above))
+    (sym (c .before .stands-above .ensures) ∙ c .if1 .taken)
 
 fits-at-requires : tie.Need-fits-at-requires
 fits-at-requires c κs = search needs
@@ -28,7 +31,15 @@ same-length : tie.Need-same-length
 same-length c = search needs
 
 returns-2 : tie.Need-returns-2
-returns-2 c = ap (λ a. entering (c .before .before .before .before .before .before .before .before .before .args .t .now) (Entered.Page a)) (head-read (c .before .before .before .before .before .before .before .before .before .args .t .now) (c .before .before .before .before .before .before .before .before .before .args .e .child) (c .head-at .ensures)) ∙ enter-fits (c .before .before .before .before .before .before .before .before .before .args .n) (c .before .before .before .before .before .before .before .before .before .args .c) (c .before .before .before .before .before .before .before .before .before .args .t .now) (c .before .before .before .before .before .before .before .before .before .args .e) (aboveOf (c .before .before .before .before .before .before .before .before .before .args .above)) (sym (c .before .before .before .before .before .before .before .stands-above .ensures) ∙ c .before .before .before .before .before .before .if1 .left) (sym (c .before .before .before .before .fits-at .ensures) ∙ c .before .before .before .if2 .taken)
+returns-2 c =
+    let args = c .before .before .before .before .before .before .before .before .before .args in
+    let stands-above = c .before .before .before .before .before .before .before .stands-above in
+    let if1 = c .before .before .before .before .before .before .if1 in
+    let fits-at = c .before .before .before .before .fits-at in
+    ap (λ a. entering (args .t .now) (Entered.Page a))
+    (head-read (args .t .now) (args .e .child) (c .head-at .ensures))
+    ∙ enter-fits (args .n) (args .c) (args .t .now) (args .e) (aboveOf (args .above))
+    (sym (stands-above .ensures) ∙ if1 .left) (sym (fits-at .ensures) ∙ c .before .before .before .if2 .taken)
 
 mend-requires : tie.Need-mend-requires
 mend-requires c κs = search needs
@@ -37,7 +48,14 @@ same-length-2 : tie.Need-same-length-2
 same-length-2 c = search needs
 
 returns-3 : tie.Need-returns-3
-returns-3 c = (c .before .before .mend .ensures) ∙ ap told (sym (enter-lost (c .before .before .before .before .before .before .before .before .before .before .args .n) (c .before .before .before .before .before .before .before .before .before .before .args .c) (c .before .before .before .before .before .before .before .before .before .before .args .t .now) (c .before .before .before .before .before .before .before .before .before .before .args .e) (aboveOf (c .before .before .before .before .before .before .before .before .before .before .args .above)) (sym (c .before .before .before .before .before .before .before .before .stands-above .ensures) ∙ c .before .before .before .before .before .before .before .if1 .left) (sym (c .before .before .before .before .before .fits-at .ensures) ∙ c .before .before .before .before .if2 .left)))
+returns-3 c =
+    let args = c .before .before .before .before .before .before .before .before .before .before .args in
+    let stands-above = c .before .before .before .before .before .before .before .before .stands-above in
+    let if1 = c .before .before .before .before .before .before .before .if1 in
+    let fits-at = c .before .before .before .before .before .fits-at in
+    let if2 = c .before .before .before .before .if2 in
+    (c .before .before .mend .ensures) ∙ ap told
+    (sym (enter-lost (args .n) (args .c) (args .t .now) (args .e) (aboveOf (args .above)) (sym (stands-above .ensures) ∙ if1 .left) (sym (fits-at .ensures) ∙ if2 .left)))
 
 pub enter-spec : {M : Type 1} → statement M
 enter-spec =

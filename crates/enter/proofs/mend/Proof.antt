@@ -19,10 +19,21 @@ same-length : tie.Need-same-length
 same-length c = search needs
 
 returns : tie.Need-returns
-returns c = mend-damaged (c .before .before .before .before .args .n) (c .before .before .before .before .args .c) (c .before .before .before .before .args .t .now) (c .before .before .before .before .args .e) (sym (c .before .mendable-at .ensures) ∙ not-true (c .before .mendable-at .result) (c .if1 .taken))
+returns c =
+    let args = c .before .before .before .before .args in
+    let mendable-at = c .before .mendable-at in
+    mend-damaged (args .n) (args .c) (args .t .now) (args .e)
+    (sym (mendable-at .ensures) ∙ not-true (mendable-at .result) (c .if1 .taken))
 
 build-mended-requires : tie.Need-build-mended-requires
-build-mended-requires c κs = let m = sym (c .before .before .mendable-at .ensures) ∙ not-false (c .before .before .mendable-at .result) (c .before .if1 .left) in let f = mendable-true (c .before .before .before .before .before .args .n) (c .before .before .before .before .before .args .e) (read (c .before .before .before .before .before .args .t .now) (c .before .before .before .before .before .args .e .previous)) m in ((omega arith, omega (arith, f .below)), mendable-ordered (c .before .before .before .before .before .args .n) (c .before .before .before .before .before .args .e) (read (c .before .before .before .before .before .args .t .now) (c .before .before .before .before .before .args .e .previous)) m)
+build-mended-requires c κs =
+    let args = c .before .before .before .before .before .args in
+    let mendable-at = c .before .before .mendable-at in
+    let m = sym (mendable-at .ensures) ∙ not-false (mendable-at .result) (c .before .if1 .left) in
+    let f = mendable-true (args .n) (args .e) (read (args .t .now) (args .e .previous)) m in (
+      (omega arith, omega (arith, f .below)),
+      mendable-ordered (args .n) (args .e) (read (args .t .now) (args .e .previous)) m,
+    )
 
 cast-head-at : tie.Need-cast-head-at
 cast-head-at c = search needs
@@ -34,7 +45,20 @@ same-length-2 : tie.Need-same-length-2
 same-length-2 c = search needs
 
 returns-2 : tie.Need-returns-2
-returns-2 c = mended-told (c .before .before .before .before .before .before .before .before .before .before .before .args .n) (c .before .before .before .before .before .before .before .before .before .before .before .args .c) (c .before .before .before .before .before .before .before .before .before .before .before .args .t .now) (c .before .before .before .before .before .before .before .before .before .before .before .args .e) (c .before .before .before .before .before .before .before .before .before .before .slice-known .given) record { counter = omega (arith, c .before .before .before .before .before .before .before .before .before .before .before .fits .c); birth = omega (arith, c .before .struct-known .given .1 .1 .0); low = omega (arith, c .before .struct-known .given .1 .1 .1 .0); high = omega (arith, c .before .struct-known .given .1 .1 .1 .1 .0) } (c .before .before .before .before .before .before .before .before .before .before .before .pre .0) (c .before .before .before .before .before .before .before .before .before .before .before .pre .1) (sym (c .before .before .before .before .before .before .before .before .mendable-at .ensures) ∙ not-false (c .before .before .before .before .before .before .before .before .mendable-at .result) (c .before .before .before .before .before .before .before .if1 .left)) (c .before .before .before .before .before .build-mended .last .0) (c .head-at .result) (c .before .before .before .before .before .build-mended .ensures) (c .head-at .ensures)
+returns-2 c =
+    let args = c .before .before .before .before .before .before .before .before .before .before .before .args in
+    let fits = c .before .before .before .before .before .before .before .before .before .before .before .fits in
+    let pre = c .before .before .before .before .before .before .before .before .before .before .before .pre in
+    let slice-known = c .before .before .before .before .before .before .before .before .before .before .slice-known in
+    let mendable-at = c .before .before .before .before .before .before .before .before .mendable-at in
+    let if1 = c .before .before .before .before .before .before .before .if1 in
+    let build-mended = c .before .before .before .before .before .build-mended in
+    let struct-known = c .before .struct-known in
+    let head-at = c .head-at in
+    mended-told (args .n) (args .c) (args .t .now) (args .e) (slice-known .given) record
+    { counter = omega (arith, fits .c); birth = omega (arith, struct-known .given .1 .1 .0); low = omega (arith, struct-known .given .1 .1 .1 .0); high = omega (arith, struct-known .given .1 .1 .1 .1 .0) }
+    (pre .0) (pre .1) (sym (mendable-at .ensures) ∙ not-false (mendable-at .result) (if1 .left))
+    (build-mended .last .0) (head-at .result) (build-mended .ensures) (head-at .ensures)
 
 pub mend-spec : {M : Type 1} → statement M
 mend-spec =

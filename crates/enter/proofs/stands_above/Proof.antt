@@ -6,10 +6,14 @@ use Rattle.enter.proofs.stands_above.Statement.{statement}
 use Rattle.enter.proofs.stands_above.Tie as tie
 
 returns : tie.Need-returns
-returns c = sym (two-first (c .before .before .args .child) (c .before .before .args .above .parent) (c .before .before .args .above .top) (c .if1 .taken))
+returns c =
+    let args = c .before .before .args in
+    sym (two-first (args .child) (args .above .parent) (args .above .top) (c .if1 .taken))
 
 returns-2 : tie.Need-returns-2
-returns-2 c = sym (two-second (c .before .before .before .args .child) (c .before .before .before .args .above .parent) (c .before .before .before .args .above .top) (c .before .if1 .left))
+returns-2 c =
+    let args = c .before .before .before .args in
+    sym (two-second (args .child) (args .above .parent) (args .above .top) (c .before .if1 .left))
 
 pub stands-above-spec : {M : Type 1} → statement M
 stands-above-spec = tie.close (tie.spec returns returns-2)

@@ -40,8 +40,11 @@ loop-less c = search needs
 loop-again : tie.Need-loop-again Inv-loop μ-loop
 loop-again c =
     let a = c .before .before .before .args in
-    let loop = c .before .before .loop in
-    (search needs, search needs, copied-more (a .to .now) (loop .to) (a .from .now) (a .at) (a .start) (loop .k) (omega arith) (loop .inv .2))
+    let loop = c .before .before .loop in (
+      search needs,
+      search needs,
+      copied-more (a .to .now) (loop .to) (a .from .now) (a .at) (a .start) (loop .k) (omega arith) (loop .inv .2),
+    )
 
 same-length : tie.Need-same-length Inv-loop μ-loop
 same-length c = c .before .loop .inv .1

@@ -38,8 +38,13 @@ loop-less c = search needs
 loop-again : tie.Need-loop-again Inv-loop μ-loop
 loop-again c =
     let a = c .before .before .before .args in
-    let loop = c .before .before .loop in
-    (search needs, search needs, search needs, moved-more (a .page .now) (loop .page) (loop .k) (loop .k - 1) (a .end) (a .by) (omega arith) (omega arith) (omega arith) (loop .inv .3))
+    let loop = c .before .before .loop in (
+      search needs,
+      search needs,
+      search needs,
+      moved-more (a .page .now) (loop .page) (loop .k) (loop .k - 1) (a .end) (a .by) (omega arith) (omega arith)
+          (omega arith) (loop .inv .3),
+    )
 
 same-length : tie.Need-same-length Inv-loop μ-loop
 same-length c = c .before .loop .inv .2

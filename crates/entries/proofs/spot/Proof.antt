@@ -33,7 +33,8 @@ returns : tie.Need-returns Inv-loop μ-loop
 returns c =
     let loop = c .before .before .before .loop in
     let a = c .before .before .before .before .before .args in
-    omega (arith, loop .inv .2, spot-stop (a .key) (a .size) (a .count) (loop .j) (loop .at) (a .page .now) (omega arith) (omega arith))
+    omega
+    (arith, loop .inv .2, spot-stop (a .key) (a .size) (a .count) (loop .j) (loop .at) (a .page .now) (omega arith) (omega arith))
 
 add-j : tie.Need-add-j Inv-loop μ-loop
 add-j c = search needs
@@ -50,14 +51,19 @@ loop-less c = search needs
 loop-again : tie.Need-loop-again Inv-loop μ-loop
 loop-again c =
     let loop = c .before .before .before .loop in
-    let a = c .before .before .before .before .before .args in
-    (search needs, rw (add-one, mul-suc) (omega arith), omega (arith, loop .inv .2, spot-pass (a .key) (a .size) (a .count) (loop .j) (loop .at) (a .page .now) (omega arith) (omega arith)))
+    let a = c .before .before .before .before .before .args in (
+      search needs,
+      rw (add-one, mul-suc) (omega arith),
+      omega
+          (arith, loop .inv .2, spot-pass (a .key) (a .size) (a .count) (loop .j) (loop .at) (a .page .now) (omega arith) (omega arith)),
+    )
 
 returns-2 : tie.Need-returns-2 Inv-loop μ-loop
 returns-2 c =
     let loop = c .before .loop in
     let a = c .before .before .before .args in
-    omega (arith, loop .inv .2, spot-end (a .key) (a .size) (a .count) (loop .j) (drop (loop .at) (a .page .now)) (omega arith))
+    omega
+    (arith, loop .inv .2, spot-end (a .key) (a .size) (a .count) (loop .j) (drop (loop .at) (a .page .now)) (omega arith))
 
 pub spot-spec : {M : Type 1} → statement M
 spot-spec =

@@ -37,7 +37,8 @@ returns c =
     let put16 = c .before .before .before .before .before .before .before .before .before .before .put16 in
     let put64 = c .before .before .before .before .before .before .before .before .before .before .before .before .before .before .put64 in
     let a = c .before .before .before .before .before .before .before .before .before .before .before .before .before .before .before .before .before .args in
-    rw (put32 .ensures, put162 .ensures, put16 .ensures, put64 .ensures) (sym (child-puts (a .page .now) (a .at) (a .key) (a .child) (a .previous) (a .birth)))
+    rw (put32 .ensures, put162 .ensures, put16 .ensures, put64 .ensures)
+    (sym (child-puts (a .page .now) (a .at) (a .key) (a .child) (a .previous) (a .birth)))
 
 pub write-child-spec : {M : Type 1} → statement M
 write-child-spec =

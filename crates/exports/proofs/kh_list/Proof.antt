@@ -24,7 +24,11 @@ same-length-3 : tie.Need-same-length-3
 same-length-3 c = search needs
 
 returns : tie.Need-returns
-returns c = rw (c .before .listed .ensures, c .listed-count .ensures) (listed-same (c .before .before .before .before .before .before .before .before .before .before .before .before .before .before .before .before .args .working .now) (c .before .before .before .before .before .before .before .before .before .before .before .before .before .before .before .before .args .stable .now) (c .before .before .before .before .before .before .before .before .before .before .before .before .before .before .before .before .args .session) (c .before .before .before .before .before .before .before .before .before .before .before .before .before .before .before .before .args .start) (c .before .before .before .before .before .before .before .before .before .before .before .before .before .before .before .before .args .keys .now) (c .before .before .before .before .before .before .before .before .before .before .before .before .before .before .before .before .args .records .now) (c .before .before .before .before .before .before .before .before .list .result) (c .before .before .before .before .before .before .before .before .list .last .0) (c .before .before .before .before .before .before .before .before .list .last .1 .1 .1 .1 .0) (c .before .before .before .before .before .before .before .before .list .last .1 .1 .1 .1 .1 .0) (c .before .before .before .before .before .before .before .before .list .ensures))
+returns c =
+    let args = c .before .before .before .before .before .before .before .before .before .before .before .before .before .before .before .before .args in
+    let list = c .before .before .before .before .before .before .before .before .list in
+    rw (c .before .listed .ensures, c .listed-count .ensures)
+    (listed-same (args .working .now) (args .stable .now) (args .session) (args .start) (args .keys .now) (args .records .now) (list .result) (list .last .0) (list .last .1 .1 .1 .1 .0) (list .last .1 .1 .1 .1 .1 .0) (list .ensures))
 
 pub kh-list-spec : {M : Type 1} → statement M
 kh-list-spec =

@@ -18,7 +18,11 @@ same-length : tie.Need-same-length
 same-length c = search needs
 
 returns : tie.Need-returns
-returns c = rw (c .before .looked .ensures, c .looked-record .ensures) (looked-same (c .before .before .before .before .before .before .before .before .args .working .now) (c .before .before .before .before .before .before .before .before .args .stable .now) (c .before .before .before .before .before .before .before .before .args .session) (c .before .before .before .before .before .before .before .before .args .model) (c .before .before .before .before .before .before .before .before .args .serial) (c .before .before .before .before .before .before .before .before .args .issue) (c .before .before .before .before .lookup .result) (c .before .before .before .before .lookup .last .0) (c .before .before .before .before .lookup .ensures))
+returns c =
+    let args = c .before .before .before .before .before .before .before .before .args in
+    let lookup = c .before .before .before .before .lookup in
+    rw (c .before .looked .ensures, c .looked-record .ensures)
+    (looked-same (args .working .now) (args .stable .now) (args .session) (args .model) (args .serial) (args .issue) (lookup .result) (lookup .last .0) (lookup .ensures))
 
 pub kh-lookup-spec : {M : Type 1} → statement M
 kh-lookup-spec =

@@ -21,7 +21,11 @@ same-length : tie.Need-same-length
 same-length c = search needs
 
 returns : tie.Need-returns
-returns c = rw (c .before .before .newest2 .ensures, c .before .newest-issue .ensures, c .newest-record .ensures) (newest-same (c .before .before .before .before .before .before .before .before .before .args .working .now) (c .before .before .before .before .before .before .before .before .before .args .stable .now) (c .before .before .before .before .before .before .before .before .before .args .session) (c .before .before .before .before .before .before .before .before .before .args .model) (c .before .before .before .before .before .before .before .before .before .args .serial) (c .before .before .before .before .before .newest .result) (c .before .before .before .before .before .newest .last .0) (c .before .before .before .before .before .newest .ensures))
+returns c =
+    let args = c .before .before .before .before .before .before .before .before .before .args in
+    let newest = c .before .before .before .before .before .newest in
+    rw (c .before .before .newest2 .ensures, c .before .newest-issue .ensures, c .newest-record .ensures)
+    (newest-same (args .working .now) (args .stable .now) (args .session) (args .model) (args .serial) (newest .result) (newest .last .0) (newest .ensures))
 
 pub kh-newest-spec : {M : Type 1} → statement M
 kh-newest-spec =

@@ -20,7 +20,9 @@ same-length-2 : tie.Need-same-length-2
 same-length-2 c = search needs
 
 returns : tie.Need-returns
-returns c = rw (c .opened .ensures) (ap (answered openedNo) (c .before .before .before .before .before .before .«open» .ensures))
+returns c =
+    rw (c .opened .ensures)
+    (ap (answered openedNo) (c .before .before .before .before .before .before .«open» .ensures))
 
 pub kh-open-spec : {M : Type 1} → statement M
 kh-open-spec = tie.close (tie.spec open-requires opened-requires same-length same-length-2 returns)

@@ -20,7 +20,9 @@ same-length-2 : tie.Need-same-length-2
 same-length-2 c = search needs
 
 returns : tie.Need-returns
-returns c = rw (c .synced .ensures) (ap (answered syncedNo) (c .before .before .before .before .before .before .sync .ensures))
+returns c =
+    let sync = c .before .before .before .before .before .before .sync in
+    rw (c .synced .ensures) (ap (answered syncedNo) (sync .ensures))
 
 pub kh-sync-spec : {M : Type 1} → statement M
 kh-sync-spec = tie.close (tie.spec sync-requires synced-requires same-length same-length-2 returns)

@@ -23,10 +23,14 @@ cast-second : tie.Need-cast-second
 cast-second c = omega (arith, c .shared-slice-known2 .given (c .before .before .args .at + 1))
 
 mul-result : tie.Need-mul-result
-mul-result c = omega (arith, c .before .shared-slice-known .given (c .before .before .args .at), c .shared-slice-known2 .given (c .before .before .args .at + 1))
+mul-result c =
+    let args = c .before .before .args in
+    omega (arith, c .before .shared-slice-known .given (args .at), c .shared-slice-known2 .given (args .at + 1))
 
 add-result : tie.Need-add-result
-add-result c = omega (arith, c .before .shared-slice-known .given (c .before .before .args .at), c .shared-slice-known2 .given (c .before .before .args .at + 1))
+add-result c =
+    let args = c .before .before .args in
+    omega (arith, c .before .shared-slice-known .given (args .at), c .shared-slice-known2 .given (args .at + 1))
 
 returns : tie.Need-returns
 returns c =

@@ -29,7 +29,8 @@ same-length c = search needs
 returns : tie.Need-returns
 returns c =
     let a = c .args in
-    rw (putAt-parts (a .b .now) (a .at) 1 1 (a .v), putAt-byte (a .b .now) (a .at) (a .v % 256) (omega arith), putAt-byte (set (a .b .now) (a .at) (a .v % 256)) (a .at + 1) (a .v / 256) (omega arith))
+    rw
+    (putAt-parts (a .b .now) (a .at) 1 1 (a .v), putAt-byte (a .b .now) (a .at) (a .v % 256) (omega arith), putAt-byte (set (a .b .now) (a .at) (a .v % 256)) (a .at + 1) (a .v / 256) (omega arith))
 
 pub put16-spec : {M : Type 1} → statement M
 put16-spec =

@@ -25,8 +25,9 @@ same-length c = search needs
 
 returns : tie.Need-returns
 returns c =
+    let put16 = c .before .before .before .before .before .before .put16 in
     let a = c .before .before .before .before .before .before .before .before .before .args in
-    rw (c .before .before .put162 .ensures, c .before .before .before .before .before .before .put16 .ensures, putAt-parts (a .b .now) (a .at) 2 2 (a .v))
+    rw (c .before .before .put162 .ensures, put16 .ensures, putAt-parts (a .b .now) (a .at) 2 2 (a .v))
 
 pub put32-spec : {M : Type 1} → statement M
 put32-spec =

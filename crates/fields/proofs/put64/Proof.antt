@@ -25,8 +25,9 @@ same-length c = search needs
 
 returns : tie.Need-returns
 returns c =
+    let put32 = c .before .before .before .before .before .before .put32 in
     let a = c .before .before .before .before .before .before .before .before .before .args in
-    rw (c .before .before .put322 .ensures, c .before .before .before .before .before .before .put32 .ensures, putAt-parts (a .b .now) (a .at) 4 4 (a .v))
+    rw (c .before .before .put322 .ensures, put32 .ensures, putAt-parts (a .b .now) (a .at) 4 4 (a .v))
 
 pub put64-spec : {M : Type 1} → statement M
 put64-spec =

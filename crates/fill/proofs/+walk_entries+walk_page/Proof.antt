@@ -62,7 +62,8 @@ walk-page-in t = (enters-reads.Asked, enters-reads.Learnt, enter-reads.Asked, en
 walk-entries-returns : (t : ℕ) → walk-entries-lts.Need-returns (walk-entries-in t) (walk-entries-at t) walk-entries.Post
 walk-entries-returns t c =
     let args = c .before .before .before .before .before .args in
-    step-none (args .level) (args .n) (args .c) (args .a) (args .above) (args .run) (args .t .now) (args .filled) (args .keys .now) (args .records .now) (c .if1 .taken)
+    step-none (args .level) (args .n) (args .c) (args .a) (args .above) (args .run) (args .t .now) (args .filled)
+    (args .keys .now) (args .records .now) (c .if1 .taken)
 
 walk-entries-cast-first-of : (t : ℕ) → walk-entries-lts.Need-cast-first-of (walk-entries-in t) (walk-entries-at t) walk-entries.Post
 walk-entries-cast-first-of t c = search needs
@@ -74,73 +75,107 @@ walk-entries-first-of-requires t c κs =
 
 walk-entries-walk-page-requires : (t : ℕ) → walk-entries-lts.Need-walk-page-requires (walk-entries-in t) (walk-entries-at t) walk-entries.Post
 walk-entries-walk-page-requires t c κs =
+    let pre′ = c .before .before .before .before .before .before .before .before .before .before .before .pre in
+    let slice-known = c .before .before .before .before .before .before .before .before .before .before .slice-known in
+    let if1 = c .before .before .before .before .before .before .if1 in
     let args = c .before .before .before .before .before .before .before .before .before .before .before .args in
-    let pre = c .before .before .before .before .before .before .before .before .before .before .before .pre .1 in
-    let more : 1 ≤ args .run .left = omega (arith, c .before .before .before .before .before .before .if1 .left) in
+    let pre = pre′ .1 in
+    let more : 1 ≤ args .run .left = omega (arith, if1 .left) in
     let first = c .before .before .before .first-of in
-    let ready = first-ready (args .level) (args .n) (args .c) (args .a) (args .above) (args .run) (args .t .now) (args .filled) (args .keys .now) (args .records .now)
-    (pre .0) (c .before .before .before .before .before .before .before .before .before .before .slice-known .given) (pre .2) (pre .3) more (first .result) (first .ensures) in
-    let known = first-known (args .level) (args .n) (args .c) (args .a) (args .above) (args .run) (args .t .now) (args .filled) (args .keys .now) (args .records .now)
-    (pre .0) (c .before .before .before .before .before .before .before .before .before .before .slice-known .given) (pre .2) (pre .3) more (first .result) (first .ensures) (pre .5) in
-    (omega (arith, c .before .before .before .before .before .before .before .before .before .before .before .pre .0), (pre .0, pre .1, ready, pre .4, known))
+    let ready = first-ready (args .level) (args .n) (args .c) (args .a) (args .above) (args .run) (args .t .now)
+    (args .filled) (args .keys .now) (args .records .now) (pre .0) (slice-known .given) (pre .2) (pre .3) more
+    (first .result) (first .ensures) in
+    let known = first-known (args .level) (args .n) (args .c) (args .a) (args .above) (args .run) (args .t .now)
+    (args .filled) (args .keys .now) (args .records .now) (pre .0) (slice-known .given) (pre .2) (pre .3) more
+    (first .result) (first .ensures) (pre .5) in
+    (omega (arith, pre′ .0), (pre .0, pre .1, ready, pre .4, known))
 
 walk-entries-rest-of-requires : (t : ℕ) → walk-entries-lts.Need-rest-of-requires (walk-entries-in t) (walk-entries-at t) walk-entries.Post
-walk-entries-rest-of-requires t c κs = omega (arith, c .before .before .before .before .before .before .before .before .before .before .before .before .before .if1 .left)
+walk-entries-rest-of-requires t c κs =
+    let if1 = c .before .before .before .before .before .before .before .before .before .before .before .before .before .if1 in
+    omega (arith, if1 .left)
 
 walk-entries-walk-entries-requires : (t : ℕ) → walk-entries-lts.Need-walk-entries-requires (walk-entries-in t) (walk-entries-at t) walk-entries.Post
 walk-entries-walk-entries-requires t c κs =
+    let pre′ = c .before .before .before .before .before .before .before .before .before .before .before .before .before .before .before .before .before .before .before .before .before .before .pre in
+    let slice-known = c .before .before .before .before .before .before .before .before .before .before .before .before .before .before .before .before .before .before .before .before .before .slice-known in
+    let if1 = c .before .before .before .before .before .before .before .before .before .before .before .before .before .before .before .before .before .if1 in
+    let rest-of = c .before .before .before .rest-of in
     let args = c .before .before .before .before .before .before .before .before .before .before .before .before .before .before .before .before .before .before .before .before .before .before .args in
-    let pre = c .before .before .before .before .before .before .before .before .before .before .before .before .before .before .before .before .before .before .before .before .before .before .pre .1 in
-    let more : 1 ≤ args .run .left = omega (arith, c .before .before .before .before .before .before .before .before .before .before .before .before .before .before .before .before .before .if1 .left) in
+    let pre = pre′ .1 in
+    let more : 1 ≤ args .run .left = omega (arith, if1 .left) in
     let first = c .before .before .before .before .before .before .before .before .before .before .before .before .before .before .first-of in
     let page = c .before .before .before .before .before .before .before .before .before .before .walk-page in
-    let lies = rest-lies (args .level) (args .n) (args .c) (args .a) (args .above) (args .run) (args .t .now) (args .filled) (args .keys .now) (args .records .now)
-    (pre .0) (c .before .before .before .before .before .before .before .before .before .before .before .before .before .before .before .before .before .before .before .before .before .slice-known .given) (pre .2) (pre .3) more (first .result) (first .ensures)
-    (page .last .0) (page .result) (page .last .1 .1 .1 .1 .1 .1 .1 .0) (page .last .1 .1 .1 .1 .1 .1 .1 .1 .0) (c .before .before .before .rest-of .result) (c .before .before .before .rest-of .ensures) (page .ensures) (pre .5) in
-    let known = rest-known (args .level) (args .n) (args .c) (args .a) (args .above) (args .run) (args .t .now) (args .filled) (args .keys .now) (args .records .now)
-    (pre .0) (c .before .before .before .before .before .before .before .before .before .before .before .before .before .before .before .before .before .before .before .before .before .slice-known .given) (pre .2) (pre .3) more (first .result) (first .ensures)
-    (page .last .0) (page .result) (page .last .1 .1 .1 .1 .1 .1 .1 .0) (page .last .1 .1 .1 .1 .1 .1 .1 .1 .0) (c .before .before .before .rest-of .result) (c .before .before .before .rest-of .ensures) (page .ensures) (pre .5) in
-    let roomy : Roomy (args .a) (page .last .1 .1 .1 .1 .1 .1 .1 .0) (page .last .1 .1 .1 .1 .1 .1 .1 .1 .0) = record {
-      keys = omega (arith, page .kept .1 .1 .1 .1 .1 .1 .1 .0, pre .4 .keys);
-      records = omega (arith, page .kept .1 .1 .1 .1 .1 .1 .1 .1 .0, pre .4 .records);
-    } in
-    let fewer = ap (λ (x : Run). x .left) (c .before .before .before .rest-of .ensures) in
-    (omega (arith, c .before .before .before .before .before .before .before .before .before .before .before .before .before .before .before .before .before .before .before .before .before .before .pre .0), (omega (arith, page .kept .0, pre .0), pre .1, pre .2, lies, roomy, known))
+    let lies = rest-lies (args .level) (args .n) (args .c) (args .a) (args .above) (args .run) (args .t .now)
+    (args .filled) (args .keys .now) (args .records .now) (pre .0) (slice-known .given) (pre .2) (pre .3) more
+    (first .result) (first .ensures) (page .last .0) (page .result) (page .last .1 .1 .1 .1 .1 .1 .1 .0)
+    (page .last .1 .1 .1 .1 .1 .1 .1 .1 .0) (rest-of .result) (rest-of .ensures) (page .ensures) (pre .5) in
+    let known = rest-known (args .level) (args .n) (args .c) (args .a) (args .above) (args .run) (args .t .now)
+    (args .filled) (args .keys .now) (args .records .now) (pre .0) (slice-known .given) (pre .2) (pre .3) more
+    (first .result) (first .ensures) (page .last .0) (page .result) (page .last .1 .1 .1 .1 .1 .1 .1 .0)
+    (page .last .1 .1 .1 .1 .1 .1 .1 .1 .0) (rest-of .result) (rest-of .ensures) (page .ensures) (pre .5) in
+    let roomy : Roomy (args .a) (page .last .1 .1 .1 .1 .1 .1 .1 .0) (page .last .1 .1 .1 .1 .1 .1 .1 .1 .0) = record
+    { keys = omega (arith, page .kept .1 .1 .1 .1 .1 .1 .1 .0, pre .4 .keys); records = omega (arith, page .kept .1 .1 .1 .1 .1 .1 .1 .1 .0, pre .4 .records) }
+    in
+    let fewer = ap (λ (x : Run). x .left) (rest-of .ensures) in
+    (omega (arith, pre′ .0), (omega (arith, page .kept .0, pre .0), pre .1, pre .2, lies, roomy, known))
 
 walk-entries-same-length : (t : ℕ) → walk-entries-lts.Need-same-length (walk-entries-in t) (walk-entries-at t) walk-entries.Post
-walk-entries-same-length t c = omega (arith, c .before .before .before .before .before .before .walk-entries .kept .0, c .before .before .before .before .before .before .before .before .before .before .before .before .before .before .before .before .before .walk-page .kept .0)
+walk-entries-same-length t c =
+    let walk-page′ = c .before .before .before .before .before .before .before .before .before .before .before .before .before .before .before .before .before .walk-page in
+    let walk-entries′ = c .before .before .before .before .before .before .walk-entries in
+    omega (arith, walk-entries′ .kept .0, walk-page′ .kept .0)
 
 walk-entries-same-length-2 : (t : ℕ) → walk-entries-lts.Need-same-length-2 (walk-entries-in t) (walk-entries-at t) walk-entries.Post
-walk-entries-same-length-2 t c = omega (arith, c .before .before .before .before .before .before .walk-entries .kept .1 .1 .1 .1 .1 .1 .1 .0, c .before .before .before .before .before .before .before .before .before .before .before .before .before .before .before .before .before .walk-page .kept .1 .1 .1 .1 .1 .1 .1 .0)
+walk-entries-same-length-2 t c =
+    let walk-page′ = c .before .before .before .before .before .before .before .before .before .before .before .before .before .before .before .before .before .walk-page in
+    let walk-entries′ = c .before .before .before .before .before .before .walk-entries in
+    omega (arith, walk-entries′ .kept .1 .1 .1 .1 .1 .1 .1 .0, walk-page′ .kept .1 .1 .1 .1 .1 .1 .1 .0)
 
 walk-entries-same-length-3 : (t : ℕ) → walk-entries-lts.Need-same-length-3 (walk-entries-in t) (walk-entries-at t) walk-entries.Post
-walk-entries-same-length-3 t c = omega (arith, c .before .before .before .before .before .before .walk-entries .kept .1 .1 .1 .1 .1 .1 .1 .1 .0, c .before .before .before .before .before .before .before .before .before .before .before .before .before .before .before .before .before .walk-page .kept .1 .1 .1 .1 .1 .1 .1 .1 .0)
+walk-entries-same-length-3 t c =
+    let walk-page′ = c .before .before .before .before .before .before .before .before .before .before .before .before .before .before .before .before .before .walk-page in
+    let walk-entries′ = c .before .before .before .before .before .before .walk-entries in
+    omega (arith, walk-entries′ .kept .1 .1 .1 .1 .1 .1 .1 .1 .0, walk-page′ .kept .1 .1 .1 .1 .1 .1 .1 .1 .0)
 
 walk-entries-returns-2 : (t : ℕ) → walk-entries-lts.Need-returns-2 (walk-entries-in t) (walk-entries-at t) walk-entries.Post
 walk-entries-returns-2 t c =
+    let pre′ = c .before .before .before .before .before .before .before .before .before .before .before .before .before .before .before .before .before .before .before .before .before .before .before .before .before .before .before .before .before .pre in
+    let slice-known = c .before .before .before .before .before .before .before .before .before .before .before .before .before .before .before .before .before .before .before .before .before .before .before .before .before .before .before .before .slice-known in
+    let if1 = c .before .before .before .before .before .before .before .before .before .before .before .before .before .before .before .before .before .before .before .before .before .before .before .before .if1 in
+    let rest-of = c .before .before .before .before .before .before .before .before .before .before .rest-of in
     let args = c .before .before .before .before .before .before .before .before .before .before .before .before .before .before .before .before .before .before .before .before .before .before .before .before .before .before .before .before .before .args in
-    let pre = c .before .before .before .before .before .before .before .before .before .before .before .before .before .before .before .before .before .before .before .before .before .before .before .before .before .before .before .before .before .pre .1 in
-    let more : 1 ≤ args .run .left = omega (arith, c .before .before .before .before .before .before .before .before .before .before .before .before .before .before .before .before .before .before .before .before .before .before .before .before .if1 .left) in
+    let pre = pre′ .1 in
+    let more : 1 ≤ args .run .left = omega (arith, if1 .left) in
     let first = c .before .before .before .before .before .before .before .before .before .before .before .before .before .before .before .before .before .before .before .before .before .first-of in
     let page = c .before .before .before .before .before .before .before .before .before .before .before .before .before .before .before .before .before .walk-page in
     let rest = c .before .before .before .before .before .before .walk-entries in
-    step-more (args .level) (args .n) (args .c) (args .a) (args .above) (args .run) (args .t .now) (args .filled) (args .keys .now) (args .records .now)
-    (pre .0) (c .before .before .before .before .before .before .before .before .before .before .before .before .before .before .before .before .before .before .before .before .before .before .before .before .before .before .before .before .slice-known .given) (pre .2) (pre .3) more (first .result) (first .ensures)
-    (page .last .0) (page .result) (page .last .1 .1 .1 .1 .1 .1 .1 .0) (page .last .1 .1 .1 .1 .1 .1 .1 .1 .0) (c .before .before .before .before .before .before .before .before .before .before .rest-of .result) (c .before .before .before .before .before .before .before .before .before .before .rest-of .ensures) (page .ensures)
-    (filling (rest .last .0) (rest .result) (rest .last .1 .1 .1 .1 .1 .1 .1 .0) (rest .last .1 .1 .1 .1 .1 .1 .1 .1 .0)) (rest .ensures)
+    step-more (args .level) (args .n) (args .c) (args .a) (args .above) (args .run) (args .t .now) (args .filled)
+    (args .keys .now) (args .records .now) (pre .0) (slice-known .given) (pre .2) (pre .3) more (first .result)
+    (first .ensures) (page .last .0) (page .result) (page .last .1 .1 .1 .1 .1 .1 .1 .0)
+    (page .last .1 .1 .1 .1 .1 .1 .1 .1 .0) (rest-of .result) (rest-of .ensures) (page .ensures)
+    (filling (rest .last .0) (rest .result) (rest .last .1 .1 .1 .1 .1 .1 .1 .0) (rest .last .1 .1 .1 .1 .1 .1 .1 .1 .0))
+    (rest .ensures)
 
 walk-page-enters-requires : (t : ℕ) → walk-page-lts.Need-enters-requires (walk-page-in t) (walk-page-at t) walk-page.Post
 walk-page-enters-requires t c κs = search needs
 
 walk-page-returns : (t : ℕ) → walk-page-lts.Need-returns (walk-page-in t) (walk-page-at t) walk-page.Post
 walk-page-returns t c =
+    let pre′ = c .before .before .before .before .before .pre in
+    let enters = c .before .enters in
     let args = c .before .before .before .before .before .args in
-    let pre = c .before .before .before .before .before .pre .1 in
-    let deep = level-from (args .level) (args .n) (args .c) (args .a) (args .above) (args .e) (args .t .now) (args .filled) (args .keys .now) (args .records .now) (pre .4) in
-    step-past (args .level) (args .n) (args .c) (args .a) (args .above) (args .e) (args .t .now) (args .filled) (args .keys .now) (args .records .now) deep (sym (c .before .enters .ensures) ∙ not-true (c .before .enters .result) (c .if1 .taken))
+    let pre = pre′ .1 in
+    let deep = level-from (args .level) (args .n) (args .c) (args .a) (args .above) (args .e) (args .t .now)
+    (args .filled) (args .keys .now) (args .records .now) (pre .4) in
+    step-past (args .level) (args .n) (args .c) (args .a) (args .above) (args .e) (args .t .now) (args .filled)
+    (args .keys .now) (args .records .now) deep (sym (enters .ensures) ∙ not-true (enters .result) (c .if1 .taken))
 
 walk-page-enter-requires : (t : ℕ) → walk-page-lts.Need-enter-requires (walk-page-in t) (walk-page-at t) walk-page.Post
-walk-page-enter-requires t c κs = let pre = c .before .before .before .before .before .before .pre .1 in (pre .0, pre .2 .child-below)
+walk-page-enter-requires t c κs =
+    let pre′ = c .before .before .before .before .before .before .pre in
+    let pre = pre′ .1 in
+    (pre .0, pre .2 .child-below)
 
 walk-page-enum-known-head : (t : ℕ) → walk-page-lts.Need-enum-known-head (walk-page-in t) (walk-page-at t) walk-page.Post
 walk-page-enum-known-head t c = search needs
@@ -153,14 +188,20 @@ walk-page-same-length t c = omega (arith, c .before .before .before .before .ent
 
 walk-page-returns-2 : (t : ℕ) → walk-page-lts.Need-returns-2 (walk-page-in t) (walk-page-at t) walk-page.Post
 walk-page-returns-2 t c =
+    let pre′ = c .before .before .before .before .before .before .before .before .before .before .before .pre in
+    let slice-known = c .before .before .before .before .before .before .before .before .before .before .slice-known in
+    let enters = c .before .before .before .before .before .before .before .enters in
+    let if1 = c .before .before .before .before .before .before .if1 in
+    let enter = c .before .before .before .before .enter in
     let args = c .before .before .before .before .before .before .before .before .before .before .before .args in
-    let pre = c .before .before .before .before .before .before .before .before .before .before .before .pre .1 in
-    let deep = level-from (args .level) (args .n) (args .c) (args .a) (args .above) (args .e) (args .t .now) (args .filled) (args .keys .now) (args .records .now) (pre .4) in
-    let meets = sym (c .before .before .before .before .before .before .before .enters .ensures) ∙ not-false (c .before .before .before .before .before .before .before .enters .result) (c .before .before .before .before .before .before .if1 .left) in
-    let table = c .before .before .before .before .enter .last .0 in
-    let told = ap (entering table) (sym (c .enum-told .given .1)) ∙ c .before .before .before .before .enter .ensures in
-    step-damaged (args .level) (args .n) (args .c) (args .a) (args .above) (args .e) (args .t .now) (args .filled) (args .keys .now) (args .records .now)
-    deep meets (pre .0) (c .before .before .before .before .before .before .before .before .before .before .slice-known .given) (pre .1) (pre .2) table told
+    let pre = pre′ .1 in
+    let deep = level-from (args .level) (args .n) (args .c) (args .a) (args .above) (args .e) (args .t .now)
+    (args .filled) (args .keys .now) (args .records .now) (pre .4) in
+    let meets = sym (enters .ensures) ∙ not-false (enters .result) (if1 .left) in
+    let table = enter .last .0 in
+    let told = ap (entering table) (sym (c .enum-told .given .1)) ∙ enter .ensures in
+    step-damaged (args .level) (args .n) (args .c) (args .a) (args .above) (args .e) (args .t .now) (args .filled)
+    (args .keys .now) (args .records .now) deep meets (pre .0) (slice-known .given) (pre .1) (pre .2) table told
 
 walk-page-cast-page : (t : ℕ) → walk-page-lts.Need-cast-page (walk-page-in t) (walk-page-at t) walk-page.Post
 walk-page-cast-page t c = search needs
@@ -170,21 +211,38 @@ walk-page-cast-fill-leaf-at t c = search needs
 
 walk-page-fill-leaf-at-requires : (t : ℕ) → walk-page-lts.Need-fill-leaf-at-requires (walk-page-in t) (walk-page-at t) walk-page.Post
 walk-page-fill-leaf-at-requires t c κs =
+    let pre′ = c .before .before .before .before .before .before .before .before .before .before .before .before .before .before .before .before .before .before .before .pre in
+    let slice-known = c .before .before .before .before .before .before .before .before .before .before .before .before .before .before .before .before .before .before .slice-known in
+    let enters = c .before .before .before .before .before .before .before .before .before .before .before .before .before .before .before .enters in
+    let if1 = c .before .before .before .before .before .before .before .before .before .before .before .before .before .before .if1 in
+    let enter = c .before .before .before .before .before .before .before .before .before .before .before .before .enter in
+    let head′ = c .before .before .before .before .before .before .before .before .head in
+    let if2 = c .before .before .before .before .if2 in
     let args = c .before .before .before .before .before .before .before .before .before .before .before .before .before .before .before .before .before .before .before .args in
-    let pre = c .before .before .before .before .before .before .before .before .before .before .before .before .before .before .before .before .before .before .before .pre .1 in
-    let deep = level-from (args .level) (args .n) (args .c) (args .a) (args .above) (args .e) (args .t .now) (args .filled) (args .keys .now) (args .records .now) (pre .4) in
-    let meets = sym (c .before .before .before .before .before .before .before .before .before .before .before .before .before .before .before .enters .ensures) ∙ not-false (c .before .before .before .before .before .before .before .before .before .before .before .before .before .before .before .enters .result) (c .before .before .before .before .before .before .before .before .before .before .before .before .before .before .if1 .left) in
-    let table = c .before .before .before .before .before .before .before .before .before .before .before .before .enter .last .0 in
-    let head = c .before .before .before .before .before .before .before .before .head .given .0 .0 in
-    let told = ap (entering table) (sym (c .before .before .before .before .before .before .before .before .head .given .1)) ∙ c .before .before .before .before .before .before .before .before .before .before .before .before .enter .ensures in
-    let room = leaf-room (args .level) (args .n) (args .c) (args .a) (args .above) (args .e) (args .t .now) (args .filled) (args .keys .now) (args .records .now)
-    deep meets (pre .0) (c .before .before .before .before .before .before .before .before .before .before .before .before .before .before .before .before .before .before .slice-known .given) (pre .1) (pre .2) table head told (c .before .before .before .before .if2 .taken) in
-    let rise = leaf-rise (args .level) (args .n) (args .c) (args .a) (args .above) (args .e) (args .t .now) (args .filled) (args .keys .now) (args .records .now)
-    deep meets (pre .0) (c .before .before .before .before .before .before .before .before .before .before .before .before .before .before .before .before .before .before .slice-known .given) (pre .1) (pre .2) table head told (c .before .before .before .before .if2 .taken) in
-    (omega (arith, c .before .before .before .before .before .before .before .before .before .before .before .before .enter .kept .0, pre .0, pre .2 .child-below), room, rise, room-entered (args .a) (args .e) (args .filled) meets, pre .3)
+    let pre = pre′ .1 in
+    let deep = level-from (args .level) (args .n) (args .c) (args .a) (args .above) (args .e) (args .t .now)
+    (args .filled) (args .keys .now) (args .records .now) (pre .4) in
+    let meets = sym (enters .ensures) ∙ not-false (enters .result) (if1 .left) in
+    let table = enter .last .0 in
+    let head = head′ .given .0 .0 in
+    let told = ap (entering table) (sym (head′ .given .1)) ∙ enter .ensures in
+    let room = leaf-room (args .level) (args .n) (args .c) (args .a) (args .above) (args .e) (args .t .now)
+    (args .filled) (args .keys .now) (args .records .now) deep meets (pre .0) (slice-known .given) (pre .1) (pre .2)
+    table head told (if2 .taken) in
+    let rise = leaf-rise (args .level) (args .n) (args .c) (args .a) (args .above) (args .e) (args .t .now)
+    (args .filled) (args .keys .now) (args .records .now) deep meets (pre .0) (slice-known .given) (pre .1) (pre .2)
+    table head told (if2 .taken) in (
+      omega (arith, enter .kept .0, pre .0, pre .2 .child-below),
+      room,
+      rise,
+      room-entered (args .a) (args .e) (args .filled) meets,
+      pre .3,
+    )
 
 walk-page-same-length-2 : (t : ℕ) → walk-page-lts.Need-same-length-2 (walk-page-in t) (walk-page-at t) walk-page.Post
-walk-page-same-length-2 t c = omega (arith, c .before .before .before .before .before .before .before .before .before .before .before .before .before .before .before .before .before .enter .kept .0)
+walk-page-same-length-2 t c =
+    let enter = c .before .before .before .before .before .before .before .before .before .before .before .before .before .before .before .before .before .enter in
+    omega (arith, enter .kept .0)
 
 walk-page-same-length-3 : (t : ℕ) → walk-page-lts.Need-same-length-3 (walk-page-in t) (walk-page-at t) walk-page.Post
 walk-page-same-length-3 t c = omega (arith, c .before .before .before .before .fill-leaf-at .kept .1 .1 .1 .1 .0)
@@ -194,74 +252,123 @@ walk-page-same-length-4 t c = omega (arith, c .before .before .before .before .f
 
 walk-page-returns-3 : (t : ℕ) → walk-page-lts.Need-returns-3 (walk-page-in t) (walk-page-at t) walk-page.Post
 walk-page-returns-3 t c =
+    let pre′ = c .before .before .before .before .before .before .before .before .before .before .before .before .before .before .before .before .before .before .before .before .before .before .before .before .pre in
+    let slice-known = c .before .before .before .before .before .before .before .before .before .before .before .before .before .before .before .before .before .before .before .before .before .before .before .slice-known in
+    let enters = c .before .before .before .before .before .before .before .before .before .before .before .before .before .before .before .before .before .before .before .before .enters in
+    let if1 = c .before .before .before .before .before .before .before .before .before .before .before .before .before .before .before .before .before .before .before .if1 in
+    let enter = c .before .before .before .before .before .before .before .before .before .before .before .before .before .before .before .before .before .enter in
+    let head′ = c .before .before .before .before .before .before .before .before .before .before .before .before .before .head in
+    let if2 = c .before .before .before .before .before .before .before .before .before .if2 in
     let args = c .before .before .before .before .before .before .before .before .before .before .before .before .before .before .before .before .before .before .before .before .before .before .before .before .args in
-    let pre = c .before .before .before .before .before .before .before .before .before .before .before .before .before .before .before .before .before .before .before .before .before .before .before .before .pre .1 in
-    let deep = level-from (args .level) (args .n) (args .c) (args .a) (args .above) (args .e) (args .t .now) (args .filled) (args .keys .now) (args .records .now) (pre .4) in
-    let meets = sym (c .before .before .before .before .before .before .before .before .before .before .before .before .before .before .before .before .before .before .before .before .enters .ensures) ∙ not-false (c .before .before .before .before .before .before .before .before .before .before .before .before .before .before .before .before .before .before .before .before .enters .result) (c .before .before .before .before .before .before .before .before .before .before .before .before .before .before .before .before .before .before .before .if1 .left) in
-    let table = c .before .before .before .before .before .before .before .before .before .before .before .before .before .before .before .before .before .enter .last .0 in
-    let head = c .before .before .before .before .before .before .before .before .before .before .before .before .before .head .given .0 .0 in
-    let told = ap (entering table) (sym (c .before .before .before .before .before .before .before .before .before .before .before .before .before .head .given .1)) ∙ c .before .before .before .before .before .before .before .before .before .before .before .before .before .before .before .before .before .enter .ensures in
+    let pre = pre′ .1 in
+    let deep = level-from (args .level) (args .n) (args .c) (args .a) (args .above) (args .e) (args .t .now)
+    (args .filled) (args .keys .now) (args .records .now) (pre .4) in
+    let meets = sym (enters .ensures) ∙ not-false (enters .result) (if1 .left) in
+    let table = enter .last .0 in
+    let head = head′ .given .0 .0 in
+    let told = ap (entering table) (sym (head′ .given .1)) ∙ enter .ensures in
     let filled = c .before .before .before .before .fill-leaf-at in
-    step-leaf (args .level) (args .n) (args .c) (args .a) (args .above) (args .e) (args .t .now) (args .filled) (args .keys .now) (args .records .now)
-    deep meets (pre .0) (c .before .before .before .before .before .before .before .before .before .before .before .before .before .before .before .before .before .before .before .before .before .before .before .slice-known .given) (pre .1) (pre .2) table head told (c .before .before .before .before .before .before .before .before .before .if2 .taken) (filled .result) (filled .last .1 .1 .1 .1 .0) (filled .last .1 .1 .1 .1 .1 .0) (filled .ensures)
+    step-leaf (args .level) (args .n) (args .c) (args .a) (args .above) (args .e) (args .t .now) (args .filled)
+    (args .keys .now) (args .records .now) deep meets (pre .0) (slice-known .given) (pre .1) (pre .2) table head told
+    (if2 .taken) (filled .result) (filled .last .1 .1 .1 .1 .0) (filled .last .1 .1 .1 .1 .1 .0) (filled .ensures)
 
 walk-page-run-of-requires : (t : ℕ) → walk-page-lts.Need-run-of-requires (walk-page-in t) (walk-page-at t) walk-page.Post
 walk-page-run-of-requires t c κs =
+    let pre′ = c .before .before .before .before .before .before .before .before .before .before .before .before .before .before .before .pre in
+    let slice-known = c .before .before .before .before .before .before .before .before .before .before .before .before .before .before .slice-known in
+    let enters = c .before .before .before .before .before .before .before .before .before .before .before .enters in
+    let if1 = c .before .before .before .before .before .before .before .before .before .before .if1 in
+    let enter = c .before .before .before .before .before .before .before .before .enter in
+    let head′ = c .before .before .before .before .head in
     let args = c .before .before .before .before .before .before .before .before .before .before .before .before .before .before .before .args in
-    let pre = c .before .before .before .before .before .before .before .before .before .before .before .before .before .before .before .pre .1 in
-    let deep = level-from (args .level) (args .n) (args .c) (args .a) (args .above) (args .e) (args .t .now) (args .filled) (args .keys .now) (args .records .now) (pre .4) in
-    let meets = sym (c .before .before .before .before .before .before .before .before .before .before .before .enters .ensures) ∙ not-false (c .before .before .before .before .before .before .before .before .before .before .before .enters .result) (c .before .before .before .before .before .before .before .before .before .before .if1 .left) in
-    let table = c .before .before .before .before .before .before .before .before .enter .last .0 in
-    let head = c .before .before .before .before .head .given .0 .0 in
-    let told = ap (entering table) (sym (c .before .before .before .before .head .given .1)) ∙ c .before .before .before .before .before .before .before .before .enter .ensures in
-    sweeps.kind-from (args .level) (args .n) (args .c) (args .a) (args .above) (args .e) (args .t .now) (sofar (args .filled))
-    deep meets (pre .0) (c .before .before .before .before .before .before .before .before .before .before .before .before .before .before .slice-known .given) (pre .1) (pre .2) table head told
+    let pre = pre′ .1 in
+    let deep = level-from (args .level) (args .n) (args .c) (args .a) (args .above) (args .e) (args .t .now)
+    (args .filled) (args .keys .now) (args .records .now) (pre .4) in
+    let meets = sym (enters .ensures) ∙ not-false (enters .result) (if1 .left) in
+    let table = enter .last .0 in
+    let head = head′ .given .0 .0 in
+    let told = ap (entering table) (sym (head′ .given .1)) ∙ enter .ensures in
+    sweeps.kind-from (args .level) (args .n) (args .c) (args .a) (args .above) (args .e) (args .t .now)
+    (sofar (args .filled)) deep meets (pre .0) (slice-known .given) (pre .1) (pre .2) table head told
 
 walk-page-sub-walk-entries : (t : ℕ) → walk-page-lts.Need-sub-walk-entries (walk-page-in t) (walk-page-at t) walk-page.Post
 walk-page-sub-walk-entries t c =
+    let pre′ = c .before .before .before .before .before .before .before .before .before .before .before .before .before .before .before .before .before .pre in
     let args = c .before .before .before .before .before .before .before .before .before .before .before .before .before .before .before .before .before .args in
-    let pre = c .before .before .before .before .before .before .before .before .before .before .before .before .before .before .before .before .before .pre .1 in
-    let deep = level-from (args .level) (args .n) (args .c) (args .a) (args .above) (args .e) (args .t .now) (args .filled) (args .keys .now) (args .records .now) (pre .4) in
+    let pre = pre′ .1 in
+    let deep = level-from (args .level) (args .n) (args .c) (args .a) (args .above) (args .e) (args .t .now)
+    (args .filled) (args .keys .now) (args .records .now) (pre .4) in
     omega arith
 
 walk-page-walk-entries-requires : (t : ℕ) → walk-page-lts.Need-walk-entries-requires (walk-page-in t) (walk-page-at t) walk-page.Post
 walk-page-walk-entries-requires t c κs =
+    let pre′ = c .before .before .before .before .before .before .before .before .before .before .before .before .before .before .before .before .before .before .before .pre in
+    let slice-known = c .before .before .before .before .before .before .before .before .before .before .before .before .before .before .before .before .before .before .slice-known in
+    let enters = c .before .before .before .before .before .before .before .before .before .before .before .before .before .before .before .enters in
+    let if1 = c .before .before .before .before .before .before .before .before .before .before .before .before .before .before .if1 in
+    let enter = c .before .before .before .before .before .before .before .before .before .before .before .before .enter in
+    let head′ = c .before .before .before .before .before .before .before .before .head in
+    let if2 = c .before .before .before .before .if2 in
+    let run-of = c .before .before .before .run-of in
     let args = c .before .before .before .before .before .before .before .before .before .before .before .before .before .before .before .before .before .before .before .args in
-    let pre = c .before .before .before .before .before .before .before .before .before .before .before .before .before .before .before .before .before .before .before .pre .1 in
-    let deep = level-from (args .level) (args .n) (args .c) (args .a) (args .above) (args .e) (args .t .now) (args .filled) (args .keys .now) (args .records .now) (pre .4) in
-    let meets = sym (c .before .before .before .before .before .before .before .before .before .before .before .before .before .before .before .enters .ensures) ∙ not-false (c .before .before .before .before .before .before .before .before .before .before .before .before .before .before .before .enters .result) (c .before .before .before .before .before .before .before .before .before .before .before .before .before .before .if1 .left) in
-    let table = c .before .before .before .before .before .before .before .before .before .before .before .before .enter .last .0 in
-    let head = c .before .before .before .before .before .before .before .before .head .given .0 .0 in
-    let told = ap (entering table) (sym (c .before .before .before .before .before .before .before .before .head .given .1)) ∙ c .before .before .before .before .before .before .before .before .before .before .before .before .enter .ensures in
-    let lies = sweeps.lies (args .level) (args .n) (args .c) (args .a) (args .above) (args .e) (args .t .now) (sofar (args .filled))
-    deep meets (pre .0) (c .before .before .before .before .before .before .before .before .before .before .before .before .before .before .before .before .before .before .slice-known .given) (pre .1) (pre .2) table head told (c .before .before .before .run-of .result) (c .before .before .before .run-of .ensures) in
-    let known = inner-known (args .level) (args .n) (args .c) (args .a) (args .above) (args .e) (args .t .now) (args .filled) (args .keys .now) (args .records .now)
-    deep meets (pre .0) (c .before .before .before .before .before .before .before .before .before .before .before .before .before .before .before .before .before .before .slice-known .given) (pre .1) (pre .2) table head told (c .before .before .before .before .if2 .left) (c .before .before .before .run-of .result) (c .before .before .before .run-of .ensures) (pre .4) in
-    let below = sweeps.deep-below (args .level) (args .above) (args .e) deep (pre .1) in
-    (omega (arith, c .before .before .before .before .before .before .before .before .before .before .before .before .before .before .before .before .before .before .before .pre .0, lies .left, lies .room), (omega (arith, c .before .before .before .before .before .before .before .before .before .before .before .before .enter .kept .0, pre .0), below, omega (arith, pre .1 .most), lies, pre .3, known))
+    let pre = pre′ .1 in
+    let deep = level-from (args .level) (args .n) (args .c) (args .a) (args .above) (args .e) (args .t .now)
+    (args .filled) (args .keys .now) (args .records .now) (pre .4) in
+    let meets = sym (enters .ensures) ∙ not-false (enters .result) (if1 .left) in
+    let table = enter .last .0 in
+    let head = head′ .given .0 .0 in
+    let told = ap (entering table) (sym (head′ .given .1)) ∙ enter .ensures in
+    let lies = sweeps.lies (args .level) (args .n) (args .c) (args .a) (args .above) (args .e) (args .t .now)
+    (sofar (args .filled)) deep meets (pre .0) (slice-known .given) (pre .1) (pre .2) table head told (run-of .result)
+    (run-of .ensures) in
+    let known = inner-known (args .level) (args .n) (args .c) (args .a) (args .above) (args .e) (args .t .now)
+    (args .filled) (args .keys .now) (args .records .now) deep meets (pre .0) (slice-known .given) (pre .1) (pre .2)
+    table head told (if2 .left) (run-of .result) (run-of .ensures) (pre .4) in
+    let below = sweeps.deep-below (args .level) (args .above) (args .e) deep (pre .1) in (
+      omega (arith, pre′ .0, lies .left, lies .room),
+      (omega (arith, enter .kept .0, pre .0), below, omega (arith, pre .1 .most), lies, pre .3, known),
+    )
 
 walk-page-same-length-5 : (t : ℕ) → walk-page-lts.Need-same-length-5 (walk-page-in t) (walk-page-at t) walk-page.Post
-walk-page-same-length-5 t c = omega (arith, c .before .before .before .before .before .before .walk-entries .kept .0, c .before .before .before .before .before .before .before .before .before .before .before .before .before .before .before .before .before .before .before .enter .kept .0)
+walk-page-same-length-5 t c =
+    let enter = c .before .before .before .before .before .before .before .before .before .before .before .before .before .before .before .before .before .before .before .enter in
+    let walk-entries′ = c .before .before .before .before .before .before .walk-entries in
+    omega (arith, walk-entries′ .kept .0, enter .kept .0)
 
 walk-page-same-length-6 : (t : ℕ) → walk-page-lts.Need-same-length-6 (walk-page-in t) (walk-page-at t) walk-page.Post
-walk-page-same-length-6 t c = omega (arith, c .before .before .before .before .before .before .walk-entries .kept .1 .1 .1 .1 .1 .1 .1 .0)
+walk-page-same-length-6 t c =
+    let walk-entries′ = c .before .before .before .before .before .before .walk-entries in
+    omega (arith, walk-entries′ .kept .1 .1 .1 .1 .1 .1 .1 .0)
 
 walk-page-same-length-7 : (t : ℕ) → walk-page-lts.Need-same-length-7 (walk-page-in t) (walk-page-at t) walk-page.Post
-walk-page-same-length-7 t c = omega (arith, c .before .before .before .before .before .before .walk-entries .kept .1 .1 .1 .1 .1 .1 .1 .1 .0)
+walk-page-same-length-7 t c =
+    let walk-entries′ = c .before .before .before .before .before .before .walk-entries in
+    omega (arith, walk-entries′ .kept .1 .1 .1 .1 .1 .1 .1 .1 .0)
 
 walk-page-returns-4 : (t : ℕ) → walk-page-lts.Need-returns-4 (walk-page-in t) (walk-page-at t) walk-page.Post
 walk-page-returns-4 t c =
+    let pre′ = c .before .before .before .before .before .before .before .before .before .before .before .before .before .before .before .before .before .before .before .before .before .before .before .before .before .before .pre in
+    let slice-known = c .before .before .before .before .before .before .before .before .before .before .before .before .before .before .before .before .before .before .before .before .before .before .before .before .before .slice-known in
+    let enters = c .before .before .before .before .before .before .before .before .before .before .before .before .before .before .before .before .before .before .before .before .before .before .enters in
+    let if1 = c .before .before .before .before .before .before .before .before .before .before .before .before .before .before .before .before .before .before .before .before .before .if1 in
+    let enter = c .before .before .before .before .before .before .before .before .before .before .before .before .before .before .before .before .before .before .before .enter in
+    let head′ = c .before .before .before .before .before .before .before .before .before .before .before .before .before .before .before .head in
+    let if2 = c .before .before .before .before .before .before .before .before .before .before .before .if2 in
+    let run-of = c .before .before .before .before .before .before .before .before .before .before .run-of in
     let args = c .before .before .before .before .before .before .before .before .before .before .before .before .before .before .before .before .before .before .before .before .before .before .before .before .before .before .args in
-    let pre = c .before .before .before .before .before .before .before .before .before .before .before .before .before .before .before .before .before .before .before .before .before .before .before .before .before .before .pre .1 in
-    let deep = level-from (args .level) (args .n) (args .c) (args .a) (args .above) (args .e) (args .t .now) (args .filled) (args .keys .now) (args .records .now) (pre .4) in
-    let meets = sym (c .before .before .before .before .before .before .before .before .before .before .before .before .before .before .before .before .before .before .before .before .before .before .enters .ensures) ∙ not-false (c .before .before .before .before .before .before .before .before .before .before .before .before .before .before .before .before .before .before .before .before .before .before .enters .result) (c .before .before .before .before .before .before .before .before .before .before .before .before .before .before .before .before .before .before .before .before .before .if1 .left) in
-    let table = c .before .before .before .before .before .before .before .before .before .before .before .before .before .before .before .before .before .before .before .enter .last .0 in
-    let head = c .before .before .before .before .before .before .before .before .before .before .before .before .before .before .before .head .given .0 .0 in
-    let told = ap (entering table) (sym (c .before .before .before .before .before .before .before .before .before .before .before .before .before .before .before .head .given .1)) ∙ c .before .before .before .before .before .before .before .before .before .before .before .before .before .before .before .before .before .before .before .enter .ensures in
+    let pre = pre′ .1 in
+    let deep = level-from (args .level) (args .n) (args .c) (args .a) (args .above) (args .e) (args .t .now)
+    (args .filled) (args .keys .now) (args .records .now) (pre .4) in
+    let meets = sym (enters .ensures) ∙ not-false (enters .result) (if1 .left) in
+    let table = enter .last .0 in
+    let head = head′ .given .0 .0 in
+    let told = ap (entering table) (sym (head′ .given .1)) ∙ enter .ensures in
     let rest = c .before .before .before .before .before .before .walk-entries in
-    step-inner (args .level) (args .n) (args .c) (args .a) (args .above) (args .e) (args .t .now) (args .filled) (args .keys .now) (args .records .now)
-    deep meets (pre .0) (c .before .before .before .before .before .before .before .before .before .before .before .before .before .before .before .before .before .before .before .before .before .before .before .before .before .slice-known .given) (pre .1) (pre .2) table head told (c .before .before .before .before .before .before .before .before .before .before .before .if2 .left) (c .before .before .before .before .before .before .before .before .before .before .run-of .result) (c .before .before .before .before .before .before .before .before .before .before .run-of .ensures)
-    (filling (rest .last .0) (rest .result) (rest .last .1 .1 .1 .1 .1 .1 .1 .0) (rest .last .1 .1 .1 .1 .1 .1 .1 .1 .0)) (rest .ensures)
+    step-inner (args .level) (args .n) (args .c) (args .a) (args .above) (args .e) (args .t .now) (args .filled)
+    (args .keys .now) (args .records .now) deep meets (pre .0) (slice-known .given) (pre .1) (pre .2) table head told
+    (if2 .left) (run-of .result) (run-of .ensures)
+    (filling (rest .last .0) (rest .result) (rest .last .1 .1 .1 .1 .1 .1 .1 .0) (rest .last .1 .1 .1 .1 .1 .1 .1 .1 .0))
+    (rest .ensures)
 
 pub +walk-entries+walk-page-spec : {M : Type 1} → statement M
 +walk-entries+walk-page-spec = close μ-walk-entries μ-walk-page (λ t. walk-entries-lts.spec (walk-entries-in t)

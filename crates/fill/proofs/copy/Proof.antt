@@ -22,8 +22,13 @@ abbrev μ-loop : tie.MeasureT-loop
 loop-holds : tie.Need-loop-holds Inv-loop μ-loop
 loop-holds c =
     let args = c .before .before .before .args in
-    let certs = certsFrom (args .page .now) (args .first) (args .many) in
-    (omega arith, refl, refl, paste-zero (args .keys .now) (args .filled) (entry.keys certs), paste-zero (args .records .now) (args .filled) (recordsOf certs))
+    let certs = certsFrom (args .page .now) (args .first) (args .many) in (
+      omega arith,
+      refl,
+      refl,
+      paste-zero (args .keys .now) (args .filled) (entry.keys certs),
+      paste-zero (args .records .now) (args .filled) (recordsOf certs),
+    )
 
 add-cert-key : tie.Need-add-cert-key Inv-loop μ-loop
 add-cert-key c = search needs
@@ -63,6 +68,7 @@ loop-less c = search needs
 
 loop-again : tie.Need-loop-again Inv-loop μ-loop
 loop-again c =
+    let loop-test = c .before .before .loop-test in
     let args = c .before .before .before .before .before .before .before .args in
     let pre = c .before .before .before .before .before .before .before .pre in
     let loop = c .before .before .before .loop in
@@ -71,11 +77,11 @@ loop-again c =
     let value = c .cert-record in
     let long = length-set (loop .keys) at (key .result) ∙ loop .inv .1 in
     let wide = length-set (loop .records) at (value .result) ∙ loop .inv .2 in
-    let keys = key-turn (args .page .now) (args .first) (args .many) (args .keys .now) (loop .keys) (args .filled) (loop .j) (key .result)
-    (c .before .before .loop-test .taken) (pre .2) (loop .inv .3) (key .ensures) in
-    let records = record-turn (args .page .now) (args .first) (args .many) (args .records .now) (loop .records) (args .filled) (loop .j) (value .result)
-    (c .before .before .loop-test .taken) (pre .3) (loop .inv .4) (value .ensures) in
-    (omega (arith, c .before .before .loop-test .taken), long, wide, keys, records)
+    let keys = key-turn (args .page .now) (args .first) (args .many) (args .keys .now) (loop .keys) (args .filled)
+    (loop .j) (key .result) (loop-test .taken) (pre .2) (loop .inv .3) (key .ensures) in
+    let records = record-turn (args .page .now) (args .first) (args .many) (args .records .now) (loop .records)
+    (args .filled) (loop .j) (value .result) (loop-test .taken) (pre .3) (loop .inv .4) (value .ensures) in
+    (omega (arith, loop-test .taken), long, wide, keys, records)
 
 add-result : tie.Need-add-result Inv-loop μ-loop
 add-result c = search needs
@@ -90,8 +96,9 @@ returns : tie.Need-returns Inv-loop μ-loop
 returns c =
     let args = c .before .before .before .before .before .args in
     let loop = c .before .loop in
-    copied (args .page .now) (args .first) (args .many) (args .filled) (args .keys .now) (args .records .now) (loop .keys) (loop .records) (loop .j)
-    (omega (arith, loop .inv .0, c .loop-test .left)) (loop .inv .3) (loop .inv .4)
+    copied (args .page .now) (args .first) (args .many) (args .filled) (args .keys .now) (args .records .now)
+    (loop .keys) (loop .records) (loop .j) (omega (arith, loop .inv .0, c .loop-test .left)) (loop .inv .3)
+    (loop .inv .4)
 
 pub copy-spec : {M : Type 1} → statement M
 copy-spec =

@@ -17,11 +17,20 @@ root-place-requires c κs =
 
 walk-page-requires : tie.Need-walk-page-requires
 walk-page-requires c κs =
+    let fits = c .before .before .before .before .before .before .before .before .fits in
+    let slice-known = c .before .before .before .before .before .before .before .slice-known in
     let args = c .before .before .before .before .before .before .before .before .args in
     let pre = c .before .before .before .before .before .before .before .before .pre in
     let root = c .before .before .before .root-place in
-    let ready = ready-root (args .n) (args .c) (args .t .now) (root .result) (pre .1) (c .before .before .before .before .before .before .before .slice-known .given) (omega (arith, c .before .before .before .before .before .before .before .before .fits .c)) (root .ensures) in
-    (pre .0, no-above, ready, pre .2, known-nothing (args .n) (args .c) (args .a) (args .t .now) (args .keys .now) (args .records .now) (root .result) (root .ensures) (pre .3))
+    let ready = ready-root (args .n) (args .c) (args .t .now) (root .result) (pre .1) (slice-known .given)
+    (omega (arith, fits .c)) (root .ensures) in (
+      pre .0,
+      no-above,
+      ready,
+      pre .2,
+      known-nothing (args .n) (args .c) (args .a) (args .t .now) (args .keys .now) (args .records .now) (root .result)
+          (root .ensures) (pre .3),
+    )
 
 same-length : tie.Need-same-length
 same-length c = search needs
@@ -34,11 +43,14 @@ same-length-3 c = search needs
 
 returns : tie.Need-returns
 returns c =
+    let pre = c .before .before .before .before .before .before .before .before .before .before .before .before .before .before .before .pre in
     let args = c .before .before .before .before .before .before .before .before .before .before .before .before .before .before .before .args in
     let root = c .before .before .before .before .before .before .before .before .before .before .root-place in
     let walked = c .before .before .before .before .before .before .walk-page in
-    whole-walk (args .n) (args .c) (args .a) (args .t .now) (args .keys .now) (args .records .now) (root .result) (root .ensures) (c .before .before .before .before .before .before .before .before .before .before .before .before .before .before .before .pre .3)
-    (filling (walked .last .0) (walked .result) (walked .last .1 .1 .1 .1 .1 .1 .1 .0) (walked .last .1 .1 .1 .1 .1 .1 .1 .1 .0)) (walked .ensures)
+    whole-walk (args .n) (args .c) (args .a) (args .t .now) (args .keys .now) (args .records .now) (root .result)
+    (root .ensures) (pre .3)
+    (filling (walked .last .0) (walked .result) (walked .last .1 .1 .1 .1 .1 .1 .1 .0) (walked .last .1 .1 .1 .1 .1 .1 .1 .1 .0))
+    (walked .ensures)
 
 pub fill-spec : {M : Type 1} → statement M
 fill-spec =

@@ -24,11 +24,15 @@ span-requires c κs = search needs
 
 copy-requires : tie.Need-copy-requires
 copy-requires c κs =
+    let start = c .before .before .before .before .before .start in
+    let spot = c .before .before .before .before .spot in
+    let span = c .before .before .span in
     let args = c .before .before .before .before .before .before .before .before .before .args in
     let pre = c .before .before .before .before .before .before .before .before .before .pre in
-    let within = run-within (args .page .now) (args .count) (args .a) (args .filled) (pre .2) (c .before .before .before .before .before .start .result) (c .before .before .before .before .spot .result) (c .before .before .span .result)
-    (c .before .before .before .before .before .start .ensures) (c .before .before .before .before .spot .ensures) (c .before .before .span .ensures) in
-    let room = run-room (args .a .room) (args .filled) (c .before .before .before .before .spot .result) (c .before .before .before .before .before .start .result) (c .before .before .span .result) (pre .3) (c .before .before .span .ensures) in
+    let within = run-within (args .page .now) (args .count) (args .a) (args .filled) (pre .2) (start .result)
+    (spot .result) (span .result) (start .ensures) (spot .ensures) (span .ensures) in
+    let room = run-room (args .a .room) (args .filled) (spot .result) (start .result) (span .result) (pre .3)
+    (span .ensures) in
     (omega (arith, pre .0), pre .1, omega (arith, pre .4 .keys), omega (arith, pre .4 .records))
 
 same-length : tie.Need-same-length
@@ -39,12 +43,14 @@ same-length-2 c = search needs
 
 returns : tie.Need-returns
 returns c =
+    let start = c .before .before .before .before .before .before .before .before .before .before .start in
+    let spot = c .before .before .before .before .before .before .before .before .before .spot in
+    let span = c .before .before .before .before .before .before .before .span in
+    let copy = c .before .before .before .before .copy in
     let args = c .before .before .before .before .before .before .before .before .before .before .before .before .before .before .args in
     let pre = c .before .before .before .before .before .before .before .before .before .before .before .before .before .before .pre in
-    c .before .before .before .before .copy .ensures
-    ∙ ap (λ (xs : List Cert). listed xs (args .filled) (args .keys .now) (args .records .now))
-    (asked-run (args .page .now) (args .count) (args .a) (args .filled) (pre .2) (c .before .before .before .before .before .before .before .before .before .before .start .result) (c .before .before .before .before .before .before .before .before .before .spot .result) (c .before .before .before .before .before .before .before .span .result)
-    (c .before .before .before .before .before .before .before .before .before .before .start .ensures) (c .before .before .before .before .before .before .before .before .before .spot .ensures) (c .before .before .before .before .before .before .before .span .ensures))
+    copy .ensures ∙ ap (λ (xs : List Cert). listed xs (args .filled) (args .keys .now) (args .records .now))
+    (asked-run (args .page .now) (args .count) (args .a) (args .filled) (pre .2) (start .result) (spot .result) (span .result) (start .ensures) (spot .ensures) (span .ensures))
 
 pub fill-leaf-spec : {M : Type 1} → statement M
 fill-leaf-spec =

@@ -27,7 +27,8 @@ fill-leaf-requires c κs =
     let args = c .before .before .before .before .before .before .args in
     let pre = c .before .before .before .before .before .before .pre in
     let long = length-pageAt (args .t .now) (args .page) (omega arith) in
-    rw (page-part (args .t .now) (args .page)) (omega (arith, long, pre .1), omega (arith, long), pre .2, pre .3, pre .4)
+    rw (page-part (args .t .now) (args .page))
+    (omega (arith, long, pre .1), omega (arith, long), pre .2, pre .3, pre .4)
 
 same-length : tie.Need-same-length
 same-length c = search needs
@@ -36,7 +37,10 @@ same-length-2 : tie.Need-same-length-2
 same-length-2 c = search needs
 
 returns : tie.Need-returns
-returns c = rw (page-part (c .before .before .before .before .before .before .before .before .before .before .before .args .t .now) (c .before .before .before .before .before .before .before .before .before .before .before .args .page)) at (c .before .before .before .before .fill-leaf .ensures)
+returns c =
+    let args = c .before .before .before .before .before .before .before .before .before .before .before .args in
+    let fill-leaf = c .before .before .before .before .fill-leaf in
+    rw (page-part (args .t .now) (args .page)) at (fill-leaf .ensures)
 
 pub fill-leaf-at-spec : {M : Type 1} → statement M
 fill-leaf-at-spec =

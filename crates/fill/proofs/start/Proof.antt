@@ -19,7 +19,10 @@ spot-requires : tie.Need-spot-requires
 spot-requires c κs = search needs
 
 returns-2 : tie.Need-returns-2
-returns-2 c = c .spot .ensures ∙ sym (start-spot (c .before .before .before .args .low) (keysIn certSize (c .before .before .before .args .count) (c .before .before .before .args .page .now)) (let o = c .before .if1 .left in omega arith))
+returns-2 c =
+    let args = c .before .before .before .args in
+    c .spot .ensures ∙ sym
+    (start-spot (args .low) (keysIn certSize (args .count) (args .page .now)) (let o = c .before .if1 .left in omega arith))
 
 pub start-spec : {M : Type 1} → statement M
 start-spec = tie.close (tie.spec returns sub-spot spot-requires returns-2)

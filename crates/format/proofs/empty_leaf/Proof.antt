@@ -15,24 +15,35 @@ put32-requires : tie.Need-put32-requires
 put32-requires c κs = omega (arith, ap length (c .before .before .before .before .before .before .pre), length-blank)
 
 put32-requires-2 : tie.Need-put32-requires-2
-put32-requires-2 c κs = omega (arith, ap length (c .before .before .before .before .before .before .before .before .before .before .pre), length-blank)
+put32-requires-2 c κs =
+    let pre = c .before .before .before .before .before .before .before .before .before .before .pre in
+    omega (arith, ap length pre, length-blank)
 
 put32-requires-3 : tie.Need-put32-requires-3
-put32-requires-3 c κs = omega (arith, ap length (c .before .before .before .before .before .before .before .before .before .before .before .before .before .before .pre), length-blank)
+put32-requires-3 c κs =
+    let pre = c .before .before .before .before .before .before .before .before .before .before .before .before .before .before .pre in
+    omega (arith, ap length pre, length-blank)
 
 put64-requires : tie.Need-put64-requires
-put64-requires c κs = omega (arith, ap length (c .before .before .before .before .before .before .before .before .before .before .before .before .before .before .before .before .before .before .pre), length-blank)
+put64-requires c κs =
+    let pre = c .before .before .before .before .before .before .before .before .before .before .before .before .before .before .before .before .before .before .pre in
+    omega (arith, ap length pre, length-blank)
 
 same-length : tie.Need-same-length
 same-length c = search needs
 
 returns : tie.Need-returns
 returns c =
-    let kind = c .before .before .before .before .before .before .before .before .before .before .before .before .before .before .before .before .before .before .put16 .ensures in
-    let birth = c .before .before .before .before .before .before .before .before .before .before .before .before .before .before .put32 .ensures in
-    let built = c .before .before .before .before .before .before .before .before .before .before .put322 .ensures in
-    let touched = c .before .before .before .before .before .before .put323 .ensures in
-    rw (c .before .before .put64 .ensures, touched, built, birth, kind, c .before .before .before .before .before .before .before .before .before .before .before .before .before .before .before .before .before .before .before .before .before .pre) leaf-bytes
+    let pre = c .before .before .before .before .before .before .before .before .before .before .before .before .before .before .before .before .before .before .before .before .before .pre in
+    let put16 = c .before .before .before .before .before .before .before .before .before .before .before .before .before .before .before .before .before .before .put16 in
+    let put32 = c .before .before .before .before .before .before .before .before .before .before .before .before .before .before .put32 in
+    let put322 = c .before .before .before .before .before .before .before .before .before .before .put322 in
+    let put323 = c .before .before .before .before .before .before .put323 in
+    let kind = put16 .ensures in
+    let birth = put32 .ensures in
+    let built = put322 .ensures in
+    let touched = put323 .ensures in
+    rw (c .before .before .put64 .ensures, touched, built, birth, kind, pre) leaf-bytes
 
 pub empty-leaf-spec : {M : Type 1} → statement M
 empty-leaf-spec =

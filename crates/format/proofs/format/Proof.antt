@@ -23,11 +23,15 @@ same-length c = search needs
 
 returns : tie.Need-returns
 returns c =
-    let failed = sym (c .before .good-lengths .ensures) ∙ not-true (c .before .good-lengths .result) (c .if1 .taken) in
-    refused (c .before .before .before .before .before .args .working .now) (c .before .before .before .before .before .args .stable .now) failed
+    let args = c .before .before .before .before .before .args in
+    let good-lengths = c .before .good-lengths in
+    let failed = sym (good-lengths .ensures) ∙ not-true (good-lengths .result) (c .if1 .taken) in
+    refused (args .working .now) (args .stable .now) failed
 
 cast-n : tie.Need-cast-n
-cast-n c = omega (arith, few (c .before .before .before .before .before .args .working .now) (c .before .before .before .before .before .args .stable .now) (passed c))
+cast-n c =
+    let args = c .before .before .before .before .before .args in
+    omega (arith, few (args .working .now) (args .stable .now) (passed c))
 
 clear-requires : tie.Need-clear-requires
 clear-requires c κs = search needs
@@ -35,7 +39,8 @@ clear-requires c κs = search needs
 name-root-requires : tie.Need-name-root-requires
 name-root-requires c κs =
     let a = c .before .before .before .before .before .before .before .before .before .before .args in
-    omega (arith, c .before .before .before .clear .kept .0, long (a .working .now) (a .stable .now) (passed (c .before .before .before .before .before)))
+    omega
+    (arith, c .before .before .before .clear .kept .0, long (a .working .now) (a .stable .now) (passed (c .before .before .before .before .before)))
 
 sub-empty-leaf : tie.Need-sub-empty-leaf
 sub-empty-leaf c = search needs
@@ -45,14 +50,17 @@ part-empty-leaf-start c = search needs
 
 part-empty-leaf-end : tie.Need-part-empty-leaf-end
 part-empty-leaf-end c =
+    let clear = c .before .before .before .before .before .before .clear in
     let a = c .before .before .before .before .before .before .before .before .before .before .before .before .before .args in
-    omega (arith, c .before .before .name-root .kept .0, c .before .before .before .before .before .before .clear .kept .0, long (a .working .now) (a .stable .now) (passed (c .before .before .before .before .before .before .before .before)))
+    omega
+    (arith, c .before .before .name-root .kept .0, clear .kept .0, long (a .working .now) (a .stable .now) (passed (c .before .before .before .before .before .before .before .before)))
 
 empty-leaf-requires : tie.Need-empty-leaf-requires
 empty-leaf-requires c κs =
+    let clear = c .before .before .before .before .before .before .before .clear in
     let a = c .before .before .before .before .before .before .before .before .before .before .before .before .before .before .args in
     let bytes = length (a .stable .now) in
-    rw (c .before .before .before .name-root .ensures, c .before .before .before .before .before .before .before .clear .ensures)
+    rw (c .before .before .before .name-root .ensures, clear .ensures)
     (page-blank _ bytes (long (a .working .now) (a .stable .now) (passed (c .before .before .before .before .before .before .before .before .before))))
 
 same-length-2 : tie.Need-same-length-2
@@ -61,8 +69,10 @@ same-length-2 c = search needs
 returns-2 : tie.Need-returns-2
 unfolding setPage pages
 returns-2 c =
+    let clear = c .before .before .before .before .before .before .before .before .before .before .clear in
+    let name-root = c .before .before .before .before .before .before .name-root in
     let a = c .before .before .before .before .before .before .before .before .before .before .before .before .before .before .before .before .before .args in
-    rw (c .before .before .empty-leaf .ensures, c .before .before .before .before .before .before .name-root .ensures, c .before .before .before .before .before .before .before .before .before .before .clear .ensures)
+    rw (c .before .before .empty-leaf .ensures, name-root .ensures, clear .ensures)
     (made (a .working .now) (a .stable .now) (passed (c .before .before .before .before .before .before .before .before .before .before .before .before)))
 
 pub format-spec : {M : Type 1} → statement M

@@ -30,11 +30,16 @@ same-length c = search needs
 returns : tie.Need-returns
 unfolding named setNumber setRoot
 returns c =
-    let kind = c .before .before .before .before .before .before .before .before .before .before .before .before .before .before .before .before .before .before .before .before .before .before .put16 .ensures in
-    let n = c .before .before .before .before .before .before .before .before .before .before .before .before .before .before .before .before .before .before .put162 .ensures in
-    let number = c .before .before .before .before .before .before .before .before .before .before .before .before .before .before .put32 .ensures in
-    let root = c .before .before .before .before .before .before .before .before .before .before .put163 .ensures in
-    let previous = c .before .before .before .before .before .before .put164 .ensures in
+    let put16 = c .before .before .before .before .before .before .before .before .before .before .before .before .before .before .before .before .before .before .before .before .before .before .put16 in
+    let put162 = c .before .before .before .before .before .before .before .before .before .before .before .before .before .before .before .before .before .before .put162 in
+    let put32 = c .before .before .before .before .before .before .before .before .before .before .before .before .before .before .put32 in
+    let put163 = c .before .before .before .before .before .before .before .before .before .before .put163 in
+    let put164 = c .before .before .before .before .before .before .put164 in
+    let kind = put16 .ensures in
+    let n = put162 .ensures in
+    let number = put32 .ensures in
+    let root = put163 .ensures in
+    let previous = put164 .ensures in
     rw (c .before .before .put322 .ensures, previous, root, number, n, kind)
 
 pub name-root-spec : {M : Type 1} → statement M

@@ -19,7 +19,9 @@ child-birth-requires c κs = search needs
 
 returns : tie.Need-returns
 unfolding entryOf
-returns c = rw (c .before .before .before .child-key .ensures, c .before .before .child-number .ensures, c .before .child-previous .ensures, c .child-birth .ensures)
+returns c =
+    rw
+    (c .before .before .before .child-key .ensures, c .before .before .child-number .ensures, c .before .child-previous .ensures, c .child-birth .ensures)
 
 pub child-entry-spec : {M : Type 1} → statement M
 child-entry-spec =

@@ -12,21 +12,29 @@ add-next : tie.Need-add-next
 add-next c = search needs
 
 returns : tie.Need-returns
-returns c = high-last (c .before .before .args .page .now) (c .before .before .args .count) (c .before .before .args .high) (c .before .before .args .j + 1) (c .if1 .taken)
+returns c =
+    let args = c .before .before .args in
+    high-last (args .page .now) (args .count) (args .high) (args .j + 1) (c .if1 .taken)
 
 child-key-requires : tie.Need-child-key-requires
 child-key-requires c κs = search needs
 
 returns-2 : tie.Need-returns-2
 returns-2 c =
-    let z : 0 ≡ c .before .child-key .result - 1 = omega arith in
-    z ∙ high-next (c .before .before .before .before .args .page .now) (c .before .before .before .before .args .count) (c .before .before .before .before .args .high) (c .before .before .before .before .args .j + 1) (c .before .before .if1 .left) (c .before .child-key .ensures)
+    let args = c .before .before .before .before .args in
+    let child-key = c .before .child-key in
+    let z : 0 ≡ child-key .result - 1 = omega arith in
+    z ∙ high-next (args .page .now) (args .count) (args .high) (args .j + 1) (c .before .before .if1 .left)
+    (child-key .ensures)
 
 sub-result : tie.Need-sub-result
 sub-result c = search needs
 
 returns-3 : tie.Need-returns-3
-returns-3 c = high-next (c .before .before .before .before .args .page .now) (c .before .before .before .before .args .count) (c .before .before .before .before .args .high) (c .before .before .before .before .args .j + 1) (c .before .before .if1 .left) (c .before .child-key .ensures)
+returns-3 c =
+    let args = c .before .before .before .before .args in
+    high-next (args .page .now) (args .count) (args .high) (args .j + 1) (c .before .before .if1 .left)
+    (c .before .child-key .ensures)
 
 pub child-high-spec : {M : Type 1} → statement M
 child-high-spec =

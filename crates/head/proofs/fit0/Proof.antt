@@ -15,38 +15,52 @@ read-zero-requires c κs = search needs
 
 returns : tie.Need-returns
 returns c =
-    let z = c .before .before .read-zero .result in
-    fit0-fails (c .before .before .before .before .args .n) (c .before .before .before .before .args .table .now) z (c .before .before .read-zero .ensures) 0 (ne-eqb (z .kind) zeroKind (c .if1 .taken))
+    let args = c .before .before .before .before .args in
+    let read-zero = c .before .before .read-zero in
+    let z = read-zero .result in
+    fit0-fails (args .n) (args .table .now) z (read-zero .ensures) 0 (ne-eqb (z .kind) zeroKind (c .if1 .taken))
 
 cast-if2 : tie.Need-cast-if2
 cast-if2 c = search needs
 
 returns-2 : tie.Need-returns-2
 returns-2 c =
-    let n = c .before .before .before .before .before .before .args .n in
-    let z = c .before .before .before .before .read-zero .result in
-    fit0-fails n (c .before .before .before .before .before .before .args .table .now) z (c .before .before .before .before .read-zero .ensures) 1 (ne-eqb (z .n) n (c .if2 .taken))
+    let args = c .before .before .before .before .before .before .args in
+    let read-zero = c .before .before .before .before .read-zero in
+    let n = args .n in
+    let z = read-zero .result in
+    fit0-fails n (args .table .now) z (read-zero .ensures) 1 (ne-eqb (z .n) n (c .if2 .taken))
 
 returns-3 : tie.Need-returns-3
 returns-3 c =
-    let n = c .before .before .before .before .before .before .before .before .args .n in
-    let z = c .before .before .before .before .before .before .read-zero .result in
-    fit0-fails n (c .before .before .before .before .before .before .before .before .args .table .now) z (c .before .before .before .before .before .before .read-zero .ensures) 2 (between-below 1 (n - 1) (z .root) (omega arith))
+    let args = c .before .before .before .before .before .before .before .before .args in
+    let read-zero = c .before .before .before .before .before .before .read-zero in
+    let n = args .n in
+    let z = read-zero .result in
+    fit0-fails n (args .table .now) z (read-zero .ensures) 2 (between-below 1 (n - 1) (z .root) (omega arith))
 
 cast-if4 : tie.Need-cast-if4
 cast-if4 c = search needs
 
 returns-4 : tie.Need-returns-4
 returns-4 c =
-    let n = c .before .before .before .before .before .before .before .before .before .before .args .n in
-    let z = c .before .before .before .before .before .before .before .before .read-zero .result in
-    fit0-fails n (c .before .before .before .before .before .before .before .before .before .before .args .table .now) z (c .before .before .before .before .before .before .before .before .read-zero .ensures) 2 (between-above 1 (n - 1) (z .root) (omega arith))
+    let args = c .before .before .before .before .before .before .before .before .before .before .args in
+    let read-zero = c .before .before .before .before .before .before .before .before .read-zero in
+    let n = args .n in
+    let z = read-zero .result in
+    fit0-fails n (args .table .now) z (read-zero .ensures) 2 (between-above 1 (n - 1) (z .root) (omega arith))
 
 cast-result : tie.Need-cast-result
 cast-result c = search needs
 
 returns-5 : tie.Need-returns-5
-returns-5 c = fit0-last (c .before .before .before .before .before .before .before .before .before .before .before .args .n) (c .before .before .before .before .before .before .before .before .before .before .before .args .table .now) (c .before .before .before .before .before .before .before .before .before .read-zero .result) (c .before .before .before .before .before .before .before .before .before .read-zero .ensures) (c .before .before .before .before .before .before .before .if1 .left) (c .before .before .before .before .before .if2 .left) (omega arith) (omega arith)
+returns-5 c =
+    let args = c .before .before .before .before .before .before .before .before .before .before .before .args in
+    let read-zero = c .before .before .before .before .before .before .before .before .before .read-zero in
+    let if1 = c .before .before .before .before .before .before .before .if1 in
+    let if2 = c .before .before .before .before .before .if2 in
+    fit0-last (args .n) (args .table .now) (read-zero .result) (read-zero .ensures) (if1 .left) (if2 .left)
+    (omega arith) (omega arith)
 
 pub fit0-spec : {M : Type 1} → statement M
 fit0-spec =

@@ -15,7 +15,10 @@ child-high-requires c κs = search needs
 
 returns : tie.Need-returns
 unfolding placeOf entryOf
-returns c = rw (c .before .child-entry .ensures, c .child-high .ensures, kid-at (c .before .before .before .args .page .now) (c .before .before .before .args .count) (c .before .before .before .args .high) (c .before .before .before .args .want) (c .before .before .before .args .j) nowhere (c .before .before .before .pre .0))
+returns c =
+    let args = c .before .before .before .args in
+    rw
+    (c .before .child-entry .ensures, c .child-high .ensures, kid-at (args .page .now) (args .count) (args .high) (args .want) (args .j) nowhere (c .before .before .before .pre .0))
 
 pub kid-spec : {M : Type 1} → statement M
 kid-spec = tie.close (tie.spec child-entry-requires child-high-requires returns)

@@ -28,7 +28,12 @@ get64-requires-2 c κs = search needs
 
 returns : tie.Need-returns
 unfolding headIn
-returns c = rw (c .before .before .before .before .before .before .get16 .ensures, c .before .before .before .before .before .get162 .ensures, c .before .before .before .before .get32 .ensures, c .before .before .before .get322 .ensures, c .before .before .get323 .ensures, c .before .get64 .ensures, c .get642 .ensures)
+returns c =
+    let get16 = c .before .before .before .before .before .before .get16 in
+    let get162 = c .before .before .before .before .before .get162 in
+    let get32 = c .before .before .before .before .get32 in
+    rw
+    (get16 .ensures, get162 .ensures, get32 .ensures, c .before .before .before .get322 .ensures, c .before .before .get323 .ensures, c .before .get64 .ensures, c .get642 .ensures)
 
 pub read-head-spec : {M : Type 1} → statement M
 read-head-spec =

@@ -26,7 +26,11 @@ get32-requires-2 c κs = search needs
 
 returns : tie.Need-returns
 unfolding zeroIn kind0 n0 number0 root0 previous0 birth0
-returns c = rw (c .before .before .before .before .before .get16 .ensures, c .before .before .before .before .get162 .ensures, c .before .before .before .get32 .ensures, c .before .before .get163 .ensures, c .before .get164 .ensures, c .get322 .ensures)
+returns c =
+    let get16 = c .before .before .before .before .before .get16 in
+    let get162 = c .before .before .before .before .get162 in
+    rw
+    (get16 .ensures, get162 .ensures, c .before .before .before .get32 .ensures, c .before .before .get163 .ensures, c .before .get164 .ensures, c .get322 .ensures)
 
 pub read-zero-spec : {M : Type 1} → statement M
 read-zero-spec =

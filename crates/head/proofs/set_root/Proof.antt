@@ -19,7 +19,10 @@ same-length c = search needs
 
 returns : tie.Need-returns
 unfolding setRoot
-returns c = rw (c .before .before .put32 .ensures, c .before .before .before .before .before .before .put162 .ensures, c .before .before .before .before .before .before .before .before .before .before .put16 .ensures)
+returns c =
+    let put16 = c .before .before .before .before .before .before .before .before .before .before .put16 in
+    let put162 = c .before .before .before .before .before .before .put162 in
+    rw (c .before .before .put32 .ensures, put162 .ensures, put16 .ensures)
 
 pub set-root-spec : {M : Type 1} → statement M
 set-root-spec =

@@ -21,7 +21,12 @@ same-length : tie.Need-same-length
 same-length c = search needs
 
 returns : tie.Need-returns
-returns c = test-refused (c .before .before .before .before .before .args .working .now) (c .before .before .before .before .before .args .stable .now) (c .before .before .before .before .before .args .session) (c .before .before .before .before .before .args .model) (c .before .before .before .before .before .args .serial) (c .before .before .before .before .before .args .issue) (c .before .before .before .before .before .args .value) (c .before .tested .result) (c .before .tested .ensures (c .before .before .before .before .before .args .session) refl) (not-done (c .before .tested .result) (c .match .keys2))
+returns c =
+    let args = c .before .before .before .before .before .args in
+    let tested = c .before .tested in
+    test-refused (args .working .now) (args .stable .now) (args .session) (args .model) (args .serial) (args .issue)
+    (args .value) (tested .result) (tested .ensures (args .session) refl)
+    (not-done (tested .result) (c .match .keys2))
 
 key-of-requires : tie.Need-key-of-requires
 key-of-requires c κs = search needs
@@ -30,13 +35,49 @@ cast-way-of : tie.Need-cast-way-of
 cast-way-of c = search needs
 
 way-of-requires : tie.Need-way-of-requires
-way-of-requires c κs = let p = test-passed (c .before .before .before .before .before .before .before .before .before .args .working .now) (c .before .before .before .before .before .before .before .before .before .args .stable .now) (c .before .before .before .before .before .before .before .before .before .args .session) (c .before .before .before .before .before .before .before .before .before .args .model) (c .before .before .before .before .before .before .before .before .before .args .serial) (c .before .before .before .before .before .before .before .before .before .args .issue) (c .before .before .before .before .before .before .before .before .before .args .value) (c .before .before .before .before .before .tested .result) (c .before .before .before .before .before .tested .ensures (c .before .before .before .before .before .before .before .before .before .args .session) refl) (c .before .before .before .enum-told .given .1) in let l = lengthsFor-true (c .before .before .before .before .before .before .before .before .before .args .session) (c .before .before .before .before .before .before .before .before .before .args .working .now) (c .before .before .before .before .before .before .before .before .before .args .stable .now) (p .lengths) in (l .working, p .zero)
+way-of-requires c κs =
+    let args = c .before .before .before .before .before .before .before .before .before .args in
+    let tested = c .before .before .before .before .before .tested in
+    let p = test-passed (args .working .now) (args .stable .now) (args .session) (args .model) (args .serial)
+    (args .issue) (args .value) (tested .result) (tested .ensures (args .session) refl)
+    (c .before .before .before .enum-told .given .1) in
+    let l = lengthsFor-true (args .session) (args .working .now) (args .stable .now) (p .lengths) in
+    (l .working, p .zero)
 
 choose-requires : tie.Need-choose-requires
-choose-requires c κs = let p = test-passed (c .before .before .before .before .before .before .before .before .before .before .before .before .args .working .now) (c .before .before .before .before .before .before .before .before .before .before .before .before .args .stable .now) (c .before .before .before .before .before .before .before .before .before .before .before .before .args .session) (c .before .before .before .before .before .before .before .before .before .before .before .before .args .model) (c .before .before .before .before .before .before .before .before .before .before .before .before .args .serial) (c .before .before .before .before .before .before .before .before .before .before .before .before .args .issue) (c .before .before .before .before .before .before .before .before .before .before .before .before .args .value) (c .before .before .before .before .before .before .before .before .tested .result) (c .before .before .before .before .before .before .before .before .tested .ensures (c .before .before .before .before .before .before .before .before .before .before .before .before .args .session) refl) (c .before .before .before .before .before .before .enum-told .given .1) in let l = lengthsFor-true (c .before .before .before .before .before .before .before .before .before .before .before .before .args .session) (c .before .before .before .before .before .before .before .before .before .before .before .before .args .working .now) (c .before .before .before .before .before .before .before .before .before .before .before .before .args .stable .now) (p .lengths) in (l .most, way-short (c .before .before .before .before .before .key-of .result) (c .before .before .before .before .before .before .before .before .before .before .before .before .args .value) (c .before .before .before .before .before .before .before .before .before .before .before .before .args .session) (c .before .before .before .before .before .before .before .before .before .before .before .before .args .working .now) (l .working) (p .zero) (c .before .before .before .before .before .before .before .before .before .before .before .slice-known .given) (omega arith) (omega (arith, c .before .before .before .before .before .key-of .ok)) (c .before .before .way-of .last .0) (c .before .before .way-of .result) (c .before .before .way-of .ensures))
+choose-requires c κs =
+    let args = c .before .before .before .before .before .before .before .before .before .before .before .before .args in
+    let slice-known = c .before .before .before .before .before .before .before .before .before .before .before .slice-known in
+    let tested = c .before .before .before .before .before .before .before .before .tested in
+    let enum-told′ = c .before .before .before .before .before .before .enum-told in
+    let key-of = c .before .before .before .before .before .key-of in
+    let way-of = c .before .before .way-of in
+    let p = test-passed (args .working .now) (args .stable .now) (args .session) (args .model) (args .serial)
+    (args .issue) (args .value) (tested .result) (tested .ensures (args .session) refl) (enum-told′ .given .1) in
+    let l = lengthsFor-true (args .session) (args .working .now) (args .stable .now) (p .lengths) in (
+      l .most,
+      way-short (key-of .result) (args .value) (args .session) (args .working .now) (l .working) (p .zero)
+          (slice-known .given) (omega arith) (omega (arith, key-of .ok)) (way-of .last .0) (way-of .result)
+          (way-of .ensures),
+    )
 
 decided-requires : tie.Need-decided-requires
-decided-requires c κs = let p = test-passed (c .before .before .before .before .before .before .before .before .before .before .before .before .before .before .args .working .now) (c .before .before .before .before .before .before .before .before .before .before .before .before .before .before .args .stable .now) (c .before .before .before .before .before .before .before .before .before .before .before .before .before .before .args .session) (c .before .before .before .before .before .before .before .before .before .before .before .before .before .before .args .model) (c .before .before .before .before .before .before .before .before .before .before .before .before .before .before .args .serial) (c .before .before .before .before .before .before .before .before .before .before .before .before .before .before .args .issue) (c .before .before .before .before .before .before .before .before .before .before .before .before .before .before .args .value) (c .before .before .before .before .before .before .before .before .before .before .tested .result) (c .before .before .before .before .before .before .before .before .before .before .tested .ensures (c .before .before .before .before .before .before .before .before .before .before .before .before .before .before .args .session) refl) (c .before .before .before .before .before .before .before .before .enum-told .given .1) in let l = lengthsFor-true (c .before .before .before .before .before .before .before .before .before .before .before .before .before .before .args .session) (c .before .before .before .before .before .before .before .before .before .before .before .before .before .before .args .working .now) (c .before .before .before .before .before .before .before .before .before .before .before .before .before .before .args .stable .now) (p .lengths) in deciding (c .before .before .before .before .before .before .before .key-of .result) (c .before .before .before .before .before .before .before .before .before .before .before .before .before .before .args .value) (c .before .before .before .before .before .before .before .before .before .before .before .before .before .before .args .session) (c .before .before .before .before .before .before .before .before .before .before .before .before .before .before .args .working .now) (l .working) (p .zero) (c .before .before .before .before .before .before .before .before .before .before .before .before .before .slice-known .given) (omega arith) (omega (arith, c .before .before .before .before .before .before .before .key-of .ok)) (c .before .before .before .before .way-of .last .0) (c .before .before .before .before .way-of .result) (c .before .before .before .before .way-of .ensures) (l .most) (omega (arith, c .before .before .before .before .way-of .kept .0, l .working)) (c .before .before .slice-known2 .given) (c .before .choose .result) (c .before .choose .ensures)
+decided-requires c κs =
+    let args = c .before .before .before .before .before .before .before .before .before .before .before .before .before .before .args in
+    let good = c .before .before .before .before .before .before .before .before .before .before .before .before .before .before .good in
+    let slice-known = c .before .before .before .before .before .before .before .before .before .before .before .before .before .slice-known in
+    let tested = c .before .before .before .before .before .before .before .before .before .before .tested in
+    let enum-told′ = c .before .before .before .before .before .before .before .before .enum-told in
+    let key-of = c .before .before .before .before .before .before .before .key-of in
+    let way-of = c .before .before .before .before .way-of in
+    let choose = c .before .choose in
+    let p = test-passed (args .working .now) (args .stable .now) (args .session) (args .model) (args .serial)
+    (args .issue) (args .value) (tested .result) (tested .ensures (args .session) refl) (enum-told′ .given .1) in
+    let l = lengthsFor-true (args .session) (args .working .now) (args .stable .now) (p .lengths) in
+    deciding (key-of .result) (args .value) (args .session) (args .working .now) (l .working) (p .zero)
+    (slice-known .given) (omega (arith, good)) (omega (arith, key-of .ok)) (way-of .last .0) (way-of .result)
+    (way-of .ensures) (l .most) (omega (arith, way-of .kept .0, l .working)) (c .before .before .slice-known2 .given)
+    (choose .result) (choose .ensures)
 
 enum-told-2 : tie.Need-enum-told-2
 enum-told-2 c = search needs
@@ -45,16 +86,79 @@ same-length-2 : tie.Need-same-length-2
 same-length-2 c = search needs
 
 returns-2 : tie.Need-returns-2
-returns-2 c = let p = test-passed (c .before .before .before .before .before .before .before .before .before .before .before .before .before .before .before .before .args .working .now) (c .before .before .before .before .before .before .before .before .before .before .before .before .before .before .before .before .args .stable .now) (c .before .before .before .before .before .before .before .before .before .before .before .before .before .before .before .before .args .session) (c .before .before .before .before .before .before .before .before .before .before .before .before .before .before .before .before .args .model) (c .before .before .before .before .before .before .before .before .before .before .before .before .before .before .before .before .args .serial) (c .before .before .before .before .before .before .before .before .before .before .before .before .before .before .before .before .args .issue) (c .before .before .before .before .before .before .before .before .before .before .before .before .before .before .before .before .args .value) (c .before .before .before .before .before .before .before .before .before .before .before .before .tested .result) (c .before .before .before .before .before .before .before .before .before .before .before .before .tested .ensures (c .before .before .before .before .before .before .before .before .before .before .before .before .before .before .before .before .args .session) refl) (c .before .before .before .before .before .before .before .before .before .before .enum-told .given .1) in let l = lengthsFor-true (c .before .before .before .before .before .before .before .before .before .before .before .before .before .before .before .before .args .session) (c .before .before .before .before .before .before .before .before .before .before .before .before .before .before .before .before .args .working .now) (c .before .before .before .before .before .before .before .before .before .before .before .before .before .before .before .before .args .stable .now) (p .lengths) in key-refused (c .before .before .before .before .before .before .before .before .before .key-of .result) (c .before .before .before .before .before .before .before .before .before .before .before .before .before .before .before .before .args .value) (c .before .before .before .before .before .before .before .before .before .before .before .before .before .before .before .before .args .session) (c .before .before .before .before .before .before .before .before .before .before .before .before .before .before .before .before .args .working .now) (l .working) (p .zero) (c .before .before .before .before .before .before .before .before .before .before .before .before .before .before .before .slice-known .given) (omega arith) (omega (arith, c .before .before .before .before .before .before .before .before .before .key-of .ok)) (c .before .before .before .before .before .before .way-of .last .0) (c .before .before .before .before .before .before .way-of .result) (c .before .before .before .before .before .before .way-of .ensures) (l .most) (omega (arith, c .before .before .before .before .before .before .way-of .kept .0, l .working)) (c .before .before .before .before .slice-known2 .given) (c .before .before .before .choose .result) (c .before .before .before .choose .ensures) (c .before .decided .result) (c .before .decided .ensures (deciding (c .before .before .before .before .before .before .before .before .before .key-of .result) (c .before .before .before .before .before .before .before .before .before .before .before .before .before .before .before .before .args .value) (c .before .before .before .before .before .before .before .before .before .before .before .before .before .before .before .before .args .session) (c .before .before .before .before .before .before .before .before .before .before .before .before .before .before .before .before .args .working .now) (l .working) (p .zero) (c .before .before .before .before .before .before .before .before .before .before .before .before .before .before .before .slice-known .given) (omega arith) (omega (arith, c .before .before .before .before .before .before .before .before .before .key-of .ok)) (c .before .before .before .before .before .before .way-of .last .0) (c .before .before .before .before .before .before .way-of .result) (c .before .before .before .before .before .before .way-of .ensures) (l .most) (omega (arith, c .before .before .before .before .before .before .way-of .kept .0, l .working)) (c .before .before .before .before .slice-known2 .given) (c .before .before .before .choose .result) (c .before .before .before .choose .ensures))) (c .before .before .before .before .before .before .before .before .before .before .before .before .before .before .before .before .args .stable .now) (not-done (c .before .decided .result) (c .match2 .keys2)) ∙ (ap (λ (k : ℕ). insertKey k (c .before .before .before .before .before .before .before .before .before .before .before .before .before .before .before .before .args .value) (c .before .before .before .before .before .before .before .before .before .before .before .before .before .before .before .before .args .session) (c .before .before .before .before .before .before .before .before .before .before .before .before .before .before .before .before .args .working .now) (c .before .before .before .before .before .before .before .before .before .before .before .before .before .before .before .before .args .stable .now)) (c .before .before .before .before .before .before .before .before .before .key-of .ensures) ∙ sym (p .keyed))
+returns-2 c =
+    let args = c .before .before .before .before .before .before .before .before .before .before .before .before .before .before .before .before .args in
+    let good = c .before .before .before .before .before .before .before .before .before .before .before .before .before .before .before .before .good in
+    let slice-known = c .before .before .before .before .before .before .before .before .before .before .before .before .before .before .before .slice-known in
+    let tested = c .before .before .before .before .before .before .before .before .before .before .before .before .tested in
+    let enum-told′ = c .before .before .before .before .before .before .before .before .before .before .enum-told in
+    let key-of = c .before .before .before .before .before .before .before .before .before .key-of in
+    let way-of = c .before .before .before .before .before .before .way-of in
+    let slice-known2 = c .before .before .before .before .slice-known2 in
+    let choose = c .before .before .before .choose in
+    let decided = c .before .decided in
+    let p = test-passed (args .working .now) (args .stable .now) (args .session) (args .model) (args .serial)
+    (args .issue) (args .value) (tested .result) (tested .ensures (args .session) refl) (enum-told′ .given .1) in
+    let l = lengthsFor-true (args .session) (args .working .now) (args .stable .now) (p .lengths) in
+    key-refused (key-of .result) (args .value) (args .session) (args .working .now) (l .working) (p .zero)
+    (slice-known .given) (omega (arith, good)) (omega (arith, key-of .ok)) (way-of .last .0) (way-of .result)
+    (way-of .ensures) (l .most) (omega (arith, way-of .kept .0, l .working)) (slice-known2 .given) (choose .result)
+    (choose .ensures) (decided .result)
+    (decided .ensures (deciding (key-of .result) (args .value) (args .session) (args .working .now) (l .working) (p .zero) (slice-known .given) (omega (arith, good)) (omega (arith, key-of .ok)) (way-of .last .0) (way-of .result) (way-of .ensures) (l .most) (omega (arith, way-of .kept .0, l .working)) (slice-known2 .given) (choose .result) (choose .ensures)))
+    (args .stable .now) (not-done (decided .result) (c .match2 .keys2))
+    ∙
+    (ap (λ (k : ℕ). insertKey k (args .value) (args .session) (args .working .now) (args .stable .now)) (key-of .ensures) ∙ sym (p .keyed))
 
 apply-requires : tie.Need-apply-requires
-apply-requires c κs = let p = test-passed (c .before .before .before .before .before .before .before .before .before .before .before .before .before .before .before .before .before .before .args .working .now) (c .before .before .before .before .before .before .before .before .before .before .before .before .before .before .before .before .before .before .args .stable .now) (c .before .before .before .before .before .before .before .before .before .before .before .before .before .before .before .before .before .before .args .session) (c .before .before .before .before .before .before .before .before .before .before .before .before .before .before .before .before .before .before .args .model) (c .before .before .before .before .before .before .before .before .before .before .before .before .before .before .before .before .before .before .args .serial) (c .before .before .before .before .before .before .before .before .before .before .before .before .before .before .before .before .before .before .args .issue) (c .before .before .before .before .before .before .before .before .before .before .before .before .before .before .before .before .before .before .args .value) (c .before .before .before .before .before .before .before .before .before .before .before .before .before .before .tested .result) (c .before .before .before .before .before .before .before .before .before .before .before .before .before .before .tested .ensures (c .before .before .before .before .before .before .before .before .before .before .before .before .before .before .before .before .before .before .args .session) refl) (c .before .before .before .before .before .before .before .before .before .before .before .before .enum-told .given .1) in let l = lengthsFor-true (c .before .before .before .before .before .before .before .before .before .before .before .before .before .before .before .before .before .before .args .session) (c .before .before .before .before .before .before .before .before .before .before .before .before .before .before .before .before .before .before .args .working .now) (c .before .before .before .before .before .before .before .before .before .before .before .before .before .before .before .before .before .before .args .stable .now) (p .lengths) in key-ready (c .before .before .before .before .before .before .before .before .before .before .before .key-of .result) (c .before .before .before .before .before .before .before .before .before .before .before .before .before .before .before .before .before .before .args .value) (c .before .before .before .before .before .before .before .before .before .before .before .before .before .before .before .before .before .before .args .session) (c .before .before .before .before .before .before .before .before .before .before .before .before .before .before .before .before .before .before .args .working .now) (l .working) (p .zero) (c .before .before .before .before .before .before .before .before .before .before .before .before .before .before .before .before .before .slice-known .given) (omega arith) (omega (arith, c .before .before .before .before .before .before .before .before .before .before .before .key-of .ok)) (c .before .before .before .before .before .before .before .before .way-of .last .0) (c .before .before .before .before .before .before .before .before .way-of .result) (c .before .before .before .before .before .before .before .before .way-of .ensures) (l .most) (omega (arith, c .before .before .before .before .before .before .before .before .way-of .kept .0, l .working)) (c .before .before .before .before .before .before .slice-known2 .given) (c .before .before .before .before .before .choose .result) (c .before .before .before .before .before .choose .ensures) (c .before .before .before .decided .result) (c .before .before .before .decided .ensures (deciding (c .before .before .before .before .before .before .before .before .before .before .before .key-of .result) (c .before .before .before .before .before .before .before .before .before .before .before .before .before .before .before .before .before .before .args .value) (c .before .before .before .before .before .before .before .before .before .before .before .before .before .before .before .before .before .before .args .session) (c .before .before .before .before .before .before .before .before .before .before .before .before .before .before .before .before .before .before .args .working .now) (l .working) (p .zero) (c .before .before .before .before .before .before .before .before .before .before .before .before .before .before .before .before .before .slice-known .given) (omega arith) (omega (arith, c .before .before .before .before .before .before .before .before .before .before .before .key-of .ok)) (c .before .before .before .before .before .before .before .before .way-of .last .0) (c .before .before .before .before .before .before .before .before .way-of .result) (c .before .before .before .before .before .before .before .before .way-of .ensures) (l .most) (omega (arith, c .before .before .before .before .before .before .before .before .way-of .kept .0, l .working)) (c .before .before .before .before .before .before .slice-known2 .given) (c .before .before .before .before .before .choose .result) (c .before .before .before .before .before .choose .ensures))) (c .before .enum-told2 .given .1)
+apply-requires c κs =
+    let args = c .before .before .before .before .before .before .before .before .before .before .before .before .before .before .before .before .before .before .args in
+    let good = c .before .before .before .before .before .before .before .before .before .before .before .before .before .before .before .before .before .before .good in
+    let slice-known = c .before .before .before .before .before .before .before .before .before .before .before .before .before .before .before .before .before .slice-known in
+    let tested = c .before .before .before .before .before .before .before .before .before .before .before .before .before .before .tested in
+    let enum-told′ = c .before .before .before .before .before .before .before .before .before .before .before .before .enum-told in
+    let key-of = c .before .before .before .before .before .before .before .before .before .before .before .key-of in
+    let way-of = c .before .before .before .before .before .before .before .before .way-of in
+    let slice-known2 = c .before .before .before .before .before .before .slice-known2 in
+    let choose = c .before .before .before .before .before .choose in
+    let decided = c .before .before .before .decided in
+    let p = test-passed (args .working .now) (args .stable .now) (args .session) (args .model) (args .serial)
+    (args .issue) (args .value) (tested .result) (tested .ensures (args .session) refl) (enum-told′ .given .1) in
+    let l = lengthsFor-true (args .session) (args .working .now) (args .stable .now) (p .lengths) in
+    key-ready (key-of .result) (args .value) (args .session) (args .working .now) (l .working) (p .zero)
+    (slice-known .given) (omega (arith, good)) (omega (arith, key-of .ok)) (way-of .last .0) (way-of .result)
+    (way-of .ensures) (l .most) (omega (arith, way-of .kept .0, l .working)) (slice-known2 .given) (choose .result)
+    (choose .ensures) (decided .result)
+    (decided .ensures (deciding (key-of .result) (args .value) (args .session) (args .working .now) (l .working) (p .zero) (slice-known .given) (omega (arith, good)) (omega (arith, key-of .ok)) (way-of .last .0) (way-of .result) (way-of .ensures) (l .most) (omega (arith, way-of .kept .0, l .working)) (slice-known2 .given) (choose .result) (choose .ensures)))
+    (c .before .enum-told2 .given .1)
 
 same-length-3 : tie.Need-same-length-3
 same-length-3 c = search needs
 
 returns-3 : tie.Need-returns-3
-returns-3 c = let p = test-passed (c .before .before .before .before .before .before .before .before .before .before .before .before .before .before .before .before .before .before .before .before .before .args .working .now) (c .before .before .before .before .before .before .before .before .before .before .before .before .before .before .before .before .before .before .before .before .before .args .stable .now) (c .before .before .before .before .before .before .before .before .before .before .before .before .before .before .before .before .before .before .before .before .before .args .session) (c .before .before .before .before .before .before .before .before .before .before .before .before .before .before .before .before .before .before .before .before .before .args .model) (c .before .before .before .before .before .before .before .before .before .before .before .before .before .before .before .before .before .before .before .before .before .args .serial) (c .before .before .before .before .before .before .before .before .before .before .before .before .before .before .before .before .before .before .before .before .before .args .issue) (c .before .before .before .before .before .before .before .before .before .before .before .before .before .before .before .before .before .before .before .before .before .args .value) (c .before .before .before .before .before .before .before .before .before .before .before .before .before .before .before .before .before .tested .result) (c .before .before .before .before .before .before .before .before .before .before .before .before .before .before .before .before .before .tested .ensures (c .before .before .before .before .before .before .before .before .before .before .before .before .before .before .before .before .before .before .before .before .before .args .session) refl) (c .before .before .before .before .before .before .before .before .before .before .before .before .before .before .before .enum-told .given .1) in let l = lengthsFor-true (c .before .before .before .before .before .before .before .before .before .before .before .before .before .before .before .before .before .before .before .before .before .args .session) (c .before .before .before .before .before .before .before .before .before .before .before .before .before .before .before .before .before .before .before .before .before .args .working .now) (c .before .before .before .before .before .before .before .before .before .before .before .before .before .before .before .before .before .before .before .before .before .args .stable .now) (p .lengths) in key-done (c .before .before .before .before .before .before .before .before .before .before .before .before .before .before .key-of .result) (c .before .before .before .before .before .before .before .before .before .before .before .before .before .before .before .before .before .before .before .before .before .args .value) (c .before .before .before .before .before .before .before .before .before .before .before .before .before .before .before .before .before .before .before .before .before .args .session) (c .before .before .before .before .before .before .before .before .before .before .before .before .before .before .before .before .before .before .before .before .before .args .working .now) (l .working) (p .zero) (c .before .before .before .before .before .before .before .before .before .before .before .before .before .before .before .before .before .before .before .before .slice-known .given) (omega arith) (omega (arith, c .before .before .before .before .before .before .before .before .before .before .before .before .before .before .key-of .ok)) (c .before .before .before .before .before .before .before .before .before .before .before .way-of .last .0) (c .before .before .before .before .before .before .before .before .before .before .before .way-of .result) (c .before .before .before .before .before .before .before .before .before .before .before .way-of .ensures) (l .most) (omega (arith, c .before .before .before .before .before .before .before .before .before .before .before .way-of .kept .0, l .working)) (c .before .before .before .before .before .before .before .before .before .slice-known2 .given) (c .before .before .before .before .before .before .before .before .choose .result) (c .before .before .before .before .before .before .before .before .choose .ensures) (c .before .before .before .before .before .before .decided .result) (c .before .before .before .before .before .before .decided .ensures (deciding (c .before .before .before .before .before .before .before .before .before .before .before .before .before .before .key-of .result) (c .before .before .before .before .before .before .before .before .before .before .before .before .before .before .before .before .before .before .before .before .before .args .value) (c .before .before .before .before .before .before .before .before .before .before .before .before .before .before .before .before .before .before .before .before .before .args .session) (c .before .before .before .before .before .before .before .before .before .before .before .before .before .before .before .before .before .before .before .before .before .args .working .now) (l .working) (p .zero) (c .before .before .before .before .before .before .before .before .before .before .before .before .before .before .before .before .before .before .before .before .slice-known .given) (omega arith) (omega (arith, c .before .before .before .before .before .before .before .before .before .before .before .before .before .before .key-of .ok)) (c .before .before .before .before .before .before .before .before .before .before .before .way-of .last .0) (c .before .before .before .before .before .before .before .before .before .before .before .way-of .result) (c .before .before .before .before .before .before .before .before .before .before .before .way-of .ensures) (l .most) (omega (arith, c .before .before .before .before .before .before .before .before .before .before .before .way-of .kept .0, l .working)) (c .before .before .before .before .before .before .before .before .before .slice-known2 .given) (c .before .before .before .before .before .before .before .before .choose .result) (c .before .before .before .before .before .before .before .before .choose .ensures))) (c .before .before .before .before .enum-told2 .given .1) (c .before .before .before .before .before .before .before .before .before .before .before .before .before .before .before .before .before .before .before .before .before .args .stable .now) (c .before .before .apply .result) (c .before .before .apply .last .0) (c .before .before .apply .ensures (c .before .before .before .before .before .before .before .before .before .before .before .before .before .before .before .before .before .before .before .before .before .args .stable .now)) ∙ (ap (λ (k : ℕ). insertKey k (c .before .before .before .before .before .before .before .before .before .before .before .before .before .before .before .before .before .before .before .before .before .args .value) (c .before .before .before .before .before .before .before .before .before .before .before .before .before .before .before .before .before .before .before .before .before .args .session) (c .before .before .before .before .before .before .before .before .before .before .before .before .before .before .before .before .before .before .before .before .before .args .working .now) (c .before .before .before .before .before .before .before .before .before .before .before .before .before .before .before .before .before .before .before .before .before .args .stable .now)) (c .before .before .before .before .before .before .before .before .before .before .before .before .before .before .key-of .ensures) ∙ sym (p .keyed))
+returns-3 c =
+    let args = c .before .before .before .before .before .before .before .before .before .before .before .before .before .before .before .before .before .before .before .before .before .args in
+    let good = c .before .before .before .before .before .before .before .before .before .before .before .before .before .before .before .before .before .before .before .before .before .good in
+    let slice-known = c .before .before .before .before .before .before .before .before .before .before .before .before .before .before .before .before .before .before .before .before .slice-known in
+    let tested = c .before .before .before .before .before .before .before .before .before .before .before .before .before .before .before .before .before .tested in
+    let enum-told′ = c .before .before .before .before .before .before .before .before .before .before .before .before .before .before .before .enum-told in
+    let key-of = c .before .before .before .before .before .before .before .before .before .before .before .before .before .before .key-of in
+    let way-of = c .before .before .before .before .before .before .before .before .before .before .before .way-of in
+    let slice-known2 = c .before .before .before .before .before .before .before .before .before .slice-known2 in
+    let choose = c .before .before .before .before .before .before .before .before .choose in
+    let decided = c .before .before .before .before .before .before .decided in
+    let enum-told2 = c .before .before .before .before .enum-told2 in
+    let apply = c .before .before .apply in
+    let p = test-passed (args .working .now) (args .stable .now) (args .session) (args .model) (args .serial)
+    (args .issue) (args .value) (tested .result) (tested .ensures (args .session) refl) (enum-told′ .given .1) in
+    let l = lengthsFor-true (args .session) (args .working .now) (args .stable .now) (p .lengths) in
+    key-done (key-of .result) (args .value) (args .session) (args .working .now) (l .working) (p .zero)
+    (slice-known .given) (omega (arith, good)) (omega (arith, key-of .ok)) (way-of .last .0) (way-of .result)
+    (way-of .ensures) (l .most) (omega (arith, way-of .kept .0, l .working)) (slice-known2 .given) (choose .result)
+    (choose .ensures) (decided .result)
+    (decided .ensures (deciding (key-of .result) (args .value) (args .session) (args .working .now) (l .working) (p .zero) (slice-known .given) (omega (arith, good)) (omega (arith, key-of .ok)) (way-of .last .0) (way-of .result) (way-of .ensures) (l .most) (omega (arith, way-of .kept .0, l .working)) (slice-known2 .given) (choose .result) (choose .ensures)))
+    (enum-told2 .given .1) (args .stable .now) (apply .result) (apply .last .0) (apply .ensures (args .stable .now))
+    ∙
+    (ap (λ (k : ℕ). insertKey k (args .value) (args .session) (args .working .now) (args .stable .now)) (key-of .ensures) ∙ sym (p .keyed))
 
 pub insert-spec : {M : Type 1} → statement M
 insert-spec =

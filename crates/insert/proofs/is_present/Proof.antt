@@ -15,10 +15,17 @@ enum-told : tie.Need-enum-told
 enum-told c = search needs
 
 returns : tie.Need-returns
-returns c = not-found (find (c .before .before .before .args .key) (read (c .before .before .before .args .table .now) (c .before .before .before .args .leaf .place .child) .view .certs)) (c .before .find-at .result) (c .before .find-at .ensures) (c .match .keys2)
+returns c =
+    let args = c .before .before .before .args in
+    let find-at = c .before .find-at in
+    not-found (find (args .key) (read (args .table .now) (args .leaf .place .child) .view .certs)) (find-at .result)
+    (find-at .ensures) (c .match .keys2)
 
 returns-2 : tie.Need-returns-2
-returns-2 c = is-found (find (c .before .before .before .before .args .key) (read (c .before .before .before .before .args .table .now) (c .before .before .before .before .args .leaf .place .child) .view .certs)) _ (sym (c .enum-told .given .1) ∙ c .before .before .find-at .ensures)
+returns-2 c =
+    let args = c .before .before .before .before .args in
+    is-found (find (args .key) (read (args .table .now) (args .leaf .place .child) .view .certs)) _
+    (sym (c .enum-told .given .1) ∙ c .before .before .find-at .ensures)
 
 pub is-present-spec : {M : Type 1} → statement M
 is-present-spec = tie.close (tie.spec find-at-requires enum-told returns returns-2)

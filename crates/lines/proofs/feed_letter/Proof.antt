@@ -23,7 +23,11 @@ returns-4 c = rw (c .match .keys4)
 
 returns-5 : tie.Need-returns-5
 unfolding letterFed
-returns-5 c = rw (ne-eqb (c .before .args .b) letterI (c .match .rest .0 .0 .0 .1), letterFed, ne-eqb (c .before .args .b) letterF (c .match .rest .0 .0 .1), letterFed, ne-eqb (c .before .args .b) letterS (c .match .rest .0 .1), letterFed, ne-eqb (c .before .args .b) letterC (c .match .rest .1), letterFed)
+returns-5 c =
+    let args = c .before .args in
+    let match = c .match in
+    rw
+    (ne-eqb (args .b) letterI (match .rest .0 .0 .0 .1), letterFed, ne-eqb (args .b) letterF (match .rest .0 .0 .1), letterFed, ne-eqb (args .b) letterS (match .rest .0 .1), letterFed, ne-eqb (args .b) letterC (match .rest .1), letterFed)
 
 pub feed-letter-spec : {M : Type 1} → statement M
 feed-letter-spec = tie.close (tie.spec returns returns-2 returns-3 returns-4 returns-5)

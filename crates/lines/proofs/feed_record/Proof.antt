@@ -9,7 +9,9 @@ use Rattle.lines.proofs.feed_record.Tie as tie
 
 returns : tie.Need-returns
 unfolding fedOf
-returns c = sym (fed-space most32 _ (c .before .args .begun) (c .before .args .v) (c .before .args .b) (c .if1 .taken))
+returns c =
+    let args = c .before .args in
+    sym (fed-space most32 _ (args .begun) (args .v) (args .b) (c .if1 .taken))
 
 grow-requires : tie.Need-grow-requires
 grow-requires c κs = search needs
@@ -22,11 +24,19 @@ enum-told c = search needs
 
 returns-2 : tie.Need-returns-2
 unfolding fedOf
-returns-2 c = sym (fed-not most32 _ _ (c .before .before .before .before .args .begun) (c .before .before .before .before .args .v) (c .before .before .before .before .args .b) (c .before .before .before .if1 .left) (sym (c .before .before .grow .ensures) ∙ c .enum-told .given .1))
+returns-2 c =
+    let args = c .before .before .before .before .args in
+    sym
+    (fed-not most32 _ _ (args .begun) (args .v) (args .b) (c .before .before .before .if1 .left) (sym (c .before .before .grow .ensures) ∙ c .enum-told .given .1))
 
 returns-3 : tie.Need-returns-3
 unfolding fedOf
-returns-3 c = sym (fed-to most32 _ _ (c .before .before .before .before .before .args .begun) (c .before .before .before .before .before .args .v) (c .before .before .before .before .before .args .b) (c .before .n .given .0 .0) (c .before .before .before .before .if1 .left) (sym (c .before .before .before .grow .ensures) ∙ c .before .n .given .1))
+returns-3 c =
+    let args = c .before .before .before .before .before .args in
+    let if1 = c .before .before .before .before .if1 in
+    let n = c .before .n in
+    sym
+    (fed-to most32 _ _ (args .begun) (args .v) (args .b) (n .given .0 .0) (if1 .left) (sym (c .before .before .before .grow .ensures) ∙ n .given .1))
 
 pub feed-record-spec : {M : Type 1} → statement M
 feed-record-spec =

@@ -18,17 +18,21 @@ same-length c = search needs
 
 returns : tie.Need-returns
 returns c =
+    let lengths-for = c .before .lengths-for in
     let args = c .before .before .before .before .before .before .before .args in
-    bad-length (args .working .now) (args .stable .now) (args .session) (args .start) (args .keys .now) (args .records .now)
-    (sym (c .before .lengths-for .ensures (args .session) refl) ∙ not-true (c .before .lengths-for .result) (c .if1 .taken))
+    bad-length (args .working .now) (args .stable .now) (args .session) (args .start) (args .keys .now)
+    (args .records .now)
+    (sym (lengths-for .ensures (args .session) refl) ∙ not-true (lengths-for .result) (c .if1 .taken))
 
 cast-n : tie.Need-cast-n
 cast-n c = search needs
 
 fit0-requires : tie.Need-fit0-requires
 fit0-requires c κs =
+    let lengths-for = c .before .before .before .lengths-for in
     let args = c .before .before .before .before .before .before .before .before .before .args in
-    let lengths = sym (c .before .before .before .lengths-for .ensures (args .session) refl) ∙ not-false (c .before .before .before .lengths-for .result) (c .before .before .if1 .left) in
+    let lengths = sym (lengths-for .ensures (args .session) refl)
+    ∙ not-false (lengths-for .result) (c .before .before .if1 .left) in
     let sizes = lengthsFor-true (args .session) (args .working .now) (args .stable .now) lengths in
     omega (arith, sizes .working, sizes .least)
 
@@ -37,22 +41,30 @@ same-length-2 c = search needs
 
 returns-2 : tie.Need-returns-2
 returns-2 c =
+    let lengths-for = c .before .before .before .before .before .lengths-for in
+    let if1 = c .before .before .before .before .if1 in
+    let fit0 = c .before .fit0 in
     let args = c .before .before .before .before .before .before .before .before .before .before .before .args in
-    let lengths = sym (c .before .before .before .before .before .lengths-for .ensures (args .session) refl) ∙ not-false (c .before .before .before .before .before .lengths-for .result) (c .before .before .before .before .if1 .left) in
-    bad-zero (args .working .now) (args .stable .now) (args .session) (args .start) (args .keys .now) (args .records .now)
-    lengths (sym (c .before .fit0 .ensures) ∙ not-true (c .before .fit0 .result) (c .if2 .taken))
+    let lengths = sym (lengths-for .ensures (args .session) refl) ∙ not-false (lengths-for .result) (if1 .left) in
+    bad-zero (args .working .now) (args .stable .now) (args .session) (args .start) (args .keys .now)
+    (args .records .now) lengths (sym (fit0 .ensures) ∙ not-true (fit0 .result) (c .if2 .taken))
 
 up-from-requires : tie.Need-up-from-requires
 up-from-requires c κs = search needs
 
 look-requires : tie.Need-look-requires
 look-requires c κs =
+    let lengths-for = c .before .before .before .before .before .before .before .before .before .lengths-for in
+    let if1 = c .before .before .before .before .before .before .before .before .if1 in
+    let fit0 = c .before .before .before .before .before .fit0 in
+    let if2 = c .before .before .before .before .if2 in
+    let up-from = c .before .before .before .up-from in
     let args = c .before .before .before .before .before .before .before .before .before .before .before .before .before .before .before .args in
-    let lengths = sym (c .before .before .before .before .before .before .before .before .before .lengths-for .ensures (args .session) refl) ∙ not-false (c .before .before .before .before .before .before .before .before .before .lengths-for .result) (c .before .before .before .before .before .before .before .before .if1 .left) in
-    let zero = sym (c .before .before .before .before .before .fit0 .ensures) ∙ not-false (c .before .before .before .before .before .fit0 .result) (c .before .before .before .before .if2 .left) in
+    let lengths = sym (lengths-for .ensures (args .session) refl) ∙ not-false (lengths-for .result) (if1 .left) in
+    let zero = sym (fit0 .ensures) ∙ not-false (fit0 .result) (if2 .left) in
     let sizes = lengthsFor-true (args .session) (args .working .now) (args .stable .now) lengths in
-    let room = ap (λ (a : Asked). a .room) (c .before .before .before .up-from .ensures) in
-    (sizes .working, sizes .most, zero, roomy (c .before .before .before .up-from .result) (args .keys .now) (args .records .now) room)
+    let room = ap (λ (a : Asked). a .room) (up-from .ensures) in
+    (sizes .working, sizes .most, zero, roomy (up-from .result) (args .keys .now) (args .records .now) room)
 
 same-length-3 : tie.Need-same-length-3
 same-length-3 c = search needs
@@ -65,13 +77,18 @@ same-length-5 c = search needs
 
 returns-3 : tie.Need-returns-3
 returns-3 c =
+    let lengths-for = c .before .before .before .before .before .before .before .before .before .before .before .before .before .before .before .before .lengths-for in
+    let if1 = c .before .before .before .before .before .before .before .before .before .before .before .before .before .before .before .if1 in
+    let fit0 = c .before .before .before .before .before .before .before .before .before .before .before .before .fit0 in
+    let if2 = c .before .before .before .before .before .before .before .before .before .before .before .if2 in
+    let up-from = c .before .before .before .before .before .before .before .before .before .before .up-from in
     let args = c .before .before .before .before .before .before .before .before .before .before .before .before .before .before .before .before .before .before .before .before .before .before .args in
-    let lengths = sym (c .before .before .before .before .before .before .before .before .before .before .before .before .before .before .before .before .lengths-for .ensures (args .session) refl) ∙ not-false (c .before .before .before .before .before .before .before .before .before .before .before .before .before .before .before .before .lengths-for .result) (c .before .before .before .before .before .before .before .before .before .before .before .before .before .before .before .if1 .left) in
-    let zero = sym (c .before .before .before .before .before .before .before .before .before .before .before .before .fit0 .ensures) ∙ not-false (c .before .before .before .before .before .before .before .before .before .before .before .before .fit0 .result) (c .before .before .before .before .before .before .before .before .before .before .before .if2 .left) in
+    let lengths = sym (lengths-for .ensures (args .session) refl) ∙ not-false (lengths-for .result) (if1 .left) in
+    let zero = sym (fit0 .ensures) ∙ not-false (fit0 .result) (if2 .left) in
     let told = c .before .before .before .before .before .before .look in
-    answers (args .working .now) (args .stable .now) (args .session) (args .start) (args .keys .now) (args .records .now)
-    lengths zero (c .before .before .before .before .before .before .before .before .before .before .up-from .result) (c .before .before .before .before .before .before .before .before .before .before .up-from .ensures)
-    (told .last .0) (told .result) (told .last .1 .1 .1 .1 .0) (told .last .1 .1 .1 .1 .1 .0) (told .ensures)
+    answers (args .working .now) (args .stable .now) (args .session) (args .start) (args .keys .now)
+    (args .records .now) lengths zero (up-from .result) (up-from .ensures) (told .last .0) (told .result)
+    (told .last .1 .1 .1 .1 .0) (told .last .1 .1 .1 .1 .1 .0) (told .ensures)
 
 pub list-spec : {M : Type 1} → statement M
 list-spec =

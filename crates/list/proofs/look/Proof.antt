@@ -20,17 +20,23 @@ same-length c = search needs
 
 returns : tie.Need-returns
 returns c =
+    let fits = c .before .before .before .before .before .before .before .before .before .before .fits in
+    let if1 = c .before .before .before .before .if1 in
+    let sweep = c .before .before .sweep in
     let args = c .before .before .before .before .before .before .before .before .before .before .args in
     let ahead = c .before .before .before .before .before .whole-ahead in
-    let damaged = sym (ahead .ensures (args .c) (omega (arith, c .before .before .before .before .before .before .before .before .before .before .fits .c))) ∙ not-true (ahead .result) (c .before .before .before .before .if1 .taken) in
+    let damaged = sym (ahead .ensures (args .c) (omega (arith, fits .c))) ∙ not-true (ahead .result) (if1 .taken) in
     tell-damaged (args .keys .now) (args .records .now) (walkOf (args .n) (args .c) (args .a) (args .t .now)) damaged
-    (c .before .before .sweep .last .0) (c .before .before .sweep .result) (c .before .before .sweep .ensures)
+    (sweep .last .0) (sweep .result) (sweep .ensures)
 
 fill-requires : tie.Need-fill-requires
 fill-requires c κs =
+    let fits = c .before .before .before .before .before .before .before .before .before .fits in
+    let whole-ahead = c .before .before .before .before .whole-ahead in
     let args = c .before .before .before .before .before .before .before .before .before .args in
     let pre = c .before .before .before .before .before .before .before .before .before .pre in
-    let whole = sym (c .before .before .before .before .whole-ahead .ensures (args .c) (omega (arith, c .before .before .before .before .before .before .before .before .before .fits .c))) ∙ not-false (c .before .before .before .before .whole-ahead .result) (c .before .before .before .if1 .left) in
+    let whole = sym (whole-ahead .ensures (args .c) (omega (arith, fits .c)))
+    ∙ not-false (whole-ahead .result) (c .before .before .before .if1 .left) in
     (pre .0, pre .2, pre .3, whole)
 
 same-length-2 : tie.Need-same-length-2
@@ -44,12 +50,15 @@ same-length-4 c = search needs
 
 returns-2 : tie.Need-returns-2
 returns-2 c =
+    let fits = c .before .before .before .before .before .before .before .before .before .before .before .before .before .before .before .before .fits in
+    let if1 = c .before .before .before .before .before .before .before .before .before .before .if1 in
     let args = c .before .before .before .before .before .before .before .before .before .before .before .before .before .before .before .before .args in
     let ahead = c .before .before .before .before .before .before .before .before .before .before .before .whole-ahead in
-    let whole = sym (ahead .ensures (args .c) (omega (arith, c .before .before .before .before .before .before .before .before .before .before .before .before .before .before .before .before .fits .c))) ∙ not-false (ahead .result) (c .before .before .before .before .before .before .before .before .before .before .if1 .left) in
+    let whole = sym (ahead .ensures (args .c) (omega (arith, fits .c))) ∙ not-false (ahead .result) (if1 .left) in
     let filled = c .before .before .before .before .before .before .fill in
     tell-filled (args .keys .now) (args .records .now) (walkOf (args .n) (args .c) (args .a) (args .t .now)) whole
-    (filled .last .0) (filled .result) (filled .last .1 .1 .1 .1 .0) (filled .last .1 .1 .1 .1 .1 .0) (filled .ensures)
+    (filled .last .0) (filled .result) (filled .last .1 .1 .1 .1 .0) (filled .last .1 .1 .1 .1 .1 .0)
+    (filled .ensures)
 
 pub look-spec : {M : Type 1} → statement M
 look-spec =

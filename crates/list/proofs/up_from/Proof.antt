@@ -7,7 +7,9 @@ returns : tie.Need-returns
 returns c = keys-shorter (c .before .args .start) (c .before .args .keys) (c .before .args .records) (c .if1 .taken)
 
 returns-2 : tie.Need-returns-2
-returns-2 c = records-shorter (c .before .args .start) (c .before .args .keys) (c .before .args .records) (c .if1 .left)
+returns-2 c =
+    let args = c .before .args in
+    records-shorter (args .start) (args .keys) (args .records) (c .if1 .left)
 
 pub up-from-spec : {M : Type 1} → statement M
 up-from-spec = tie.close (tie.spec returns returns-2)

@@ -10,9 +10,10 @@ dry-of-requires c κs = search needs
 
 returns : tie.Need-returns
 returns c =
+    let dry-of = c .dry-of in
     let args = c .before .before .args in
     let pre = c .before .before .pre in
-    λ k narrow. known-ahead (args .n) k (args .a) (args .t .now) (pre .2) (pre .0) (pre .1) (c .before .shared-slice-known .given) narrow (c .dry-of .result) (c .dry-of .ensures)
+    λ k narrow. known-ahead (args .n) k (args .a) (args .t .now) (pre .2) (pre .0) (pre .1) (c .before .shared-slice-known .given) narrow (dry-of .result) (dry-of .ensures)
 
 pub whole-ahead-spec : {M : Type 1} → statement M
 whole-ahead-spec = tie.close (tie.spec dry-of-requires returns)

@@ -36,11 +36,22 @@ cast-seek-in c = search needs
 
 seek-in-requires : tie.Need-seek-in-requires
 unfolding read pageIn
-seek-in-requires c κs = let b = pageAt (c .before .before .before .before .args .table .now) (c .before .before .before .before .args .leaf .place .child) in let l = length-pageAt (c .before .before .before .before .args .table .now) (c .before .before .before .before .args .leaf .place .child) (omega arith) in rw (page-part (c .before .before .before .before .args .table .now) (c .before .before .before .before .args .leaf .place .child)) (omega (arith, l, holds-room b (c .before .before .before .before .args .leaf .head) (c .before .before .before .before .pre .1) (c .before .before .before .before .pre .2)), omega (arith, l), holds-rise b (c .before .before .before .before .args .leaf .head) (c .before .before .before .before .pre .1) (c .before .before .before .before .pre .2))
+seek-in-requires c κs =
+    let args = c .before .before .before .before .args in
+    let pre = c .before .before .before .before .pre in
+    let b = pageAt (args .table .now) (args .leaf .place .child) in
+    let l = length-pageAt (args .table .now) (args .leaf .place .child) (omega arith) in
+    rw (page-part (args .table .now) (args .leaf .place .child))
+    (omega (arith, l, holds-room b (args .leaf .head) (pre .1) (pre .2)), omega (arith, l), holds-rise b (args .leaf .head) (pre .1) (pre .2))
 
 returns : tie.Need-returns
 unfolding read pageIn
-returns c = let b = pageAt (c .before .before .before .before .before .args .table .now) (c .before .before .before .before .before .args .leaf .place .child) in rw (page-part (c .before .before .before .before .before .args .table .now) (c .before .before .before .before .before .args .leaf .place .child)) at (c .seek-in .ensures) ∙ ap (λ xs. lookedIn (find (c .before .before .before .before .before .args .key) xs)) (sym (certs-are b (c .before .before .before .before .before .args .leaf .head) (c .before .before .before .before .before .pre .1) (c .before .before .before .before .before .pre .2)))
+returns c =
+    let args = c .before .before .before .before .before .args in
+    let pre = c .before .before .before .before .before .pre in
+    let b = pageAt (args .table .now) (args .leaf .place .child) in
+    rw (page-part (args .table .now) (args .leaf .place .child)) at (c .seek-in .ensures)
+    ∙ ap (λ xs. lookedIn (find (args .key) xs)) (sym (certs-are b (args .leaf .head) (pre .1) (pre .2)))
 
 pub find-at-spec : {M : Type 1} → statement M
 find-at-spec =

@@ -24,7 +24,9 @@ find-in-requires : tie.Need-find-in-requires
 find-in-requires c κs = search needs
 
 returns : tie.Need-returns
-returns c = rw (page-part (c .before .before .before .args .table .now) (c .before .before .before .args .i)) at (c .find-in .ensures)
+returns c =
+    let args = c .before .before .before .args in
+    rw (page-part (args .table .now) (args .i)) at (c .find-in .ensures)
 
 pub find-on-spec : {M : Type 1} → statement M
 find-on-spec =

@@ -16,16 +16,57 @@ same-length : tie.Need-same-length
 same-length c = search needs
 
 returns : tie.Need-returns
-returns c = let x = wayOf (c .before .before .before .before .before .before .before .args .n) (c .before .before .before .before .before .before .before .args .c) (c .before .before .before .before .before .before .before .args .key) (c .before .before .before .before .before .before .before .args .t .now) in let v = whole-way (c .before .before .before .before .before .before .before .args .key) x (c .before .before .before .before .leaf-of .last .0) (c .before .before .before .before .leaf-of .result) (c .before .before .before .before .leaf-of .ensures) in let a = way-stands (c .before .before .before .before .before .before .before .args .n) (c .before .before .before .before .before .before .before .args .c) (c .before .before .before .before .before .before .before .args .key) (c .before .before .before .before .before .before .before .args .t .now) (c .before .before .before .before .before .before .before .pre .0) (c .before .before .before .before .before .before .before .pre .1) (c .before .before .before .before .before .before .slice-known .given) (omega (arith, c .before .before .before .before .before .before .before .fits .c)) (omega (arith, c .before .before .before .before .before .before .before .fits .key)) in no-leaf (c .before .before .before .before .before .before .before .args .n) (c .before .before .before .before .before .before .before .args .key) x (c .before .before .before .before .leaf-of .last .0) (wholeOf x (c .before .before .before .before .leaf-of .result)) v a (c .if1 .taken)
+returns c =
+    let args = c .before .before .before .before .before .before .before .args in
+    let fits = c .before .before .before .before .before .before .before .fits in
+    let pre = c .before .before .before .before .before .before .before .pre in
+    let slice-known = c .before .before .before .before .before .before .slice-known in
+    let leaf-of = c .before .before .before .before .leaf-of in
+    let x = wayOf (args .n) (args .c) (args .key) (args .t .now) in
+    let v = whole-way (args .key) x (leaf-of .last .0) (leaf-of .result) (leaf-of .ensures) in
+    let a = way-stands (args .n) (args .c) (args .key) (args .t .now) (pre .0) (pre .1) (slice-known .given)
+    (omega (arith, fits .c)) (omega (arith, fits .key)) in
+    no-leaf (args .n) (args .key) x (leaf-of .last .0) (wholeOf x (leaf-of .result)) v a (c .if1 .taken)
 
 find-on-requires : tie.Need-find-on-requires
-find-on-requires c κs = let x = wayOf (c .before .before .before .before .before .before .before .before .args .n) (c .before .before .before .before .before .before .before .before .args .c) (c .before .before .before .before .before .before .before .before .args .key) (c .before .before .before .before .before .before .before .before .args .t .now) in let v = whole-way (c .before .before .before .before .before .before .before .before .args .key) x (c .before .before .before .before .before .leaf-of .last .0) (c .before .before .before .before .before .leaf-of .result) (c .before .before .before .before .before .leaf-of .ensures) in let a = way-stands (c .before .before .before .before .before .before .before .before .args .n) (c .before .before .before .before .before .before .before .before .args .c) (c .before .before .before .before .before .before .before .before .args .key) (c .before .before .before .before .before .before .before .before .args .t .now) (c .before .before .before .before .before .before .before .before .pre .0) (c .before .before .before .before .before .before .before .before .pre .1) (c .before .before .before .before .before .before .before .slice-known .given) (omega (arith, c .before .before .before .before .before .before .before .before .fits .c)) (omega (arith, c .before .before .before .before .before .before .before .before .fits .key)) in let d = ended (c .before .before .before .before .before .before .before .before .args .n) (c .before .before .before .before .before .before .before .before .args .key) x (c .before .before .before .before .before .leaf-of .last .0) (wholeOf x (c .before .before .before .before .before .leaf-of .result)) v a (c .before .if1 .left) in (omega (arith, c .before .before .before .before .before .leaf-of .kept .0, c .before .before .before .before .before .before .before .before .pre .0, leaf-below (c .before .before .before .before .before .before .before .before .args .n) (c .before .before .before .before .before .before .before .before .args .key) x (c .before .before .before .before .before .leaf-of .last .0) (wholeOf x (c .before .before .before .before .before .leaf-of .result)) v a d), spot-within (c .before .before .before .before .before .before .before .before .args .n) (c .before .before .before .before .before .before .before .before .args .key) x (c .before .before .before .before .before .leaf-of .last .0) (wholeOf x (c .before .before .before .before .before .leaf-of .result)) v a d (c .before .before .before .before .before .leaf-of .result .spot) (end-spot (c .before .before .before .before .before .before .before .before .args .key) x (c .before .before .before .before .before .leaf-of .last .0) (c .before .before .before .before .before .leaf-of .result) (c .before .before .before .before .before .leaf-of .ensures)))
+find-on-requires c κs =
+    let args = c .before .before .before .before .before .before .before .before .args in
+    let fits = c .before .before .before .before .before .before .before .before .fits in
+    let pre = c .before .before .before .before .before .before .before .before .pre in
+    let slice-known = c .before .before .before .before .before .before .before .slice-known in
+    let leaf-of = c .before .before .before .before .before .leaf-of in
+    let x = wayOf (args .n) (args .c) (args .key) (args .t .now) in
+    let v = whole-way (args .key) x (leaf-of .last .0) (leaf-of .result) (leaf-of .ensures) in
+    let a = way-stands (args .n) (args .c) (args .key) (args .t .now) (pre .0) (pre .1) (slice-known .given)
+    (omega (arith, fits .c)) (omega (arith, fits .key)) in
+    let d = ended (args .n) (args .key) x (leaf-of .last .0) (wholeOf x (leaf-of .result)) v a (c .before .if1 .left)
+    in (
+      omega
+          (arith, leaf-of .kept .0, pre .0, leaf-below (args .n) (args .key) x (leaf-of .last .0) (wholeOf x (leaf-of .result)) v a d),
+      spot-within (args .n) (args .key) x (leaf-of .last .0) (wholeOf x (leaf-of .result)) v a d
+          (leaf-of .result .spot) (end-spot (args .key) x (leaf-of .last .0) (leaf-of .result) (leaf-of .ensures)),
+    )
 
 same-length-2 : tie.Need-same-length-2
 same-length-2 c = search needs
 
 returns-2 : tie.Need-returns-2
-returns-2 c = let x = wayOf (c .before .before .before .before .before .before .before .before .before .args .n) (c .before .before .before .before .before .before .before .before .before .args .c) (c .before .before .before .before .before .before .before .before .before .args .key) (c .before .before .before .before .before .before .before .before .before .args .t .now) in let v = whole-way (c .before .before .before .before .before .before .before .before .before .args .key) x (c .before .before .before .before .before .before .leaf-of .last .0) (c .before .before .before .before .before .before .leaf-of .result) (c .before .before .before .before .before .before .leaf-of .ensures) in let a = way-stands (c .before .before .before .before .before .before .before .before .before .args .n) (c .before .before .before .before .before .before .before .before .before .args .c) (c .before .before .before .before .before .before .before .before .before .args .key) (c .before .before .before .before .before .before .before .before .before .args .t .now) (c .before .before .before .before .before .before .before .before .before .pre .0) (c .before .before .before .before .before .before .before .before .before .pre .1) (c .before .before .before .before .before .before .before .before .slice-known .given) (omega (arith, c .before .before .before .before .before .before .before .before .before .fits .c)) (omega (arith, c .before .before .before .before .before .before .before .before .before .fits .key)) in let d = ended (c .before .before .before .before .before .before .before .before .before .args .n) (c .before .before .before .before .before .before .before .before .before .args .key) x (c .before .before .before .before .before .before .leaf-of .last .0) (wholeOf x (c .before .before .before .before .before .before .leaf-of .result)) v a (c .before .before .if1 .left) in looked-before (c .before .before .before .before .before .before .before .before .before .args .n) (c .before .before .before .before .before .before .before .before .before .args .key) x (c .before .before .before .before .before .before .leaf-of .last .0) (wholeOf x (c .before .before .before .before .before .before .leaf-of .result)) v a d (c .before .before .before .before .before .before .leaf-of .result .spot) (end-spot (c .before .before .before .before .before .before .before .before .before .args .key) x (c .before .before .before .before .before .before .leaf-of .last .0) (c .before .before .before .before .before .before .leaf-of .result) (c .before .before .before .before .before .before .leaf-of .ensures)) (c .find-on .result) (c .find-on .ensures)
+returns-2 c =
+    let args = c .before .before .before .before .before .before .before .before .before .args in
+    let fits = c .before .before .before .before .before .before .before .before .before .fits in
+    let pre = c .before .before .before .before .before .before .before .before .before .pre in
+    let slice-known = c .before .before .before .before .before .before .before .before .slice-known in
+    let leaf-of = c .before .before .before .before .before .before .leaf-of in
+    let find-on = c .find-on in
+    let x = wayOf (args .n) (args .c) (args .key) (args .t .now) in
+    let v = whole-way (args .key) x (leaf-of .last .0) (leaf-of .result) (leaf-of .ensures) in
+    let a = way-stands (args .n) (args .c) (args .key) (args .t .now) (pre .0) (pre .1) (slice-known .given)
+    (omega (arith, fits .c)) (omega (arith, fits .key)) in
+    let d = ended (args .n) (args .key) x (leaf-of .last .0) (wholeOf x (leaf-of .result)) v a
+    (c .before .before .if1 .left) in
+    looked-before (args .n) (args .key) x (leaf-of .last .0) (wholeOf x (leaf-of .result)) v a d
+    (leaf-of .result .spot) (end-spot (args .key) x (leaf-of .last .0) (leaf-of .result) (leaf-of .ensures))
+    (find-on .result) (find-on .ensures)
 
 pub look-spec : {M : Type 1} → statement M
 look-spec =

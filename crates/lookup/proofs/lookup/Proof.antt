@@ -16,7 +16,11 @@ same-length : tie.Need-same-length
 same-length c = search needs
 
 returns : tie.Need-returns
-returns c = bad-length (c .before .before .before .before .before .args .working .now) (c .before .before .before .before .before .args .stable .now) (c .before .before .before .before .before .args .session) (c .before .before .before .before .before .args .model) (c .before .before .before .before .before .args .serial) (c .before .before .before .before .before .args .issue) (sym (c .before .lengths-for .ensures (c .before .before .before .before .before .args .session) refl) ∙ not-true (c .before .lengths-for .result) (c .if1 .taken))
+returns c =
+    let args = c .before .before .before .before .before .args in
+    let lengths-for = c .before .lengths-for in
+    bad-length (args .working .now) (args .stable .now) (args .session) (args .model) (args .serial) (args .issue)
+    (sym (lengths-for .ensures (args .session) refl) ∙ not-true (lengths-for .result) (c .if1 .taken))
 
 good-parts-requires : tie.Need-good-parts-requires
 good-parts-requires c κs = search needs
@@ -25,31 +29,75 @@ same-length-2 : tie.Need-same-length-2
 same-length-2 c = search needs
 
 returns-2 : tie.Need-returns-2
-returns-2 c = bad-key (c .before .before .before .before .before .before .before .args .working .now) (c .before .before .before .before .before .before .before .args .stable .now) (c .before .before .before .before .before .before .before .args .session) (c .before .before .before .before .before .before .before .args .model) (c .before .before .before .before .before .before .before .args .serial) (c .before .before .before .before .before .before .before .args .issue) (sym (c .before .before .before .lengths-for .ensures (c .before .before .before .before .before .before .before .args .session) refl) ∙ not-false (c .before .before .before .lengths-for .result) (c .before .before .if1 .left)) (sym (c .before .good-parts .ensures) ∙ not-true (c .before .good-parts .result) (c .if2 .taken))
+returns-2 c =
+    let args = c .before .before .before .before .before .before .before .args in
+    let lengths-for = c .before .before .before .lengths-for in
+    let good-parts = c .before .good-parts in
+    bad-key (args .working .now) (args .stable .now) (args .session) (args .model) (args .serial) (args .issue)
+    (sym (lengths-for .ensures (args .session) refl) ∙ not-false (lengths-for .result) (c .before .before .if1 .left))
+    (sym (good-parts .ensures) ∙ not-true (good-parts .result) (c .if2 .taken))
 
 cast-n : tie.Need-cast-n
 cast-n c = search needs
 
 fit0-requires : tie.Need-fit0-requires
-fit0-requires c κs = let l = lengthsFor-true (c .before .before .before .before .before .before .before .before .before .args .session) (c .before .before .before .before .before .before .before .before .before .args .working .now) (c .before .before .before .before .before .before .before .before .before .args .stable .now) (sym (c .before .before .before .before .before .lengths-for .ensures (c .before .before .before .before .before .before .before .before .before .args .session) refl) ∙ not-false (c .before .before .before .before .before .lengths-for .result) (c .before .before .before .before .if1 .left)) in omega (arith, l .working, l .least)
+fit0-requires c κs =
+    let args = c .before .before .before .before .before .before .before .before .before .args in
+    let lengths-for = c .before .before .before .before .before .lengths-for in
+    let if1 = c .before .before .before .before .if1 in
+    let l = lengthsFor-true (args .session) (args .working .now) (args .stable .now)
+    (sym (lengths-for .ensures (args .session) refl) ∙ not-false (lengths-for .result) (if1 .left)) in
+    omega (arith, l .working, l .least)
 
 same-length-3 : tie.Need-same-length-3
 same-length-3 c = search needs
 
 returns-3 : tie.Need-returns-3
-returns-3 c = bad-zero (c .before .before .before .before .before .before .before .before .before .before .before .args .working .now) (c .before .before .before .before .before .before .before .before .before .before .before .args .stable .now) (c .before .before .before .before .before .before .before .before .before .before .before .args .session) (c .before .before .before .before .before .before .before .before .before .before .before .args .model) (c .before .before .before .before .before .before .before .before .before .before .before .args .serial) (c .before .before .before .before .before .before .before .before .before .before .before .args .issue) (sym (c .before .before .before .before .before .before .before .lengths-for .ensures (c .before .before .before .before .before .before .before .before .before .before .before .args .session) refl) ∙ not-false (c .before .before .before .before .before .before .before .lengths-for .result) (c .before .before .before .before .before .before .if1 .left)) (sym (c .before .before .before .before .before .good-parts .ensures) ∙ not-false (c .before .before .before .before .before .good-parts .result) (c .before .before .before .before .if2 .left)) (sym (c .before .fit0 .ensures) ∙ not-true (c .before .fit0 .result) (c .if3 .taken))
+returns-3 c =
+    let args = c .before .before .before .before .before .before .before .before .before .before .before .args in
+    let lengths-for = c .before .before .before .before .before .before .before .lengths-for in
+    let if1 = c .before .before .before .before .before .before .if1 in
+    let good-parts = c .before .before .before .before .before .good-parts in
+    let if2 = c .before .before .before .before .if2 in
+    let fit0 = c .before .fit0 in
+    bad-zero (args .working .now) (args .stable .now) (args .session) (args .model) (args .serial) (args .issue)
+    (sym (lengths-for .ensures (args .session) refl) ∙ not-false (lengths-for .result) (if1 .left))
+    (sym (good-parts .ensures) ∙ not-false (good-parts .result) (if2 .left))
+    (sym (fit0 .ensures) ∙ not-true (fit0 .result) (c .if3 .taken))
 
 key-of-requires : tie.Need-key-of-requires
 key-of-requires c κs = search needs
 
 look-requires : tie.Need-look-requires
-look-requires c κs = (lengthsFor-true (c .before .before .before .before .before .before .before .before .before .before .before .before .before .args .session) (c .before .before .before .before .before .before .before .before .before .before .before .before .before .args .working .now) (c .before .before .before .before .before .before .before .before .before .before .before .before .before .args .stable .now) (sym (c .before .before .before .before .before .before .before .before .before .lengths-for .ensures (c .before .before .before .before .before .before .before .before .before .before .before .before .before .args .session) refl) ∙ not-false (c .before .before .before .before .before .before .before .before .before .lengths-for .result) (c .before .before .before .before .before .before .before .before .if1 .left)) .working, sym (c .before .before .before .fit0 .ensures) ∙ not-false (c .before .before .before .fit0 .result) (c .before .before .if3 .left))
+look-requires c κs =
+    let args = c .before .before .before .before .before .before .before .before .before .before .before .before .before .args in
+    let lengths-for = c .before .before .before .before .before .before .before .before .before .lengths-for in
+    let if1 = c .before .before .before .before .before .before .before .before .if1 in
+    let fit0 = c .before .before .before .fit0 in (
+      lengthsFor-true (args .session) (args .working .now) (args .stable .now)
+          (sym (lengths-for .ensures (args .session) refl) ∙ not-false (lengths-for .result) (if1 .left)) .working,
+      sym (fit0 .ensures) ∙ not-false (fit0 .result) (c .before .before .if3 .left),
+    )
 
 same-length-4 : tie.Need-same-length-4
 same-length-4 c = search needs
 
 returns-4 : tie.Need-returns-4
-returns-4 c = looked-up (c .before .before .before .before .before .before .before .before .before .before .before .before .before .before .before .before .args .working .now) (c .before .before .before .before .before .before .before .before .before .before .before .before .before .before .before .before .args .stable .now) (c .before .before .before .before .before .before .before .before .before .before .before .before .before .before .before .before .args .session) (c .before .before .before .before .before .before .before .before .before .before .before .before .before .before .before .before .args .model) (c .before .before .before .before .before .before .before .before .before .before .before .before .before .before .before .before .args .serial) (c .before .before .before .before .before .before .before .before .before .before .before .before .before .before .before .before .args .issue) (sym (c .before .before .before .before .before .before .before .before .before .before .before .before .lengths-for .ensures (c .before .before .before .before .before .before .before .before .before .before .before .before .before .before .before .before .args .session) refl) ∙ not-false (c .before .before .before .before .before .before .before .before .before .before .before .before .lengths-for .result) (c .before .before .before .before .before .before .before .before .before .before .before .if1 .left)) (sym (c .before .before .before .before .before .before .before .before .before .before .good-parts .ensures) ∙ not-false (c .before .before .before .before .before .before .before .before .before .before .good-parts .result) (c .before .before .before .before .before .before .before .before .before .if2 .left)) (sym (c .before .before .before .before .before .before .fit0 .ensures) ∙ not-false (c .before .before .before .before .before .before .fit0 .result) (c .before .before .before .before .before .if3 .left)) (c .before .before .look .last .0) (c .before .before .look .result) (c .before .before .before .key-of .result) (c .before .before .before .key-of .ensures) (c .before .before .look .ensures)
+returns-4 c =
+    let args = c .before .before .before .before .before .before .before .before .before .before .before .before .before .before .before .before .args in
+    let lengths-for = c .before .before .before .before .before .before .before .before .before .before .before .before .lengths-for in
+    let if1 = c .before .before .before .before .before .before .before .before .before .before .before .if1 in
+    let good-parts = c .before .before .before .before .before .before .before .before .before .before .good-parts in
+    let if2 = c .before .before .before .before .before .before .before .before .before .if2 in
+    let fit0 = c .before .before .before .before .before .before .fit0 in
+    let if3 = c .before .before .before .before .before .if3 in
+    let key-of = c .before .before .before .key-of in
+    let look = c .before .before .look in
+    looked-up (args .working .now) (args .stable .now) (args .session) (args .model) (args .serial) (args .issue)
+    (sym (lengths-for .ensures (args .session) refl) ∙ not-false (lengths-for .result) (if1 .left))
+    (sym (good-parts .ensures) ∙ not-false (good-parts .result) (if2 .left))
+    (sym (fit0 .ensures) ∙ not-false (fit0 .result) (if3 .left)) (look .last .0) (look .result) (key-of .result)
+    (key-of .ensures) (look .ensures)
 
 pub lookup-spec : {M : Type 1} → statement M
 lookup-spec =

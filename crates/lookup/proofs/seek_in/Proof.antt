@@ -7,13 +7,25 @@ use Rattle.lookup.proofs.seek_in.Statement.{statement}
 use Rattle.lookup.proofs.seek_in.Tie as tie
 
 seek-requires : tie.Need-seek-requires
-seek-requires c κs = (omega arith, c .before .pre .0, c .before .pre .1, rising-keysIn (c .before .args .page .now) (c .before .args .count) (c .before .pre .2))
+seek-requires c κs =
+    let args = c .before .args in
+    let pre = c .before .pre in
+    (omega arith, pre .0, pre .1, rising-keysIn (args .page .now) (args .count) (pre .2))
 
 find-in-requires : tie.Need-find-in-requires
-find-in-requires c κs = omega (arith, c .before .before .pre .0, spot-within (c .before .before .args .page .now) (c .before .before .args .count) (c .before .before .pre .2) (c .before .before .args .key) (c .seek .result) (c .seek .ensures))
+find-in-requires c κs =
+    let args = c .before .before .args in
+    let pre = c .before .before .pre in
+    let seek = c .seek in
+    omega
+    (arith, pre .0, spot-within (args .page .now) (args .count) (pre .2) (args .key) (seek .result) (seek .ensures))
 
 returns : tie.Need-returns
-returns c = c .find-in .ensures ∙ found-before (c .before .before .before .args .page .now) (c .before .before .before .args .count) (c .before .before .before .pre .2) (c .before .before .before .args .key) (c .before .seek .result) (c .before .seek .ensures)
+returns c =
+    let args = c .before .before .before .args in
+    let seek = c .before .seek in
+    c .find-in .ensures ∙ found-before (args .page .now) (args .count) (c .before .before .before .pre .2) (args .key)
+    (seek .result) (seek .ensures)
 
 pub seek-in-spec : {M : Type 1} → statement M
 seek-in-spec = tie.close (tie.spec seek-requires find-in-requires returns)

@@ -22,7 +22,11 @@ counts-requires c κs = search needs
 
 returns : tie.Need-returns Inv-loop μ-loop
 unfolding firstOf
-returns c = rw (c .before .before .before .loop .inv, free-here (c .before .before .before .before .args .s) (enteredBy (c .before .before .before .before .args .e)) (c .before .before .before .loop .i) (c .before .before .loop-test .taken) (sym (c .before .counts .ensures) ∙ c .if1 .taken))
+returns c =
+    let args = c .before .before .before .before .args in
+    let loop = c .before .before .before .loop in
+    rw
+    (loop .inv, free-here (args .s) (enteredBy (args .e)) (loop .i) (c .before .before .loop-test .taken) (sym (c .before .counts .ensures) ∙ c .if1 .taken))
 
 add-i : tie.Need-add-i Inv-loop μ-loop
 add-i c = search needs
@@ -31,11 +35,18 @@ loop-less : tie.Need-loop-less Inv-loop μ-loop
 loop-less c = search needs
 
 loop-again : tie.Need-loop-again Inv-loop μ-loop
-loop-again c = c .before .before .before .loop .inv ∙ free-later (c .before .before .before .before .args .s) (enteredBy (c .before .before .before .before .args .e)) (c .before .before .before .loop .i) (c .before .before .loop-test .taken) (sym (c .before .counts .ensures) ∙ c .if1 .left)
+loop-again c =
+    let args = c .before .before .before .before .args in
+    let loop = c .before .before .before .loop in
+    loop .inv ∙ free-later (args .s) (enteredBy (args .e)) (loop .i) (c .before .before .loop-test .taken)
+    (sym (c .before .counts .ensures) ∙ c .if1 .left)
 
 returns-2 : tie.Need-returns-2 Inv-loop μ-loop
 unfolding firstOf
-returns-2 c = rw (c .before .loop .inv, free-end (c .before .before .args .s) (enteredBy (c .before .before .args .e)) (c .before .loop .i) (c .loop-test .left))
+returns-2 c =
+    let args = c .before .before .args in
+    let loop = c .before .loop in
+    rw (loop .inv, free-end (args .s) (enteredBy (args .e)) (loop .i) (c .loop-test .left))
 
 pub first-free-spec : {M : Type 1} → statement M
 first-free-spec =

@@ -27,9 +27,13 @@ element-copy-out-if1 c = search needs
 
 returns : tie.Need-returns Inv-loop μ-loop
 returns c =
-    let e = c .before .before .before .before .args .t1 in
-    let here = mem-here (c .before .before .before .before .args .i) (e .pages) (e .count) 3 (search needs) (c .before .before .before .before .pre) (c .before .before .before .loop .j) (c .before .before .loop-test .taken) (c .if1 .taken) in
-    sym (c .before .before .before .loop .inv .1 ∙ here)
+    let args = c .before .before .before .before .args in
+    let pre = c .before .before .before .before .pre in
+    let loop = c .before .before .before .loop in
+    let e = args .t1 in
+    let here = mem-here (args .i) (e .pages) (e .count) 3 (search needs) pre (loop .j)
+    (c .before .before .loop-test .taken) (c .if1 .taken) in
+    sym (loop .inv .1 ∙ here)
 
 add-j : tie.Need-add-j Inv-loop μ-loop
 add-j c = search needs
@@ -39,14 +43,21 @@ loop-less c = search needs
 
 loop-again : tie.Need-loop-again Inv-loop μ-loop
 loop-again c =
-    let e = c .before .before .before .before .args .t1 in
-    let later = mem-later (c .before .before .before .before .args .i) (e .pages) (e .count) 3 (search needs) (c .before .before .before .before .pre) (c .before .before .before .loop .j) (c .before .before .loop-test .taken) (c .if1 .left) in
-    (search needs, c .before .before .before .loop .inv .1 ∙ later)
+    let args = c .before .before .before .before .args in
+    let pre = c .before .before .before .before .pre in
+    let loop = c .before .before .before .loop in
+    let e = args .t1 in
+    let later = mem-later (args .i) (e .pages) (e .count) 3 (search needs) pre (loop .j)
+    (c .before .before .loop-test .taken) (c .if1 .left) in
+    (search needs, loop .inv .1 ∙ later)
 
 returns-2 : tie.Need-returns-2 Inv-loop μ-loop
 returns-2 c =
-    let e = c .before .before .args .t1 in
-    sym (c .before .loop .inv .1 ∙ mem-end (c .before .before .args .i) (e .pages) (e .count) 3 (search needs) (c .before .before .pre) (c .before .loop .j) (c .loop-test .left))
+    let args = c .before .before .args in
+    let loop = c .before .loop in
+    let e = args .t1 in
+    sym
+    (loop .inv .1 ∙ mem-end (args .i) (e .pages) (e .count) 3 (search needs) (c .before .before .pre) (loop .j) (c .loop-test .left))
 
 pub is-entered-spec : {M : Type 1} → statement M
 is-entered-spec =

@@ -45,18 +45,25 @@ add-count c = search needs
 
 add-from : tie.Need-add-from Inv-loop μ-loop
 add-from c =
+    let pre = c .before .before .before .before .before .before .pre in
+    let loop = c .before .before .before .before .before .loop in
+    let i = c .before .i in
     let a = c .before .before .before .before .before .before .args in
-    let found = sym (c .before .before .before .first-free .ensures) ∙ c .before .i .given .1 in
-    omega (arith, c .before .before .before .before .before .before .pre, free-first (a .s) (enteredBy (a .e)) (c .before .before .before .before .before .loop .from) (c .before .i .given .0 .0) found .0)
+    let found = sym (c .before .before .before .first-free .ensures) ∙ i .given .1 in
+    omega (arith, pre, free-first (a .s) (enteredBy (a .e)) (loop .from) (i .given .0 .0) found .0)
 
 loop-less : tie.Need-loop-less Inv-loop μ-loop
 loop-less c = search needs
 
 loop-again : tie.Need-loop-again Inv-loop μ-loop
 loop-again c =
+    let loop = c .before .before .before .before .before .loop in
+    let loop-test = c .before .before .before .before .loop-test in
+    let i = c .before .i in
     let a = c .before .before .before .before .before .before .args in
-    let found = sym (c .before .before .before .first-free .ensures) ∙ c .before .i .given .1 in
-    choosing-more (a .s) (enteredBy (a .e)) (a .need) (c .before .before .before .before .before .loop .inv) (c .before .i .given .0 .0) found (c .before .before .before .before .loop-test .taken) (search needs)
+    let found = sym (c .before .before .before .first-free .ensures) ∙ i .given .1 in
+    choosing-more (a .s) (enteredBy (a .e)) (a .need) (loop .inv) (i .given .0 .0) found (loop-test .taken)
+    (search needs)
 
 returns-2 : tie.Need-returns-2 Inv-loop μ-loop
 returns-2 c =

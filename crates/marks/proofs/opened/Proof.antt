@@ -46,20 +46,24 @@ loop-less c = search needs
 
 loop-again : tie.Need-loop-again Inv-loop μ-loop
 loop-again c =
-    let free = freeAtOpening (c .before .before .before .args .n) (c .before .before .before .args .t3) (c .before .before .before .args .t4) in
-    let i = c .before .before .loop .i in
+    let args = c .before .before .before .args in
+    let loop = c .before .before .loop in
+    let free = freeAtOpening (args .n) (args .t3) (args .t4) in
+    let i = loop .i in
     let none = marks (λ j. false) in
     let filling = filled-more free i none (omega (arith, length-marks (λ j. false), c .before .loop-test .taken)) in
-    (search needs, rw (c .is-page .ensures) (ap (λ (l : List Bool). set l i (free i)) (c .before .before .loop .inv .1) ∙ filling))
+    (search needs, rw (c .is-page .ensures) (ap (λ (l : List Bool). set l i (free i)) (loop .inv .1) ∙ filling))
 
 returns : tie.Need-returns Inv-loop μ-loop
 returns c =
-    let free = freeAtOpening (c .before .before .args .n) (c .before .before .args .t3) (c .before .before .args .t4) in
+    let args = c .before .before .args in
+    let loop = c .before .loop in
+    let free = freeAtOpening (args .n) (args .t3) (args .t4) in
     let none = marks (λ j. false) in
-    let i = c .before .loop .i in
-    let all : i ≡ mostPages = omega (arith, c .before .loop .inv .0, c .loop-test .left) in
+    let i = loop .i in
+    let all : i ≡ mostPages = omega (arith, loop .inv .0, c .loop-test .left) in
     let filling = ap (λ (k : ℕ). filled free k none) all ∙ filled-all free none (length-marks (λ j. false)) in
-    openedBy-made (c .before .before .args .n) (c .before .before .args .c) (c .before .before .args .t3) (c .before .before .args .t4) (c .before .loop .free) (c .before .loop .inv .1 ∙ filling)
+    openedBy-made (args .n) (args .c) (args .t3) (args .t4) (loop .free) (loop .inv .1 ∙ filling)
 
 pub opened-spec : {M : Type 1} → statement M
 opened-spec =

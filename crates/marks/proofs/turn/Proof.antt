@@ -43,20 +43,22 @@ loop-less c = search needs
 
 loop-again : tie.Need-loop-again Inv-loop μ-loop
 loop-again c =
-    let s = c .before .before .before .before .before .args .s in
-    let i = c .before .before .before .before .loop .i in
+    let args = c .before .before .before .before .before .args in
+    let loop = c .before .before .before .before .loop in
+    let s = args .s in
+    let i = loop .i in
     let turned = turning-more s (search needs) (search needs) i (c .before .before .before .loop-test .taken) in
-    (search needs, rw (c .before .before .is-page .ensures) (ap (turnPage (s .n) i) (c .before .before .before .before .loop .inv .1) ∙ turned))
+    (search needs, rw (c .before .before .is-page .ensures) (ap (turnPage (s .n) i) (loop .inv .1) ∙ turned))
 
 raise-requires : tie.Need-raise-requires Inv-loop μ-loop
 raise-requires c κs = omega (arith, ap (λ (t : Session). t .c) (c .before .loop .inv .1), c .before .before .pre)
 
 returns : tie.Need-returns Inv-loop μ-loop
 returns c =
+    let loop = c .before .before .loop in
     let s = c .before .before .before .args .s in
-    let all : c .before .before .loop .i ≡ mostPages = omega (arith, c .before .before .loop .inv .0, c .before .loop-test .left) in
-    c .raise .ensures
-    ∙ (ap raised (c .before .before .loop .inv .1 ∙ ap (turning s) all) ∙ turning-all s (search needs) (search needs))
+    let all : loop .i ≡ mostPages = omega (arith, loop .inv .0, c .before .loop-test .left) in
+    c .raise .ensures ∙ (ap raised (loop .inv .1 ∙ ap (turning s) all) ∙ turning-all s (search needs) (search needs))
 
 pub turn-spec : {M : Type 1} → statement M
 turn-spec =

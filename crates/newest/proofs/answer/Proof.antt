@@ -6,16 +6,22 @@ use Rattle.newest.proofs.answer.Statement.{statement}
 use Rattle.newest.proofs.answer.Tie as tie
 
 returns : tie.Need-returns
-returns c = λ w q. met-damage (c .before .before .args .s) w q (not-true (c .before .before .args .s .whole) (c .if1 .taken))
+returns c =
+    let args = c .before .before .args in
+    λ w q. met-damage (args .s) w q (not-true (args .s .whole) (c .if1 .taken))
 
 returns-2 : tie.Need-returns-2
-returns-2 c = λ w q. found-none (c .before .before .before .before .args .s) w q (not-false (c .before .before .before .before .args .s .whole) (c .before .before .if1 .left)) (c .if2 .taken)
+returns-2 c =
+    let args = c .before .before .before .before .args in
+    λ w q. found-none (args .s) w q (not-false (args .s .whole) (c .before .before .if1 .left)) (c .if2 .taken)
 
 cast-t4 : tie.Need-cast-t4
 cast-t4 c = search needs
 
 returns-3 : tie.Need-returns-3
-returns-3 c = λ w q. found-last (c .before .before .before .before .before .args .s) w q (not-false (c .before .before .before .before .before .args .s .whole) (c .before .before .before .if1 .left)) (c .before .if2 .left)
+returns-3 c =
+    let args = c .before .before .before .before .before .args in
+    λ w q. found-last (args .s) w q (not-false (args .s .whole) (c .before .before .before .if1 .left)) (c .before .if2 .left)
 
 pub answer-spec : {M : Type 1} → statement M
 answer-spec = tie.close (tie.spec returns returns-2 cast-t4 returns-3)

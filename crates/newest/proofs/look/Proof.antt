@@ -15,7 +15,12 @@ same-length : tie.Need-same-length
 same-length c = search needs
 
 returns : tie.Need-returns
-returns c = seen-told (c .before .before .before .sweep .last .0) (c .before .before .before .sweep .result) (c .answer .result) (walkOf (c .before .before .before .before .before .before .args .n) (c .before .before .before .before .before .before .args .c) (c .before .before .before .before .before .before .args .a) (c .before .before .before .before .before .before .args .t .now)) (c .before .before .before .sweep .ensures) (c .answer .ensures)
+returns c =
+    let args = c .before .before .before .before .before .before .args in
+    let sweep = c .before .before .before .sweep in
+    let answer = c .answer in
+    seen-told (sweep .last .0) (sweep .result) (answer .result) (walkOf (args .n) (args .c) (args .a) (args .t .now))
+    (sweep .ensures) (answer .ensures)
 
 pub look-spec : {M : Type 1} → statement M
 look-spec = tie.close (tie.spec sweep-requires answer-requires same-length returns)

@@ -15,43 +15,93 @@ same-length : tie.Need-same-length
 same-length c = search needs
 
 returns : tie.Need-returns
-returns c = bad-length (c .before .before .before .before .before .args .working .now) (c .before .before .before .before .before .args .stable .now) (c .before .before .before .before .before .args .session) (c .before .before .before .before .before .args .model) (c .before .before .before .before .before .args .serial) (sym (c .before .lengths-for .ensures (c .before .before .before .before .before .args .session) refl) ∙ not-true (c .before .lengths-for .result) (c .if1 .taken))
+returns c =
+    let args = c .before .before .before .before .before .args in
+    let lengths-for = c .before .lengths-for in
+    bad-length (args .working .now) (args .stable .now) (args .session) (args .model) (args .serial)
+    (sym (lengths-for .ensures (args .session) refl) ∙ not-true (lengths-for .result) (c .if1 .taken))
 
 same-length-2 : tie.Need-same-length-2
 same-length-2 c = search needs
 
 returns-2 : tie.Need-returns-2
-returns-2 c = bad-model (c .before .before .before .before .before .before .args .working .now) (c .before .before .before .before .before .before .args .stable .now) (c .before .before .before .before .before .before .args .session) (c .before .before .before .before .before .before .args .model) (c .before .before .before .before .before .before .args .serial) (sym (c .before .before .lengths-for .ensures (c .before .before .before .before .before .before .args .session) refl) ∙ not-false (c .before .before .lengths-for .result) (c .before .if1 .left)) (c .if2 .taken)
+returns-2 c =
+    let args = c .before .before .before .before .before .before .args in
+    let lengths-for = c .before .before .lengths-for in
+    bad-model (args .working .now) (args .stable .now) (args .session) (args .model) (args .serial)
+    (sym (lengths-for .ensures (args .session) refl) ∙ not-false (lengths-for .result) (c .before .if1 .left))
+    (c .if2 .taken)
 
 same-length-3 : tie.Need-same-length-3
 same-length-3 c = search needs
 
 returns-3 : tie.Need-returns-3
-returns-3 c = bad-serial (c .before .before .before .before .before .before .before .args .working .now) (c .before .before .before .before .before .before .before .args .stable .now) (c .before .before .before .before .before .before .before .args .session) (c .before .before .before .before .before .before .before .args .model) (c .before .before .before .before .before .before .before .args .serial) (sym (c .before .before .before .lengths-for .ensures (c .before .before .before .before .before .before .before .args .session) refl) ∙ not-false (c .before .before .before .lengths-for .result) (c .before .before .if1 .left)) (c .before .if2 .left) (c .if3 .taken)
+returns-3 c =
+    let args = c .before .before .before .before .before .before .before .args in
+    let lengths-for = c .before .before .before .lengths-for in
+    bad-serial (args .working .now) (args .stable .now) (args .session) (args .model) (args .serial)
+    (sym (lengths-for .ensures (args .session) refl) ∙ not-false (lengths-for .result) (c .before .before .if1 .left))
+    (c .before .if2 .left) (c .if3 .taken)
 
 cast-n : tie.Need-cast-n
 cast-n c = search needs
 
 fit0-requires : tie.Need-fit0-requires
-fit0-requires c κs = let l = lengthsFor-true (c .before .before .before .before .before .before .before .before .before .args .session) (c .before .before .before .before .before .before .before .before .before .args .working .now) (c .before .before .before .before .before .before .before .before .before .args .stable .now) (sym (c .before .before .before .before .before .lengths-for .ensures (c .before .before .before .before .before .before .before .before .before .args .session) refl) ∙ not-false (c .before .before .before .before .before .lengths-for .result) (c .before .before .before .before .if1 .left)) in omega (arith, l .working, l .least)
+fit0-requires c κs =
+    let args = c .before .before .before .before .before .before .before .before .before .args in
+    let lengths-for = c .before .before .before .before .before .lengths-for in
+    let if1 = c .before .before .before .before .if1 in
+    let l = lengthsFor-true (args .session) (args .working .now) (args .stable .now)
+    (sym (lengths-for .ensures (args .session) refl) ∙ not-false (lengths-for .result) (if1 .left)) in
+    omega (arith, l .working, l .least)
 
 same-length-4 : tie.Need-same-length-4
 same-length-4 c = search needs
 
 returns-4 : tie.Need-returns-4
-returns-4 c = bad-zero (c .before .before .before .before .before .before .before .before .before .before .before .args .working .now) (c .before .before .before .before .before .before .before .before .before .before .before .args .stable .now) (c .before .before .before .before .before .before .before .before .before .before .before .args .session) (c .before .before .before .before .before .before .before .before .before .before .before .args .model) (c .before .before .before .before .before .before .before .before .before .before .before .args .serial) (sym (c .before .before .before .before .before .before .before .lengths-for .ensures (c .before .before .before .before .before .before .before .before .before .before .before .args .session) refl) ∙ not-false (c .before .before .before .before .before .before .before .lengths-for .result) (c .before .before .before .before .before .before .if1 .left)) (c .before .before .before .before .before .if2 .left) (c .before .before .before .before .if3 .left) (sym (c .before .fit0 .ensures) ∙ not-true (c .before .fit0 .result) (c .if4 .taken))
+returns-4 c =
+    let args = c .before .before .before .before .before .before .before .before .before .before .before .args in
+    let lengths-for = c .before .before .before .before .before .before .before .lengths-for in
+    let if1 = c .before .before .before .before .before .before .if1 in
+    let if2 = c .before .before .before .before .before .if2 in
+    let if3 = c .before .before .before .before .if3 in
+    let fit0 = c .before .fit0 in
+    bad-zero (args .working .now) (args .stable .now) (args .session) (args .model) (args .serial)
+    (sym (lengths-for .ensures (args .session) refl) ∙ not-false (lengths-for .result) (if1 .left)) (if2 .left)
+    (if3 .left) (sym (fit0 .ensures) ∙ not-true (fit0 .result) (c .if4 .taken))
 
 meter-requires : tie.Need-meter-requires
 meter-requires c κs = search needs
 
 look-requires : tie.Need-look-requires
-look-requires c κs = (lengthsFor-true (c .before .before .before .before .before .before .before .before .before .before .before .before .before .args .session) (c .before .before .before .before .before .before .before .before .before .before .before .before .before .args .working .now) (c .before .before .before .before .before .before .before .before .before .before .before .before .before .args .stable .now) (sym (c .before .before .before .before .before .before .before .before .before .lengths-for .ensures (c .before .before .before .before .before .before .before .before .before .before .before .before .before .args .session) refl) ∙ not-false (c .before .before .before .before .before .before .before .before .before .lengths-for .result) (c .before .before .before .before .before .before .before .before .if1 .left)) .working, sym (c .before .before .before .fit0 .ensures) ∙ not-false (c .before .before .before .fit0 .result) (c .before .before .if4 .left))
+look-requires c κs =
+    let args = c .before .before .before .before .before .before .before .before .before .before .before .before .before .args in
+    let lengths-for = c .before .before .before .before .before .before .before .before .before .lengths-for in
+    let if1 = c .before .before .before .before .before .before .before .before .if1 in
+    let fit0 = c .before .before .before .fit0 in (
+      lengthsFor-true (args .session) (args .working .now) (args .stable .now)
+          (sym (lengths-for .ensures (args .session) refl) ∙ not-false (lengths-for .result) (if1 .left)) .working,
+      sym (fit0 .ensures) ∙ not-false (fit0 .result) (c .before .before .if4 .left),
+    )
 
 same-length-5 : tie.Need-same-length-5
 same-length-5 c = search needs
 
 returns-5 : tie.Need-returns-5
-returns-5 c = answers (c .before .before .before .before .before .before .before .before .before .before .before .before .before .before .before .before .args .working .now) (c .before .before .before .before .before .before .before .before .before .before .before .before .before .before .before .before .args .stable .now) (c .before .before .before .before .before .before .before .before .before .before .before .before .before .before .before .before .args .session) (c .before .before .before .before .before .before .before .before .before .before .before .before .before .before .before .before .args .model) (c .before .before .before .before .before .before .before .before .before .before .before .before .before .before .before .before .args .serial) (sym (c .before .before .before .before .before .before .before .before .before .before .before .before .lengths-for .ensures (c .before .before .before .before .before .before .before .before .before .before .before .before .before .before .before .before .args .session) refl) ∙ not-false (c .before .before .before .before .before .before .before .before .before .before .before .before .lengths-for .result) (c .before .before .before .before .before .before .before .before .before .before .before .if1 .left)) (c .before .before .before .before .before .before .before .before .before .before .if2 .left) (c .before .before .before .before .before .before .before .before .before .if3 .left) (sym (c .before .before .before .before .before .before .fit0 .ensures) ∙ not-false (c .before .before .before .before .before .before .fit0 .result) (c .before .before .before .before .before .if4 .left)) (c .before .before .before .meter .result) (c .before .before .before .meter .ensures) (c .before .before .look .last .0) (c .before .before .look .result) (c .before .before .look .ensures)
+returns-5 c =
+    let args = c .before .before .before .before .before .before .before .before .before .before .before .before .before .before .before .before .args in
+    let lengths-for = c .before .before .before .before .before .before .before .before .before .before .before .before .lengths-for in
+    let if1 = c .before .before .before .before .before .before .before .before .before .before .before .if1 in
+    let if2 = c .before .before .before .before .before .before .before .before .before .before .if2 in
+    let if3 = c .before .before .before .before .before .before .before .before .before .if3 in
+    let fit0 = c .before .before .before .before .before .before .fit0 in
+    let if4 = c .before .before .before .before .before .if4 in
+    let meter = c .before .before .before .meter in
+    let look = c .before .before .look in
+    answers (args .working .now) (args .stable .now) (args .session) (args .model) (args .serial)
+    (sym (lengths-for .ensures (args .session) refl) ∙ not-false (lengths-for .result) (if1 .left)) (if2 .left)
+    (if3 .left) (sym (fit0 .ensures) ∙ not-false (fit0 .result) (if4 .left)) (meter .result) (meter .ensures)
+    (look .last .0) (look .result) (look .ensures)
 
 pub newest-spec : {M : Type 1} → statement M
 newest-spec =

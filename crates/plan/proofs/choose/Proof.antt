@@ -13,13 +13,29 @@ entered-requires : tie.Need-entered-requires
 entered-requires c κs = search needs
 
 need-requires : tie.Need-need-requires
-need-requires c κs = omega (arith, splits-within (c .before .before .args .way) (c .before .before .pre .1) (c .before .splits .result) (c .before .splits .ensures), c .before .before .pre .1)
+need-requires c κs =
+    let pre = c .before .before .pre in
+    let splits = c .before .splits in
+    omega (arith, splits-within (c .before .before .args .way) (pre .1) (splits .result) (splits .ensures), pre .1)
 
 lowest-requires : tie.Need-lowest-requires
-lowest-requires c κs = chosen-asks (c .before .before .before .args .session) (c .before .before .before .args .way) (c .before .before .before .pre .0) (c .before .before .before .pre .1) (c .before .before .splits .result) (c .before .before .splits .ensures) (c .before .entered .result) (c .before .entered .ensures) (c .need .result) (c .need .ensures)
+lowest-requires c κs =
+    let args = c .before .before .before .args in
+    let pre = c .before .before .before .pre in
+    let splits = c .before .before .splits in
+    let entered = c .before .entered in
+    let need = c .need in
+    chosen-asks (args .session) (args .way) (pre .0) (pre .1) (splits .result) (splits .ensures) (entered .result)
+    (entered .ensures) (need .result) (need .ensures)
 
 returns : tie.Need-returns
-returns c = c .lowest .ensures ∙ chosen-of (c .before .before .before .before .args .session) (c .before .before .before .before .args .way) (c .before .before .before .splits .result) (c .before .before .before .splits .ensures) (c .before .before .entered .result) (c .before .before .entered .ensures) (c .before .need .result) (c .before .need .ensures)
+returns c =
+    let args = c .before .before .before .before .args in
+    let splits = c .before .before .before .splits in
+    let entered = c .before .before .entered in
+    let need = c .before .need in
+    c .lowest .ensures ∙ chosen-of (args .session) (args .way) (splits .result) (splits .ensures) (entered .result)
+    (entered .ensures) (need .result) (need .ensures)
 
 pub choose-spec : {M : Type 1} → statement M
 choose-spec =

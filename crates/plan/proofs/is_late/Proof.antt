@@ -7,7 +7,9 @@ returns : tie.Need-returns
 returns c = late-leaf (c .before .before .args .c) (c .before .before .args .head) (c .if1 .taken)
 
 returns-2 : tie.Need-returns-2
-returns-2 c = late-inner (c .before .before .before .args .c) (c .before .before .before .args .head) (c .before .if1 .left)
+returns-2 c =
+    let args = c .before .before .before .args in
+    late-inner (args .c) (args .head) (c .before .if1 .left)
 
 pub is-late-spec : {M : Type 1} → statement M
 is-late-spec = tie.close (tie.spec returns returns-2)

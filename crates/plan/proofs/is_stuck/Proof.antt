@@ -11,7 +11,12 @@ head-on-requires : tie.Need-head-on-requires
 head-on-requires c κs = search needs
 
 returns : tie.Need-returns
-returns c = stuck-root (c .before .before .before .before .before .args .way) (c .before .before .before .before .before .args .splits) (c .before .head-on .result) (c .before .before .before .before .before .pre .0) (c .before .before .before .before .before .pre .1) (c .before .before .before .if1 .taken) (c .before .head-on .ensures (c .before .head-on .result))
+returns c =
+    let args = c .before .before .before .before .before .args in
+    let pre = c .before .before .before .before .before .pre in
+    let head-on = c .before .head-on in
+    stuck-root (args .way) (args .splits) (head-on .result) (pre .0) (pre .1) (c .before .before .before .if1 .taken)
+    (head-on .ensures (head-on .result))
 
 returns-2 : tie.Need-returns-2
 returns-2 c = stuck-never (c .before .before .args .way) (c .before .before .args .splits) (c .if1 .left)

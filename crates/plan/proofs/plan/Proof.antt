@@ -12,25 +12,60 @@ splits-requires : tie.Need-splits-requires
 splits-requires c κs = few (c .before .pre)
 
 too-soon-requires : tie.Need-too-soon-requires
-too-soon-requires c κs = (splits-within (c .before .before .args .way) (few (c .before .before .pre)) (c .splits .result) (c .splits .ensures), few (c .before .before .pre))
+too-soon-requires c κs =
+    let pre = c .before .before .pre in
+    let splits = c .splits in
+    (splits-within (c .before .before .args .way) (few pre) (splits .result) (splits .ensures), few pre)
 
 returns-2 : tie.Need-returns-2
-returns-2 c = λ p. soon-planned p (c .before .before .before .before .args .present) (c .before .before .before .if1 .left) (c .before .before .splits .result) (c .before .before .splits .ensures) (c .before .too-soon .result) (c .before .too-soon .ensures) (c .if2 .taken)
+returns-2 c =
+    let args = c .before .before .before .before .args in
+    let splits = c .before .before .splits in
+    let too-soon = c .before .too-soon in
+    λ p. soon-planned p (args .present) (c .before .before .before .if1 .left) (splits .result) (splits .ensures) (too-soon .result) (too-soon .ensures) (c .if2 .taken)
 
 is-stuck-requires : tie.Need-is-stuck-requires
-is-stuck-requires c κs = (c .before .before .before .before .pre .some-page, few (c .before .before .before .before .pre))
+is-stuck-requires c κs =
+    let pre = c .before .before .before .before .pre in
+    (pre .some-page, few pre)
 
 returns-3 : tie.Need-returns-3
-returns-3 c = λ p. stuck-planned p (c .before .before .before .before .before .before .args .present) (c .before .before .before .before .before .if1 .left) (c .before .before .before .before .splits .result) (c .before .before .before .before .splits .ensures) (c .before .before .before .too-soon .result) (c .before .before .before .too-soon .ensures) (c .before .before .if2 .left) (c .before .is-stuck .result) (c .before .is-stuck .ensures) (c .if3 .taken)
+returns-3 c =
+    let args = c .before .before .before .before .before .before .args in
+    let if1 = c .before .before .before .before .before .if1 in
+    let splits = c .before .before .before .before .splits in
+    let too-soon = c .before .before .before .too-soon in
+    let is-stuck = c .before .is-stuck in
+    λ p. stuck-planned p (args .present) (if1 .left) (splits .result) (splits .ensures) (too-soon .result) (too-soon .ensures) (c .before .before .if2 .left) (is-stuck .result) (is-stuck .ensures) (c .if3 .taken)
 
 need-requires : tie.Need-need-requires
-need-requires c κs = omega (arith, splits-within (c .before .before .before .before .before .before .args .way) (few (c .before .before .before .before .before .before .pre)) (c .before .before .before .before .splits .result) (c .before .before .before .before .splits .ensures), few (c .before .before .before .before .before .before .pre))
+need-requires c κs =
+    let args = c .before .before .before .before .before .before .args in
+    let pre = c .before .before .before .before .before .before .pre in
+    let splits = c .before .before .before .before .splits in
+    omega (arith, splits-within (args .way) (few pre) (splits .result) (splits .ensures), few pre)
 
 returns-4 : tie.Need-returns-4
-returns-4 c = λ p. few-planned p (c .before .before .before .before .before .before .before .before .before .args .present) (c .before .before .before .before .before .before .before .before .if1 .left) (c .before .before .before .before .before .before .before .splits .result) (c .before .before .before .before .before .before .before .splits .ensures) (c .before .before .before .before .before .before .too-soon .result) (c .before .before .before .before .before .before .too-soon .ensures) (c .before .before .before .before .before .if2 .left) (c .before .before .before .before .is-stuck .result) (c .before .before .before .before .is-stuck .ensures) (c .before .before .before .if3 .left) (c .before .before .need .result) (c .before .before .need .ensures) (c .if4 .taken)
+returns-4 c =
+    let args = c .before .before .before .before .before .before .before .before .before .args in
+    let if1 = c .before .before .before .before .before .before .before .before .if1 in
+    let splits = c .before .before .before .before .before .before .before .splits in
+    let too-soon = c .before .before .before .before .before .before .too-soon in
+    let if2 = c .before .before .before .before .before .if2 in
+    let is-stuck = c .before .before .before .before .is-stuck in
+    let need = c .before .before .need in
+    λ p. few-planned p (args .present) (if1 .left) (splits .result) (splits .ensures) (too-soon .result) (too-soon .ensures) (if2 .left) (is-stuck .result) (is-stuck .ensures) (c .before .before .before .if3 .left) (need .result) (need .ensures) (c .if4 .taken)
 
 returns-5 : tie.Need-returns-5
-returns-5 c = λ p. go-planned p (c .before .before .before .before .before .before .before .before .before .args .present) (c .before .before .before .before .before .before .before .before .if1 .left) (c .before .before .before .before .before .before .before .splits .result) (c .before .before .before .before .before .before .before .splits .ensures) (c .before .before .before .before .before .before .too-soon .result) (c .before .before .before .before .before .before .too-soon .ensures) (c .before .before .before .before .before .if2 .left) (c .before .before .before .before .is-stuck .result) (c .before .before .before .before .is-stuck .ensures) (c .before .before .before .if3 .left) (c .before .before .need .result) (c .before .before .need .ensures) (omega (arith, c .if4 .left))
+returns-5 c =
+    let args = c .before .before .before .before .before .before .before .before .before .args in
+    let if1 = c .before .before .before .before .before .before .before .before .if1 in
+    let splits = c .before .before .before .before .before .before .before .splits in
+    let too-soon = c .before .before .before .before .before .before .too-soon in
+    let if2 = c .before .before .before .before .before .if2 in
+    let is-stuck = c .before .before .before .before .is-stuck in
+    let need = c .before .before .need in
+    λ p. go-planned p (args .present) (if1 .left) (splits .result) (splits .ensures) (too-soon .result) (too-soon .ensures) (if2 .left) (is-stuck .result) (is-stuck .ensures) (c .before .before .before .if3 .left) (need .result) (need .ensures) (omega (arith, c .if4 .left))
 
 pub plan-spec : {M : Type 1} → statement M
 plan-spec =

@@ -26,7 +26,14 @@ is-full-requires : tie.Need-is-full-requires Inv-loop μ-loop
 is-full-requires c κs = search needs
 
 returns : tie.Need-returns Inv-loop μ-loop
-returns c = splits-stop (c .before .before .before .before .before .before .args .way) (c .before .before .before .before .before .before .pre) (c .before .before .before .before .before .loop .i) (c .before .before .before .before .before .loop .inv .0) (c .before .before .head-on .result) (c .before .before .before .if1 .taken) (c .before .before .head-on .ensures (c .before .before .head-on .result)) (sym (c .before .is-full .ensures) ∙ not-true (c .before .is-full .result) (c .if2 .taken))
+returns c =
+    let args = c .before .before .before .before .before .before .args in
+    let pre = c .before .before .before .before .before .before .pre in
+    let loop = c .before .before .before .before .before .loop in
+    let head-on = c .before .before .head-on in
+    let is-full = c .before .is-full in
+    splits-stop (args .way) pre (loop .i) (loop .inv .0) (head-on .result) (c .before .before .before .if1 .taken)
+    (head-on .ensures (head-on .result)) (sym (is-full .ensures) ∙ not-true (is-full .result) (c .if2 .taken))
 
 add-i : tie.Need-add-i Inv-loop μ-loop
 add-i c = search needs
@@ -35,10 +42,24 @@ loop-less : tie.Need-loop-less Inv-loop μ-loop
 loop-less c = search needs
 
 loop-again : tie.Need-loop-again Inv-loop μ-loop
-loop-again c = (splits-next (c .before .before .before .before .before .before .args .way) (c .before .before .before .before .before .before .pre) (c .before .before .before .before .before .loop .i) (c .before .before .before .before .before .loop .inv .0) (c .before .before .head-on .result) (c .before .before .before .if1 .taken) (c .before .before .head-on .ensures (c .before .before .head-on .result)) (sym (c .before .is-full .ensures) ∙ not-false (c .before .is-full .result) (c .if2 .left)), omega (arith, c .before .before .before .if1 .taken))
+loop-again c =
+    let args = c .before .before .before .before .before .before .args in
+    let pre = c .before .before .before .before .before .before .pre in
+    let loop = c .before .before .before .before .before .loop in
+    let if1 = c .before .before .before .if1 in
+    let head-on = c .before .before .head-on in
+    let is-full = c .before .is-full in (
+      splits-next (args .way) pre (loop .i) (loop .inv .0) (head-on .result) (if1 .taken)
+          (head-on .ensures (head-on .result)) (sym (is-full .ensures) ∙ not-false (is-full .result) (c .if2 .left)),
+      omega (arith, if1 .taken),
+    )
 
 returns-2 : tie.Need-returns-2 Inv-loop μ-loop
-returns-2 c = splits-done (c .before .before .before .args .way) (c .before .before .before .pre) (c .before .before .loop .i) (c .before .before .loop .inv .0) (c .before .before .before .args .way .leaf .head) (c .if1 .left)
+returns-2 c =
+    let args = c .before .before .before .args in
+    let loop = c .before .before .loop in
+    splits-done (args .way) (c .before .before .before .pre) (loop .i) (loop .inv .0) (args .way .leaf .head)
+    (c .if1 .left)
 
 pub splits-spec : {M : Type 1} → statement M
 splits-spec =

@@ -25,7 +25,14 @@ is-late-requires : tie.Need-is-late-requires Inv-loop μ-loop
 is-late-requires c κs = search needs
 
 returns : tie.Need-returns Inv-loop μ-loop
-returns c = soon-stop (c .before .before .before .before .before .args .way) (c .before .before .before .before .before .pre .1) (c .before .before .before .before .before .args .splits) (c .before .before .before .before .before .pre .0) (c .before .before .before .before .before .args .c) (c .before .before .before .before .loop .i) (c .before .before .before .before .loop .inv .0) (c .before .before .head-on .result) (c .before .before .before .loop-test .taken) (c .before .before .head-on .ensures (c .before .before .head-on .result)) (sym (c .before .is-late .ensures) ∙ c .if1 .taken)
+returns c =
+    let args = c .before .before .before .before .before .args in
+    let pre = c .before .before .before .before .before .pre in
+    let loop = c .before .before .before .before .loop in
+    let head-on = c .before .before .head-on in
+    soon-stop (args .way) (pre .1) (args .splits) (pre .0) (args .c) (loop .i) (loop .inv .0) (head-on .result)
+    (c .before .before .before .loop-test .taken) (head-on .ensures (head-on .result))
+    (sym (c .before .is-late .ensures) ∙ c .if1 .taken)
 
 add-i : tie.Need-add-i Inv-loop μ-loop
 add-i c = search needs
@@ -34,10 +41,24 @@ loop-less : tie.Need-loop-less Inv-loop μ-loop
 loop-less c = search needs
 
 loop-again : tie.Need-loop-again Inv-loop μ-loop
-loop-again c = (soon-next (c .before .before .before .before .before .args .way) (c .before .before .before .before .before .pre .1) (c .before .before .before .before .before .args .splits) (c .before .before .before .before .before .pre .0) (c .before .before .before .before .before .args .c) (c .before .before .before .before .loop .i) (c .before .before .before .before .loop .inv .0) (c .before .before .head-on .result) (c .before .before .before .loop-test .taken) (c .before .before .head-on .ensures (c .before .before .head-on .result)) (sym (c .before .is-late .ensures) ∙ c .if1 .left), omega (arith, c .before .before .before .loop-test .taken))
+loop-again c =
+    let args = c .before .before .before .before .before .args in
+    let pre = c .before .before .before .before .before .pre in
+    let loop = c .before .before .before .before .loop in
+    let loop-test = c .before .before .before .loop-test in
+    let head-on = c .before .before .head-on in (
+      soon-next (args .way) (pre .1) (args .splits) (pre .0) (args .c) (loop .i) (loop .inv .0) (head-on .result)
+          (loop-test .taken) (head-on .ensures (head-on .result)) (sym (c .before .is-late .ensures) ∙ c .if1 .left),
+      omega (arith, loop-test .taken),
+    )
 
 returns-2 : tie.Need-returns-2 Inv-loop μ-loop
-returns-2 c = soon-done (c .before .before .args .way) (c .before .before .pre .1) (c .before .before .args .splits) (c .before .before .pre .0) (c .before .before .args .c) (c .before .loop .i) (c .before .loop .inv .0) (c .before .before .args .way .leaf .head) (c .loop-test .left)
+returns-2 c =
+    let args = c .before .before .args in
+    let pre = c .before .before .pre in
+    let loop = c .before .loop in
+    soon-done (args .way) (pre .1) (args .splits) (pre .0) (args .c) (loop .i) (loop .inv .0) (args .way .leaf .head)
+    (c .loop-test .left)
 
 pub too-soon-spec : {M : Type 1} → statement M
 too-soon-spec =

@@ -11,7 +11,10 @@ stands-requires : tie.Need-stands-requires
 stands-requires c κs = search needs
 
 returns : tie.Need-returns
-returns c = eqb-true (c .before .before .before .args .guess) (spotOf (c .before .before .before .args .key) (keysIn (c .before .before .before .args .size) (c .before .before .before .args .count) (c .before .before .before .args .page .now))) (sym (c .before .stands .ensures) ∙ c .if1 .taken)
+returns c =
+    let args = c .before .before .before .args in
+    eqb-true (args .guess) (spotOf (args .key) (keysIn (args .size) (args .count) (args .page .now)))
+    (sym (c .before .stands .ensures) ∙ c .if1 .taken)
 
 seek-requires : tie.Need-seek-requires
 seek-requires c κs = search needs

@@ -17,25 +17,47 @@ abbrev μ-loop : tie.MeasureT-loop
 μ-loop page size count key low₀ left₀ low left = left
 
 loop-holds : tie.Need-loop-holds Inv-loop μ-loop
-loop-holds c = halving-all (c .before .args .key) (c .before .args .size) (c .before .args .count) (c .before .args .page .now)
+loop-holds c =
+    let args = c .before .args in
+    halving-all (args .key) (args .size) (args .count) (args .page .now)
 
 sub-step : tie.Need-sub-step Inv-loop μ-loop
 sub-step c = omega arith
 
 add-get64 : tie.Need-add-get64 Inv-loop μ-loop
-add-get64 c = omega (arith, half-inside (c .before .before .before .args .key) (c .before .before .before .args .size) (c .before .before .before .args .count) (c .before .before .before .args .page .now) (c .before .loop .low) (c .before .loop .left) (c .before .loop .inv) (omega arith))
+add-get64 c =
+    let args = c .before .before .before .args in
+    let loop = c .before .loop in
+    omega
+    (arith, half-inside (args .key) (args .size) (args .count) (args .page .now) (loop .low) (loop .left) (loop .inv) (omega arith))
 
 sub-get64 : tie.Need-sub-get64 Inv-loop μ-loop
-sub-get64 c = omega (arith, half-inside (c .before .before .before .args .key) (c .before .before .before .args .size) (c .before .before .before .args .count) (c .before .before .before .args .page .now) (c .before .loop .low) (c .before .loop .left) (c .before .loop .inv) (omega arith))
+sub-get64 c =
+    let args = c .before .before .before .args in
+    let loop = c .before .loop in
+    omega
+    (arith, half-inside (args .key) (args .size) (args .count) (args .page .now) (loop .low) (loop .left) (loop .inv) (omega arith))
 
 mul-get64 : tie.Need-mul-get64 Inv-loop μ-loop
-mul-get64 c = omega (arith, within (c .before .before .before .args .size) (c .before .loop .low + (c .before .loop .left - c .before .loop .left / 2) - 1) (c .before .before .before .args .count) (half-inside (c .before .before .before .args .key) (c .before .before .before .args .size) (c .before .before .before .args .count) (c .before .before .before .args .page .now) (c .before .loop .low) (c .before .loop .left) (c .before .loop .inv) (omega arith)))
+mul-get64 c =
+    let args = c .before .before .before .args in
+    let loop = c .before .loop in
+    omega
+    (arith, within (args .size) (loop .low + (loop .left - loop .left / 2) - 1) (args .count) (half-inside (args .key) (args .size) (args .count) (args .page .now) (loop .low) (loop .left) (loop .inv) (omega arith)))
 
 add-get64-2 : tie.Need-add-get64-2 Inv-loop μ-loop
-add-get64-2 c = omega (arith, within (c .before .before .before .args .size) (c .before .loop .low + (c .before .loop .left - c .before .loop .left / 2) - 1) (c .before .before .before .args .count) (half-inside (c .before .before .before .args .key) (c .before .before .before .args .size) (c .before .before .before .args .count) (c .before .before .before .args .page .now) (c .before .loop .low) (c .before .loop .left) (c .before .loop .inv) (omega arith)))
+add-get64-2 c =
+    let args = c .before .before .before .args in
+    let loop = c .before .loop in
+    omega
+    (arith, within (args .size) (loop .low + (loop .left - loop .left / 2) - 1) (args .count) (half-inside (args .key) (args .size) (args .count) (args .page .now) (loop .low) (loop .left) (loop .inv) (omega arith)))
 
 get64-requires : tie.Need-get64-requires Inv-loop μ-loop
-get64-requires c κs = omega (arith, within (c .before .before .before .args .size) (c .before .loop .low + (c .before .loop .left - c .before .loop .left / 2) - 1) (c .before .before .before .args .count) (half-inside (c .before .before .before .args .key) (c .before .before .before .args .size) (c .before .before .before .args .count) (c .before .before .before .args .page .now) (c .before .loop .low) (c .before .loop .left) (c .before .loop .inv) (omega arith)))
+get64-requires c κs =
+    let args = c .before .before .before .args in
+    let loop = c .before .loop in
+    omega
+    (arith, within (args .size) (loop .low + (loop .left - loop .left / 2) - 1) (args .count) (half-inside (args .key) (args .size) (args .count) (args .page .now) (loop .low) (loop .left) (loop .inv) (omega arith)))
 
 cast-low : tie.Need-cast-low Inv-loop μ-loop
 cast-low c = search needs
@@ -44,10 +66,22 @@ shl-low : tie.Need-shl-low Inv-loop μ-loop
 shl-low c = omega (arith, one-most (leb (c .get64 .result) (c .before .before .before .before .args .key)))
 
 sub-low : tie.Need-sub-low Inv-loop μ-loop
-sub-low c = shifted (c .before .before .before .before .args .key) (c .get64 .result) (c .before .before .loop .left - c .before .before .loop .left / 2) (omega (arith, few (c .before .before .before .before .args .size) (c .before .before .before .before .args .count) (c .before .before .before .before .pre .0) (omega arith), half-inside (c .before .before .before .before .args .key) (c .before .before .before .before .args .size) (c .before .before .before .before .args .count) (c .before .before .before .before .args .page .now) (c .before .before .loop .low) (c .before .before .loop .left) (c .before .before .loop .inv) (omega arith))) .0
+sub-low c =
+    let args = c .before .before .before .before .args in
+    let pre = c .before .before .before .before .pre in
+    let loop = c .before .before .loop in
+    shifted (args .key) (c .get64 .result) (loop .left - loop .left / 2)
+    (omega (arith, few (args .size) (args .count) (pre .0) (omega arith), half-inside (args .key) (args .size) (args .count) (args .page .now) (loop .low) (loop .left) (loop .inv) (omega arith))) .0
 
 add-low : tie.Need-add-low Inv-loop μ-loop
-add-low c = rw (shifted (c .before .before .before .before .args .key) (c .get64 .result) (c .before .before .loop .left - c .before .before .loop .left / 2) (omega (arith, few (c .before .before .before .before .args .size) (c .before .before .before .before .args .count) (c .before .before .before .before .pre .0) (omega arith), half-inside (c .before .before .before .before .args .key) (c .before .before .before .before .args .size) (c .before .before .before .before .args .count) (c .before .before .before .before .args .page .now) (c .before .before .loop .low) (c .before .before .loop .left) (c .before .before .loop .inv) (omega arith))) .1) (omega (arith, passed-most (c .before .before .before .before .args .key) (c .get64 .result) (c .before .before .loop .left - c .before .before .loop .left / 2), few (c .before .before .before .before .args .size) (c .before .before .before .before .args .count) (c .before .before .before .before .pre .0) (omega arith), half-inside (c .before .before .before .before .args .key) (c .before .before .before .before .args .size) (c .before .before .before .before .args .count) (c .before .before .before .before .args .page .now) (c .before .before .loop .low) (c .before .before .loop .left) (c .before .before .loop .inv) (omega arith)))
+add-low c =
+    let args = c .before .before .before .before .args in
+    let pre = c .before .before .before .before .pre in
+    let loop = c .before .before .loop in
+    let get64 = c .get64 in
+    rw
+    (shifted (args .key) (get64 .result) (loop .left - loop .left / 2) (omega (arith, few (args .size) (args .count) (pre .0) (omega arith), half-inside (args .key) (args .size) (args .count) (args .page .now) (loop .low) (loop .left) (loop .inv) (omega arith))) .1)
+    (omega (arith, passed-most (args .key) (get64 .result) (loop .left - loop .left / 2), few (args .size) (args .count) (pre .0) (omega arith), half-inside (args .key) (args .size) (args .count) (args .page .now) (loop .low) (loop .left) (loop .inv) (omega arith)))
 
 sub-left : tie.Need-sub-left Inv-loop μ-loop
 sub-left c = omega arith
@@ -56,10 +90,21 @@ loop-less : tie.Need-loop-less Inv-loop μ-loop
 loop-less c = omega arith
 
 loop-again : tie.Need-loop-again Inv-loop μ-loop
-loop-again c = rw (shifted (c .before .before .before .before .args .key) (c .get64 .result) (c .before .before .loop .left - c .before .before .loop .left / 2) (omega (arith, few (c .before .before .before .before .args .size) (c .before .before .before .before .args .count) (c .before .before .before .before .pre .0) (omega arith), half-inside (c .before .before .before .before .args .key) (c .before .before .before .before .args .size) (c .before .before .before .before .args .count) (c .before .before .before .before .args .page .now) (c .before .before .loop .low) (c .before .before .loop .left) (c .before .before .loop .inv) (omega arith))) .1) (halving-step (c .before .before .before .before .args .key) (c .before .before .before .before .args .size) (c .before .before .before .before .args .count) (c .before .before .before .before .args .page .now) (c .before .before .loop .low) (c .before .before .loop .left) (c .before .before .loop .inv) (omega arith) (c .get64 .result) (c .get64 .ensures))
+loop-again c =
+    let args = c .before .before .before .before .args in
+    let pre = c .before .before .before .before .pre in
+    let loop = c .before .before .loop in
+    let get64 = c .get64 in
+    rw
+    (shifted (args .key) (get64 .result) (loop .left - loop .left / 2) (omega (arith, few (args .size) (args .count) (pre .0) (omega arith), half-inside (args .key) (args .size) (args .count) (args .page .now) (loop .low) (loop .left) (loop .inv) (omega arith))) .1)
+    (halving-step (args .key) (args .size) (args .count) (args .page .now) (loop .low) (loop .left) (loop .inv) (omega arith) (get64 .result) (get64 .ensures))
 
 returns : tie.Need-returns Inv-loop μ-loop
-returns c = halving-end (c .before .before .before .args .key) (c .before .before .before .args .size) (c .before .before .before .args .count) (c .before .before .before .args .page .now) (c .before .loop .low) (c .before .loop .left) (c .before .loop .inv) (omega arith)
+returns c =
+    let args = c .before .before .before .args in
+    let loop = c .before .loop in
+    halving-end (args .key) (args .size) (args .count) (args .page .now) (loop .low) (loop .left) (loop .inv)
+    (omega arith)
 
 pub guess-spec : {M : Type 1} → statement M
 guess-spec =

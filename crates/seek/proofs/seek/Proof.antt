@@ -11,7 +11,10 @@ guess-requires : tie.Need-guess-requires
 guess-requires c κs = search needs
 
 returns : tie.Need-returns
-returns c = c .guess .ensures ∙ guess-spot (c .before .before .args .key) (keysIn (c .before .before .args .size) (c .before .before .args .count) (c .before .before .args .page .now)) (c .before .before .pre .3)
+returns c =
+    let args = c .before .before .args in
+    c .guess .ensures ∙ guess-spot (args .key) (keysIn (args .size) (args .count) (args .page .now))
+    (c .before .before .pre .3)
 
 pub seek-spec : {M : Type 1} → statement M
 seek-spec = tie.close (tie.spec guess-requires returns)

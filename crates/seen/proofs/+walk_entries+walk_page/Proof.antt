@@ -57,7 +57,10 @@ abbrev walk-page-in : ℕ → walk-page-lts.Claims
 walk-page-in t = (shown-at-reads.Asked, shown-at-reads.Learnt, name-place-reads.Asked, name-place-reads.Learnt, walk-entries-below t, walk-entries.Post)
 
 walk-entries-returns : (t : ℕ) → walk-entries-lts.Need-returns (walk-entries-in t) (walk-entries-at t) walk-entries.Post
-walk-entries-returns t c = run-none (tree (c .before .before .before .before .before .args .level) (c .before .before .before .before .before .args .n) (c .before .before .before .before .before .args .table .now)) (c .before .before .before .before .before .args .table .now) (c .before .before .before .before .before .args .high) (c .before .before .before .before .before .args .r) (seenOf (c .before .before .before .before .before .args .whole) (c .before .before .before .before .before .args .children .now) (c .before .before .before .before .before .args .spared .now)) (c .if1 .taken)
+walk-entries-returns t c =
+    let args = c .before .before .before .before .before .args in
+    run-none (tree (args .level) (args .n) (args .table .now)) (args .table .now) (args .high) (args .r)
+    (seenOf (args .whole) (args .children .now) (args .spared .now)) (c .if1 .taken)
 
 walk-entries-place-in-requires : (t : ℕ) → walk-entries-lts.Need-place-in-requires (walk-entries-in t) (walk-entries-at t) walk-entries.Post
 walk-entries-place-in-requires t c κs = search needs
@@ -69,7 +72,17 @@ walk-entries-rest-of-requires : (t : ℕ) → walk-entries-lts.Need-rest-of-requ
 walk-entries-rest-of-requires t c κs = search needs
 
 walk-entries-walk-entries-requires : (t : ℕ) → walk-entries-lts.Need-walk-entries-requires (walk-entries-in t) (walk-entries-at t) walk-entries.Post
-walk-entries-walk-entries-requires t c κs = (omega (arith, c .before .before .before .before .before .before .before .before .before .before .before .before .before .before .before .before .pre .0, ap (λ (x : Run). x .left) (c .before .before .rest-of .ensures), c .before .before .before .before .before .before .before .before .before .before .before .if1 .left), (c .before .before .before .before .before .before .before .before .before .before .before .before .before .before .before .before .pre .1 .0, lies-rest (c .before .before .before .before .before .before .before .before .before .before .before .before .before .before .before .before .args .n) (c .before .before .before .before .before .before .before .before .before .before .before .before .before .before .before .before .args .r) (c .before .before .rest-of .result) (c .before .before .rest-of .ensures) (omega (arith, c .before .before .before .before .before .before .before .before .before .before .before .if1 .left)) (c .before .before .before .before .before .before .before .before .before .before .before .before .before .before .before .before .pre .1 .1)))
+walk-entries-walk-entries-requires t c κs =
+    let args = c .before .before .before .before .before .before .before .before .before .before .before .before .before .before .before .before .args in
+    let pre = c .before .before .before .before .before .before .before .before .before .before .before .before .before .before .before .before .pre in
+    let if1 = c .before .before .before .before .before .before .before .before .before .before .before .if1 in
+    let rest-of = c .before .before .rest-of in (
+      omega (arith, pre .0, ap (λ (x : Run). x .left) (rest-of .ensures), if1 .left),
+      (
+        pre .1 .0,
+        lies-rest (args .n) (args .r) (rest-of .result) (rest-of .ensures) (omega (arith, if1 .left)) (pre .1 .1),
+      ),
+    )
 
 walk-entries-same-length : (t : ℕ) → walk-entries-lts.Need-same-length (walk-entries-in t) (walk-entries-at t) walk-entries.Post
 walk-entries-same-length t c = search needs
@@ -78,10 +91,25 @@ walk-entries-same-length-2 : (t : ℕ) → walk-entries-lts.Need-same-length-2 (
 walk-entries-same-length-2 t c = search needs
 
 walk-entries-returns-2 : (t : ℕ) → walk-entries-lts.Need-returns-2 (walk-entries-in t) (walk-entries-at t) walk-entries.Post
-walk-entries-returns-2 t c = run-step (tree (c .before .before .before .before .before .before .before .before .before .before .before .before .before .before .before .before .before .before .before .before .before .args .level) (c .before .before .before .before .before .before .before .before .before .before .before .before .before .before .before .before .before .before .before .before .before .args .n) (c .before .before .before .before .before .before .before .before .before .before .before .before .before .before .before .before .before .before .before .before .before .args .table .now)) (c .before .before .before .before .before .before .before .before .before .before .before .before .before .before .before .before .before .before .before .before .before .args .table .now) (c .before .before .before .before .before .before .before .before .before .before .before .before .before .before .before .before .before .before .before .before .before .args .high) (c .before .before .before .before .before .before .before .before .before .before .before .before .before .before .before .before .before .before .before .before .before .args .r) (seenOf (c .before .before .before .before .before .before .before .before .before .before .before .before .before .before .before .before .before .before .before .before .before .args .whole) (c .before .before .before .before .before .before .before .before .before .before .before .before .before .before .before .before .before .before .before .before .before .args .children .now) (c .before .before .before .before .before .before .before .before .before .before .before .before .before .before .before .before .before .before .before .before .before .args .spared .now)) (c .before .before .before .before .before .before .before .before .before .before .before .before .before .before .before .place-in .result) (c .before .before .before .before .before .before .before .rest-of .result) (seenOf (c .before .before .before .before .before .before .before .before .before .before .before .before .walk-page .result) (c .before .before .before .before .before .before .before .before .before .before .before .before .walk-page .last .1 .1 .1 .1 .1 .0) (c .before .before .before .before .before .before .before .before .before .before .before .before .walk-page .last .1 .1 .1 .1 .1 .1 .0)) (seenOf (c .before .before .before .before .walk-entries .result) (c .before .before .before .before .walk-entries .last .1 .1 .1 .1 .1 .1 .0) (c .before .before .before .before .walk-entries .last .1 .1 .1 .1 .1 .1 .1 .0)) (omega (arith, c .before .before .before .before .before .before .before .before .before .before .before .before .before .before .before .before .if1 .left)) (c .before .before .before .before .before .before .before .before .before .before .before .before .before .before .before .place-in .ensures) (c .before .before .before .before .before .before .before .rest-of .ensures) (c .before .before .before .before .before .before .before .before .before .before .before .before .walk-page .ensures) (c .before .before .before .before .walk-entries .ensures)
+walk-entries-returns-2 t c =
+    let args = c .before .before .before .before .before .before .before .before .before .before .before .before .before .before .before .before .before .before .before .before .before .args in
+    let if1 = c .before .before .before .before .before .before .before .before .before .before .before .before .before .before .before .before .if1 in
+    let place-in = c .before .before .before .before .before .before .before .before .before .before .before .before .before .before .before .place-in in
+    let walk-page′ = c .before .before .before .before .before .before .before .before .before .before .before .before .walk-page in
+    let rest-of = c .before .before .before .before .before .before .before .rest-of in
+    let walk-entries′ = c .before .before .before .before .walk-entries in
+    run-step (tree (args .level) (args .n) (args .table .now)) (args .table .now) (args .high) (args .r)
+    (seenOf (args .whole) (args .children .now) (args .spared .now)) (place-in .result) (rest-of .result)
+    (seenOf (walk-page′ .result) (walk-page′ .last .1 .1 .1 .1 .1 .0) (walk-page′ .last .1 .1 .1 .1 .1 .1 .0))
+    (seenOf (walk-entries′ .result) (walk-entries′ .last .1 .1 .1 .1 .1 .1 .0) (walk-entries′ .last .1 .1 .1 .1 .1 .1 .1 .0))
+    (omega (arith, if1 .left)) (place-in .ensures) (rest-of .ensures) (walk-page′ .ensures) (walk-entries′ .ensures)
 
 walk-page-returns : (t : ℕ) → walk-page-lts.Need-returns (walk-page-in t) (walk-page-at t) walk-page.Post
-walk-page-returns t c = note-broken (seenOf (c .before .before .before .before .args .whole) (c .before .before .before .before .args .children .now) (c .before .before .before .before .args .spared .now)) ∙ ap (note (seenOf (c .before .before .before .before .args .whole) (c .before .before .before .before .args .children .now) (c .before .before .before .before .args .spared .now))) (page-deep (c .before .before .before .before .args .n) (c .before .before .before .before .args .table .now) (c .before .before .before .before .args .e) (c .before .before .before .before .args .level) (c .if1 .taken))
+walk-page-returns t c =
+    let args = c .before .before .before .before .args in
+    note-broken (seenOf (args .whole) (args .children .now) (args .spared .now))
+    ∙ ap (note (seenOf (args .whole) (args .children .now) (args .spared .now)))
+    (page-deep (args .n) (args .table .now) (args .e) (args .level) (c .if1 .taken))
 
 walk-page-shown-at-requires : (t : ℕ) → walk-page-lts.Need-shown-at-requires (walk-page-in t) (walk-page-at t) walk-page.Post
 walk-page-shown-at-requires t c κs = search needs
@@ -93,7 +121,12 @@ walk-page-enum-told : (t : ℕ) → walk-page-lts.Need-enum-told (walk-page-in t
 walk-page-enum-told t c = search needs
 
 walk-page-returns-2 : (t : ℕ) → walk-page-lts.Need-returns-2 (walk-page-in t) (walk-page-at t) walk-page.Post
-walk-page-returns-2 t c = note-broken (seenOf (c .before .before .before .before .before .before .before .args .whole) (c .before .before .before .before .before .before .before .args .children .now) (c .before .before .before .before .before .before .before .args .spared .now)) ∙ ap (note (seenOf (c .before .before .before .before .before .before .before .args .whole) (c .before .before .before .before .before .before .before .args .children .now) (c .before .before .before .before .before .before .before .args .spared .now))) (page-damaged (c .before .before .before .before .before .before .before .args .n) (c .before .before .before .before .before .before .before .args .table .now) (c .before .before .before .before .before .before .before .args .e) (c .before .before .before .before .before .before .before .pre .1) (c .before .before .before .before .before .before .before .args .level) (c .before .before .before .if1 .left) (sym (c .before .before .shown-at .ensures) ∙ c .enum-told .given .1))
+walk-page-returns-2 t c =
+    let args = c .before .before .before .before .before .before .before .args in
+    let pre = c .before .before .before .before .before .before .before .pre in
+    note-broken (seenOf (args .whole) (args .children .now) (args .spared .now))
+    ∙ ap (note (seenOf (args .whole) (args .children .now) (args .spared .now)))
+    (page-damaged (args .n) (args .table .now) (args .e) (pre .1) (args .level) (c .before .before .before .if1 .left) (sym (c .before .before .shown-at .ensures) ∙ c .enum-told .given .1))
 
 walk-page-cast-name-place : (t : ℕ) → walk-page-lts.Need-cast-name-place (walk-page-in t) (walk-page-at t) walk-page.Post
 walk-page-cast-name-place t c = search needs
@@ -105,7 +138,15 @@ walk-page-sub-walk-entries : (t : ℕ) → walk-page-lts.Need-sub-walk-entries (
 walk-page-sub-walk-entries t c = search needs
 
 walk-page-walk-entries-requires : (t : ℕ) → walk-page-lts.Need-walk-entries-requires (walk-page-in t) (walk-page-at t) walk-page.Post
-walk-page-walk-entries-requires t c κs = let w = showing (c .before .before .before .before .before .before .before .before .before .before .before .before .before .before .before .before .before .before .args .n) (c .before .before .before .before .before .before .before .before .before .before .before .before .before .before .before .before .before .before .args .table .now) (c .before .before .before .before .before .before .before .before .before .before .before .before .before .before .before .before .before .before .args .e) (c .before .before .before .before .before .before .before .before .before .before .before .before .before .before .before .before .before .before .pre .1) (c .before .before .before .before .before .before .before .before .before .before .before .r .given .0 .0) (sym (c .before .before .before .before .before .before .before .before .before .before .before .before .before .shown-at .ensures) ∙ c .before .before .before .before .before .before .before .before .before .before .before .r .given .1) in (omega (arith, c .before .before .before .before .before .before .before .before .before .before .before .before .before .before .before .before .before .before .pre .0, w .lies .end, c .before .before .before .before .before .before .before .before .before .before .before .before .before .before .if1 .left), (c .before .before .before .before .before .before .before .before .before .before .before .before .before .before .before .before .before .before .pre .1, w .lies))
+walk-page-walk-entries-requires t c κs =
+    let args = c .before .before .before .before .before .before .before .before .before .before .before .before .before .before .before .before .before .before .args in
+    let pre = c .before .before .before .before .before .before .before .before .before .before .before .before .before .before .before .before .before .before .pre in
+    let if1 = c .before .before .before .before .before .before .before .before .before .before .before .before .before .before .if1 in
+    let shown-at = c .before .before .before .before .before .before .before .before .before .before .before .before .before .shown-at in
+    let r = c .before .before .before .before .before .before .before .before .before .before .before .r in
+    let w = showing (args .n) (args .table .now) (args .e) (pre .1) (r .given .0 .0)
+    (sym (shown-at .ensures) ∙ r .given .1) in
+    (omega (arith, pre .0, w .lies .end, if1 .left), (pre .1, w .lies))
 
 walk-page-same-length : (t : ℕ) → walk-page-lts.Need-same-length (walk-page-in t) (walk-page-at t) walk-page.Post
 walk-page-same-length t c = search needs
@@ -114,7 +155,19 @@ walk-page-same-length-2 : (t : ℕ) → walk-page-lts.Need-same-length-2 (walk-p
 walk-page-same-length-2 t c = search needs
 
 walk-page-returns-3 : (t : ℕ) → walk-page-lts.Need-returns-3 (walk-page-in t) (walk-page-at t) walk-page.Post
-walk-page-returns-3 t c = page-walk (c .before .before .before .before .before .before .before .before .before .before .before .before .before .before .before .before .before .before .before .before .before .before .before .args .n) (c .before .before .before .before .before .before .before .before .before .before .before .before .before .before .before .before .before .before .before .before .before .before .before .args .table .now) (c .before .before .before .before .before .before .before .before .before .before .before .before .before .before .before .before .before .before .before .before .before .before .before .args .e) (c .before .before .before .before .before .before .before .before .before .before .before .before .before .before .before .before .before .before .before .before .before .before .before .pre .1) (c .before .before .before .before .before .before .before .before .before .before .before .before .before .before .before .before .before .before .before .before .before .before .before .args .level) (c .before .before .before .before .before .before .before .before .before .before .before .before .before .before .before .before .r .given .0 .0) (seenOf (c .before .before .before .before .before .before .before .before .before .before .before .before .before .before .before .before .before .before .before .before .before .before .before .args .whole) (c .before .before .before .before .before .before .before .before .before .before .before .before .before .before .before .before .before .before .before .before .before .before .before .args .children .now) (c .before .before .before .before .before .before .before .before .before .before .before .before .before .before .before .before .before .before .before .before .before .before .before .args .spared .now)) (seenOf (c .before .before .before .before .before .before .before .before .before .before .before .name-place .result) (c .before .before .before .before .before .before .before .before .before .before .before .name-place .last .1 .1 .1 .0) (c .before .before .before .before .before .before .before .before .before .before .before .name-place .last .1 .1 .1 .1 .0)) (seenOf (c .before .before .before .before .walk-entries .result) (c .before .before .before .before .walk-entries .last .1 .1 .1 .1 .1 .1 .0) (c .before .before .before .before .walk-entries .last .1 .1 .1 .1 .1 .1 .1 .0)) (c .before .before .before .before .before .before .before .before .before .before .before .before .before .before .before .before .before .before .before .if1 .left) (sym (c .before .before .before .before .before .before .before .before .before .before .before .before .before .before .before .before .before .before .shown-at .ensures) ∙ c .before .before .before .before .before .before .before .before .before .before .before .before .before .before .before .before .r .given .1) (c .before .before .before .before .before .before .before .before .before .before .before .name-place .ensures) (c .before .before .before .before .walk-entries .ensures)
+walk-page-returns-3 t c =
+    let args = c .before .before .before .before .before .before .before .before .before .before .before .before .before .before .before .before .before .before .before .before .before .before .before .args in
+    let pre = c .before .before .before .before .before .before .before .before .before .before .before .before .before .before .before .before .before .before .before .before .before .before .before .pre in
+    let if1 = c .before .before .before .before .before .before .before .before .before .before .before .before .before .before .before .before .before .before .before .if1 in
+    let shown-at = c .before .before .before .before .before .before .before .before .before .before .before .before .before .before .before .before .before .before .shown-at in
+    let r = c .before .before .before .before .before .before .before .before .before .before .before .before .before .before .before .before .r in
+    let name-place = c .before .before .before .before .before .before .before .before .before .before .before .name-place in
+    let walk-entries′ = c .before .before .before .before .walk-entries in
+    page-walk (args .n) (args .table .now) (args .e) (pre .1) (args .level) (r .given .0 .0)
+    (seenOf (args .whole) (args .children .now) (args .spared .now))
+    (seenOf (name-place .result) (name-place .last .1 .1 .1 .0) (name-place .last .1 .1 .1 .1 .0))
+    (seenOf (walk-entries′ .result) (walk-entries′ .last .1 .1 .1 .1 .1 .1 .0) (walk-entries′ .last .1 .1 .1 .1 .1 .1 .1 .0))
+    (if1 .left) (sym (shown-at .ensures) ∙ r .given .1) (name-place .ensures) (walk-entries′ .ensures)
 
 pub +walk-entries+walk-page-spec : {M : Type 1} → statement M
 +walk-entries+walk-page-spec = close μ-walk-entries μ-walk-page (λ t. walk-entries-lts.spec (walk-entries-in t)

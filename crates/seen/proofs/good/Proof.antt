@@ -23,7 +23,11 @@ element-copy-out-if1-2 : tie.Need-element-copy-out-if1-2 Inv-loop μ-loop
 element-copy-out-if1-2 c = search needs
 
 returns : tie.Need-returns Inv-loop μ-loop
-returns c = both-marked (c .before .before .before .before .before .args .t1) 128 (search needs) (search needs) (c .before .before .before .before .loop .i) (c .before .before .before .loop-test .taken) (c .if1 .taken) (c .before .before .before .before .loop .inv .1)
+returns c =
+    let args = c .before .before .before .before .before .args in
+    let loop = c .before .before .before .before .loop in
+    both-marked (args .t1) 128 (search needs) (search needs) (loop .i) (c .before .before .before .loop-test .taken)
+    (c .if1 .taken) (loop .inv .1)
 
 add-i : tie.Need-add-i Inv-loop μ-loop
 add-i c = search needs
@@ -32,10 +36,19 @@ loop-less : tie.Need-loop-less Inv-loop μ-loop
 loop-less c = search needs
 
 loop-again : tie.Need-loop-again Inv-loop μ-loop
-loop-again c = (search needs, one-at-most (c .before .before .before .before .before .args .t1) 128 (search needs) (search needs) (c .before .before .before .before .loop .i) (c .before .before .before .loop-test .taken) (c .if1 .left) (c .before .before .before .before .loop .inv .1))
+loop-again c =
+    let args = c .before .before .before .before .before .args in
+    let loop = c .before .before .before .before .loop in (
+      search needs,
+      one-at-most (args .t1) 128 (search needs) (search needs) (loop .i) (c .before .before .before .loop-test .taken)
+          (c .if1 .left) (loop .inv .1),
+    )
 
 returns-2 : tie.Need-returns-2 Inv-loop μ-loop
-returns-2 c = all-compared (c .before .before .args .t1) 128 (search needs) (search needs) (c .before .loop .i) (c .loop-test .left) (c .before .loop .inv .1)
+returns-2 c =
+    let loop = c .before .loop in
+    all-compared (c .before .before .args .t1) 128 (search needs) (search needs) (loop .i) (c .loop-test .left)
+    (loop .inv .1)
 
 pub good-spec : {M : Type 1} → statement M
 good-spec =

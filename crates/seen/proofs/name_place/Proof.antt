@@ -15,7 +15,11 @@ same-length : tie.Need-same-length
 same-length c = search needs
 
 returns : tie.Need-returns
-returns c = rw (c .before .before .before .before .before .marked .ensures, c .before .before .before .mark .ensures) (note-child (seenOf (c .before .before .before .before .before .before .before .before .before .args .whole) (c .before .before .before .before .before .before .before .before .before .args .children .now) (c .before .before .before .before .before .before .before .before .before .args .spared .now)) (c .before .before .before .before .before .before .before .before .before .args .child) (c .before .before .before .before .before .before .before .before .before .args .page) (c .if1 .taken))
+returns c =
+    let args = c .before .before .before .before .before .before .before .before .before .args in
+    let marked = c .before .before .before .before .before .marked in
+    rw (marked .ensures, c .before .before .before .mark .ensures)
+    (note-child (seenOf (args .whole) (args .children .now) (args .spared .now)) (args .child) (args .page) (c .if1 .taken))
 
 mark-requires-2 : tie.Need-mark-requires-2
 mark-requires-2 c κs = search needs
@@ -27,7 +31,13 @@ same-length-3 : tie.Need-same-length-3
 same-length-3 c = search needs
 
 returns-2 : tie.Need-returns-2
-returns-2 c = rw (c .before .before .before .before .before .before .before .before .before .marked .ensures, c .before .before .before .before .before .before .before .mark .ensures, c .before .before .mark2 .ensures) (note-lost (seenOf (c .before .before .before .before .before .before .before .before .before .before .before .before .before .args .whole) (c .before .before .before .before .before .before .before .before .before .before .before .before .before .args .children .now) (c .before .before .before .before .before .before .before .before .before .before .before .before .before .args .spared .now)) (c .before .before .before .before .before .before .before .before .before .before .before .before .before .args .child) (c .before .before .before .before .before .before .before .before .before .before .before .before .before .args .page) (c .before .before .before .before .if1 .left))
+returns-2 c =
+    let args = c .before .before .before .before .before .before .before .before .before .before .before .before .before .args in
+    let marked = c .before .before .before .before .before .before .before .before .before .marked in
+    let mark = c .before .before .before .before .before .before .before .mark in
+    let if1 = c .before .before .before .before .if1 in
+    rw (marked .ensures, mark .ensures, c .before .before .mark2 .ensures)
+    (note-lost (seenOf (args .whole) (args .children .now) (args .spared .now)) (args .child) (args .page) (if1 .left))
 
 pub name-place-spec : {M : Type 1} → statement M
 name-place-spec =

@@ -13,7 +13,9 @@ kid-at-requires : tie.Need-kid-at-requires
 kid-at-requires c κs = search needs
 
 returns : tie.Need-returns
-returns c = c .kid-at .ensures ∙ place-kid (c .before .before .before .args .table .now) (c .before .before .before .args .high) (c .before .before .before .args .r) (c .before .before .before .pre .1 .1)
+returns c =
+    let args = c .before .before .before .args in
+    c .kid-at .ensures ∙ place-kid (args .table .now) (args .high) (args .r) (c .before .before .before .pre .1 .1)
 
 pub place-in-spec : {M : Type 1} → statement M
 place-in-spec = tie.close (tie.spec add-kid-at kid-at-requires returns)

@@ -21,7 +21,11 @@ walk-page-requires c κs = search needs
 
 returns : tie.Need-returns
 unfolding treeOf nothing
-returns c = c .before .before .walk-page .ensures ∙ ap (λ (e : Place). note nothing (tree 3 (c .before .before .before .before .before .before .before .args .n) (c .before .before .before .before .before .before .before .args .table .now) e)) (c .before .before .before .before .before .root-place .ensures)
+returns c =
+    let args = c .before .before .before .before .before .before .before .args in
+    let root-place = c .before .before .before .before .before .root-place in
+    c .before .before .walk-page .ensures ∙ ap (λ (e : Place). note nothing (tree 3 (args .n) (args .table .now) e))
+    (root-place .ensures)
 
 pub walk-spec : {M : Type 1} → statement M
 walk-spec =

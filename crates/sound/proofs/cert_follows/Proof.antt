@@ -12,7 +12,9 @@ good-key-requires : tie.Need-good-key-requires
 good-key-requires c κs = search needs
 
 returns-2 : tie.Need-returns-2
-returns-2 c = c .good-key .ensures ∙ sym (rw (lt-ltb (c .before .before .args .last) (c .before .before .args .key) (c .before .if1 .left)))
+returns-2 c =
+    let args = c .before .before .args in
+    c .good-key .ensures ∙ sym (rw (lt-ltb (args .last) (args .key) (c .before .if1 .left)))
 
 pub cert-follows-spec : {M : Type 1} → statement M
 cert-follows-spec = tie.close (tie.spec returns good-key-requires returns-2)

@@ -24,21 +24,30 @@ cert-key-requires c κs = search needs
 
 returns-2 : tie.Need-returns-2 Inv-loop μ-loop
 returns-2 c =
+    let cert-key = c .before .cert-key in
     let a = c .before .before .before .before .args in
-    cert-below (a .page .now) (a .count) (a .low) (a .high) (c .before .cert-key .result) (omega arith) (c .before .cert-key .ensures) (c .if2 .taken)
+    cert-below (a .page .now) (a .count) (a .low) (a .high) (cert-key .result) (omega arith) (cert-key .ensures)
+    (c .if2 .taken)
 
 good-key-requires : tie.Need-good-key-requires Inv-loop μ-loop
 good-key-requires c κs = search needs
 
 returns-3 : tie.Need-returns-3 Inv-loop μ-loop
 returns-3 c =
+    let cert-key = c .before .before .before .cert-key in
     let a = c .before .before .before .before .before .before .args in
-    cert-bad (a .page .now) (a .count) (a .low) (a .high) (c .before .before .before .cert-key .result) (omega arith) (c .before .before .before .cert-key .ensures) (c .before .good-key .ensures) (c .if3 .taken)
+    cert-bad (a .page .now) (a .count) (a .low) (a .high) (cert-key .result) (omega arith) (cert-key .ensures)
+    (c .before .good-key .ensures) (c .if3 .taken)
 
 loop-holds : tie.Need-loop-holds Inv-loop μ-loop
 loop-holds c =
-    let a = c .before .before .before .before .before .before .args in
-    (search needs, omega arith, certs-start (a .page .now) (a .count) (a .low) (a .high) (c .before .before .before .cert-key .result) (omega arith) (c .before .before .before .cert-key .ensures) (c .before .good-key .ensures) (c .before .before .if2 .left) (c .if3 .left))
+    let cert-key = c .before .before .before .cert-key in
+    let a = c .before .before .before .before .before .before .args in (
+      search needs,
+      omega arith,
+      certs-start (a .page .now) (a .count) (a .low) (a .high) (cert-key .result) (omega arith) (cert-key .ensures)
+          (c .before .good-key .ensures) (c .before .before .if2 .left) (c .if3 .left),
+    )
 
 add-loop : tie.Need-add-loop Inv-loop μ-loop
 add-loop c = search needs
@@ -51,9 +60,12 @@ cert-follows-requires c κs = search needs
 
 returns-4 : tie.Need-returns-4 Inv-loop μ-loop
 returns-4 c =
+    let cert-key2 = c .before .before .cert-key2 in
     let a = c .before .before .before .before .before .before .before .before .before .before .before .args in
     let l = c .before .before .before .before .loop in
-    certs-stop (a .page .now) (a .count) (a .low) (a .high) (l .last) (l .j) (c .before .before .cert-key2 .result) (omega (arith, c .before .before .before .loop-test .taken)) (c .before .before .cert-key2 .ensures) (c .before .cert-follows .ensures) (l .inv .2) (c .if4 .taken)
+    certs-stop (a .page .now) (a .count) (a .low) (a .high) (l .last) (l .j) (cert-key2 .result)
+    (omega (arith, c .before .before .before .loop-test .taken)) (cert-key2 .ensures)
+    (c .before .cert-follows .ensures) (l .inv .2) (c .if4 .taken)
 
 add-cert-key : tie.Need-add-cert-key Inv-loop μ-loop
 add-cert-key c = search needs
@@ -66,10 +78,17 @@ cert-follows-requires-2 c κs = search needs
 
 returns-5 : tie.Need-returns-5 Inv-loop μ-loop
 returns-5 c =
+    let loop-test = c .before .before .before .before .before .before .loop-test in
+    let cert-key2 = c .before .before .before .before .before .cert-key2 in
+    let cert-follows = c .before .before .before .before .cert-follows in
+    let cert-key3 = c .before .before .cert-key3 in
     let a = c .before .before .before .before .before .before .before .before .before .before .before .before .before .before .args in
     let l = c .before .before .before .before .before .before .before .loop in
-    let on = certs-on (a .page .now) (a .count) (a .low) (a .high) (l .last) (l .j) (c .before .before .before .before .before .cert-key2 .result) (omega (arith, c .before .before .before .before .before .before .loop-test .taken)) (c .before .before .before .before .before .cert-key2 .ensures) (c .before .before .before .before .cert-follows .ensures) (l .inv .2) (l .j + 1) refl (c .before .before .before .if4 .left) in
-    certs-stop (a .page .now) (a .count) (a .low) (a .high) (c .before .before .before .before .before .cert-key2 .result) (l .j + 1) (c .before .before .cert-key3 .result) (omega (arith, c .before .before .before .before .before .before .loop-test .taken)) (c .before .before .cert-key3 .ensures) (c .before .cert-follows2 .ensures) on (c .if5 .taken)
+    let on = certs-on (a .page .now) (a .count) (a .low) (a .high) (l .last) (l .j) (cert-key2 .result)
+    (omega (arith, loop-test .taken)) (cert-key2 .ensures) (cert-follows .ensures) (l .inv .2) (l .j + 1) refl
+    (c .before .before .before .if4 .left) in
+    certs-stop (a .page .now) (a .count) (a .low) (a .high) (cert-key2 .result) (l .j + 1) (cert-key3 .result)
+    (omega (arith, loop-test .taken)) (cert-key3 .ensures) (c .before .cert-follows2 .ensures) on (c .if5 .taken)
 
 add-j : tie.Need-add-j Inv-loop μ-loop
 add-j c = search needs
@@ -79,10 +98,21 @@ loop-less c = search needs
 
 loop-again : tie.Need-loop-again Inv-loop μ-loop
 loop-again c =
+    let loop-test = c .before .before .before .before .before .before .loop-test in
+    let cert-key2 = c .before .before .before .before .before .cert-key2 in
+    let cert-follows = c .before .before .before .before .cert-follows in
+    let cert-key3 = c .before .before .cert-key3 in
     let a = c .before .before .before .before .before .before .before .before .before .before .before .before .before .before .args in
     let l = c .before .before .before .before .before .before .before .loop in
-    let on = certs-on (a .page .now) (a .count) (a .low) (a .high) (l .last) (l .j) (c .before .before .before .before .before .cert-key2 .result) (omega (arith, c .before .before .before .before .before .before .loop-test .taken)) (c .before .before .before .before .before .cert-key2 .ensures) (c .before .before .before .before .cert-follows .ensures) (l .inv .2) (l .j + 1) refl (c .before .before .before .if4 .left) in
-    (omega arith, omega arith, certs-on (a .page .now) (a .count) (a .low) (a .high) (c .before .before .before .before .before .cert-key2 .result) (l .j + 1) (c .before .before .cert-key3 .result) (omega (arith, c .before .before .before .before .before .before .loop-test .taken)) (c .before .before .cert-key3 .ensures) (c .before .cert-follows2 .ensures) on (l .j + 2) (omega arith) (c .if5 .left))
+    let on = certs-on (a .page .now) (a .count) (a .low) (a .high) (l .last) (l .j) (cert-key2 .result)
+    (omega (arith, loop-test .taken)) (cert-key2 .ensures) (cert-follows .ensures) (l .inv .2) (l .j + 1) refl
+    (c .before .before .before .if4 .left) in (
+      omega arith,
+      omega arith,
+      certs-on (a .page .now) (a .count) (a .low) (a .high) (cert-key2 .result) (l .j + 1) (cert-key3 .result)
+          (omega (arith, loop-test .taken)) (cert-key3 .ensures) (c .before .cert-follows2 .ensures) on (l .j + 2)
+          (omega arith) (c .if5 .left),
+    )
 
 returns-6 : tie.Need-returns-6 Inv-loop μ-loop
 returns-6 c =
@@ -98,15 +128,19 @@ cert-follows-requires-3 c κs = search needs
 
 returns-7 : tie.Need-returns-7 Inv-loop μ-loop
 returns-7 c =
+    let cert-key4 = c .before .before .cert-key4 in
     let a = c .before .before .before .before .before .before .before .before .before .before .before .before .args in
     let l = c .before .before .before .before .before .loop in
-    certs-stop (a .page .now) (a .count) (a .low) (a .high) (l .last) (l .j) (c .before .before .cert-key4 .result) (omega arith) (c .before .before .cert-key4 .ensures) (c .before .cert-follows3 .ensures) (l .inv .2) (c .if7 .taken)
+    certs-stop (a .page .now) (a .count) (a .low) (a .high) (l .last) (l .j) (cert-key4 .result) (omega arith)
+    (cert-key4 .ensures) (c .before .cert-follows3 .ensures) (l .inv .2) (c .if7 .taken)
 
 returns-8 : tie.Need-returns-8 Inv-loop μ-loop
 returns-8 c =
+    let cert-key4 = c .before .before .cert-key4 in
     let a = c .before .before .before .before .before .before .before .before .before .before .before .before .args in
     let l = c .before .before .before .before .before .loop in
-    certs-end (a .page .now) (a .count) (a .low) (a .high) (c .before .before .cert-key4 .result) (l .j + 1) (omega arith) (certs-on (a .page .now) (a .count) (a .low) (a .high) (l .last) (l .j) (c .before .before .cert-key4 .result) (omega arith) (c .before .before .cert-key4 .ensures) (c .before .cert-follows3 .ensures) (l .inv .2) (l .j + 1) refl (c .if7 .left))
+    certs-end (a .page .now) (a .count) (a .low) (a .high) (cert-key4 .result) (l .j + 1) (omega arith)
+    (certs-on (a .page .now) (a .count) (a .low) (a .high) (l .last) (l .j) (cert-key4 .result) (omega arith) (cert-key4 .ensures) (c .before .cert-follows3 .ensures) (l .inv .2) (l .j + 1) refl (c .if7 .left))
 
 pub certs-pass-spec : {M : Type 1} → statement M
 certs-pass-spec =

@@ -24,21 +24,30 @@ child-key-requires c κs = search needs
 
 returns-2 : tie.Need-returns-2 Inv-loop μ-loop
 returns-2 c =
+    let child-key = c .before .child-key in
     let a = c .before .before .before .before .args in
-    starts-elsewhere (a .page .now) (a .count) (a .low) (a .high) (a .n) (c .before .child-key .result) (omega arith) (c .before .child-key .ensures) (c .if2 .taken)
+    starts-elsewhere (a .page .now) (a .count) (a .low) (a .high) (a .n) (child-key .result) (omega arith)
+    (child-key .ensures) (c .if2 .taken)
 
 names-pages-requires : tie.Need-names-pages-requires Inv-loop μ-loop
 names-pages-requires c κs = search needs
 
 returns-3 : tie.Need-returns-3 Inv-loop μ-loop
 returns-3 c =
+    let child-key = c .before .before .before .child-key in
     let a = c .before .before .before .before .before .before .args in
-    starts-bad (a .page .now) (a .count) (a .low) (a .high) (a .n) (c .before .before .before .child-key .result) (omega arith) (c .before .before .before .child-key .ensures) (c .before .names-pages .ensures) (c .if3 .taken)
+    starts-bad (a .page .now) (a .count) (a .low) (a .high) (a .n) (child-key .result) (omega arith)
+    (child-key .ensures) (c .before .names-pages .ensures) (c .if3 .taken)
 
 loop-holds : tie.Need-loop-holds Inv-loop μ-loop
 loop-holds c =
-    let a = c .before .before .before .before .before .before .args in
-    (search needs, omega arith, starts-on (a .page .now) (a .count) (a .low) (a .high) (a .n) (c .before .before .before .child-key .result) (omega arith) (c .before .before .before .child-key .ensures) (c .before .names-pages .ensures) (c .before .before .if2 .left) (c .if3 .left))
+    let child-key = c .before .before .before .child-key in
+    let a = c .before .before .before .before .before .before .args in (
+      search needs,
+      omega arith,
+      starts-on (a .page .now) (a .count) (a .low) (a .high) (a .n) (child-key .result) (omega arith)
+          (child-key .ensures) (c .before .names-pages .ensures) (c .before .before .if2 .left) (c .if3 .left),
+    )
 
 add-loop : tie.Need-add-loop Inv-loop μ-loop
 add-loop c = search needs
@@ -51,9 +60,12 @@ child-follows-requires c κs = search needs
 
 returns-4 : tie.Need-returns-4 Inv-loop μ-loop
 returns-4 c =
+    let child-key2 = c .before .before .child-key2 in
     let a = c .before .before .before .before .before .before .before .before .before .before .before .args in
     let l = c .before .before .before .before .loop in
-    children-stop (a .page .now) (a .count) (a .low) (a .high) (a .n) (l .last) (l .j) (c .before .before .child-key2 .result) (omega (arith, c .before .before .before .loop-test .taken)) (c .before .before .child-key2 .ensures) (c .before .child-follows .ensures) (l .inv .2) (c .if4 .taken)
+    children-stop (a .page .now) (a .count) (a .low) (a .high) (a .n) (l .last) (l .j) (child-key2 .result)
+    (omega (arith, c .before .before .before .loop-test .taken)) (child-key2 .ensures)
+    (c .before .child-follows .ensures) (l .inv .2) (c .if4 .taken)
 
 add-child-key : tie.Need-add-child-key Inv-loop μ-loop
 add-child-key c = search needs
@@ -69,10 +81,18 @@ child-follows-requires-2 c κs = search needs
 
 returns-5 : tie.Need-returns-5 Inv-loop μ-loop
 returns-5 c =
+    let loop-test = c .before .before .before .before .before .before .loop-test in
+    let child-key2 = c .before .before .before .before .before .child-key2 in
+    let child-follows = c .before .before .before .before .child-follows in
+    let child-key3 = c .before .before .child-key3 in
     let a = c .before .before .before .before .before .before .before .before .before .before .before .before .before .before .args in
     let l = c .before .before .before .before .before .before .before .loop in
-    let on = children-on (a .page .now) (a .count) (a .low) (a .high) (a .n) (l .last) (l .j) (c .before .before .before .before .before .child-key2 .result) (omega (arith, c .before .before .before .before .before .before .loop-test .taken)) (c .before .before .before .before .before .child-key2 .ensures) (c .before .before .before .before .child-follows .ensures) (l .inv .2) (l .j + 1) refl (c .before .before .before .if4 .left) in
-    children-stop (a .page .now) (a .count) (a .low) (a .high) (a .n) (c .before .before .before .before .before .child-key2 .result) (l .j + 1) (c .before .before .child-key3 .result) (omega (arith, c .before .before .before .before .before .before .loop-test .taken)) (c .before .before .child-key3 .ensures) (c .before .child-follows2 .ensures) on (c .if5 .taken)
+    let on = children-on (a .page .now) (a .count) (a .low) (a .high) (a .n) (l .last) (l .j) (child-key2 .result)
+    (omega (arith, loop-test .taken)) (child-key2 .ensures) (child-follows .ensures) (l .inv .2) (l .j + 1) refl
+    (c .before .before .before .if4 .left) in
+    children-stop (a .page .now) (a .count) (a .low) (a .high) (a .n) (child-key2 .result) (l .j + 1)
+    (child-key3 .result) (omega (arith, loop-test .taken)) (child-key3 .ensures) (c .before .child-follows2 .ensures)
+    on (c .if5 .taken)
 
 add-j : tie.Need-add-j Inv-loop μ-loop
 add-j c = search needs
@@ -82,16 +102,28 @@ loop-less c = search needs
 
 loop-again : tie.Need-loop-again Inv-loop μ-loop
 loop-again c =
+    let loop-test = c .before .before .before .before .before .before .loop-test in
+    let child-key2 = c .before .before .before .before .before .child-key2 in
+    let child-follows = c .before .before .before .before .child-follows in
+    let child-key3 = c .before .before .child-key3 in
     let a = c .before .before .before .before .before .before .before .before .before .before .before .before .before .before .args in
     let l = c .before .before .before .before .before .before .before .loop in
-    let on = children-on (a .page .now) (a .count) (a .low) (a .high) (a .n) (l .last) (l .j) (c .before .before .before .before .before .child-key2 .result) (omega (arith, c .before .before .before .before .before .before .loop-test .taken)) (c .before .before .before .before .before .child-key2 .ensures) (c .before .before .before .before .child-follows .ensures) (l .inv .2) (l .j + 1) refl (c .before .before .before .if4 .left) in
-    (omega arith, omega arith, children-on (a .page .now) (a .count) (a .low) (a .high) (a .n) (c .before .before .before .before .before .child-key2 .result) (l .j + 1) (c .before .before .child-key3 .result) (omega (arith, c .before .before .before .before .before .before .loop-test .taken)) (c .before .before .child-key3 .ensures) (c .before .child-follows2 .ensures) on (l .j + 2) (omega arith) (c .if5 .left))
+    let on = children-on (a .page .now) (a .count) (a .low) (a .high) (a .n) (l .last) (l .j) (child-key2 .result)
+    (omega (arith, loop-test .taken)) (child-key2 .ensures) (child-follows .ensures) (l .inv .2) (l .j + 1) refl
+    (c .before .before .before .if4 .left) in (
+      omega arith,
+      omega arith,
+      children-on (a .page .now) (a .count) (a .low) (a .high) (a .n) (child-key2 .result) (l .j + 1)
+          (child-key3 .result) (omega (arith, loop-test .taken)) (child-key3 .ensures)
+          (c .before .child-follows2 .ensures) on (l .j + 2) (omega arith) (c .if5 .left),
+    )
 
 returns-6 : tie.Need-returns-6 Inv-loop μ-loop
 returns-6 c =
     let a = c .before .before .before .before .before .before .before .before .before .args in
     let l = c .before .before .loop in
-    children-end (a .page .now) (a .count) (a .low) (a .high) (a .n) (l .last) (l .j) (omega (arith, c .if6 .taken)) (l .inv .2)
+    children-end (a .page .now) (a .count) (a .low) (a .high) (a .n) (l .last) (l .j) (omega (arith, c .if6 .taken))
+    (l .inv .2)
 
 child-key-requires-4 : tie.Need-child-key-requires-4 Inv-loop μ-loop
 child-key-requires-4 c κs = search needs
@@ -101,15 +133,19 @@ child-follows-requires-3 c κs = search needs
 
 returns-7 : tie.Need-returns-7 Inv-loop μ-loop
 returns-7 c =
+    let child-key4 = c .before .before .child-key4 in
     let a = c .before .before .before .before .before .before .before .before .before .before .before .before .args in
     let l = c .before .before .before .before .before .loop in
-    children-stop (a .page .now) (a .count) (a .low) (a .high) (a .n) (l .last) (l .j) (c .before .before .child-key4 .result) (omega arith) (c .before .before .child-key4 .ensures) (c .before .child-follows3 .ensures) (l .inv .2) (c .if7 .taken)
+    children-stop (a .page .now) (a .count) (a .low) (a .high) (a .n) (l .last) (l .j) (child-key4 .result)
+    (omega arith) (child-key4 .ensures) (c .before .child-follows3 .ensures) (l .inv .2) (c .if7 .taken)
 
 returns-8 : tie.Need-returns-8 Inv-loop μ-loop
 returns-8 c =
+    let child-key4 = c .before .before .child-key4 in
     let a = c .before .before .before .before .before .before .before .before .before .before .before .before .args in
     let l = c .before .before .before .before .before .loop in
-    children-end (a .page .now) (a .count) (a .low) (a .high) (a .n) (c .before .before .child-key4 .result) (l .j + 1) (omega arith) (children-on (a .page .now) (a .count) (a .low) (a .high) (a .n) (l .last) (l .j) (c .before .before .child-key4 .result) (omega arith) (c .before .before .child-key4 .ensures) (c .before .child-follows3 .ensures) (l .inv .2) (l .j + 1) refl (c .if7 .left))
+    children-end (a .page .now) (a .count) (a .low) (a .high) (a .n) (child-key4 .result) (l .j + 1) (omega arith)
+    (children-on (a .page .now) (a .count) (a .low) (a .high) (a .n) (l .last) (l .j) (child-key4 .result) (omega arith) (child-key4 .ensures) (c .before .child-follows3 .ensures) (l .inv .2) (l .j + 1) refl (c .if7 .left))
 
 pub children-pass-spec : {M : Type 1} → statement M
 children-pass-spec =

@@ -11,7 +11,10 @@ cast-child : tie.Need-cast-child
 cast-child c = search needs
 
 returns : tie.Need-returns
-returns c = fits-beyond (c .before .before .before .args .n) (c .before .before .before .args .e .child) (c .before .before .before .args .table .now) (c .before .before .before .args .e) (c .before .before .before .pre) (c .if1 .taken)
+returns c =
+    let args = c .before .before .before .args in
+    fits-beyond (args .n) (args .e .child) (args .table .now) (args .e) (c .before .before .before .pre)
+    (c .if1 .taken)
 
 mul-from : tie.Need-mul-from
 mul-from c = search needs

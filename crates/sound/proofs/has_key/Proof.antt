@@ -23,7 +23,11 @@ child-key-requires c κs = search needs
 
 returns : tie.Need-returns Inv-loop μ-loop
 unfolding childAt
-returns c = seek-found (c .before .before .before .before .before .args .page .now) (c .before .before .before .before .before .args .count) (c .before .before .before .before .before .args .key) (c .before .before .before .loop .j) (c .before .before .loop-test .taken) (c .before .child-key .ensures) (c .before .before .before .loop .inv .1) (c .if1 .taken)
+returns c =
+    let args = c .before .before .before .before .before .args in
+    let loop = c .before .before .before .loop in
+    seek-found (args .page .now) (args .count) (args .key) (loop .j) (c .before .before .loop-test .taken)
+    (c .before .child-key .ensures) (loop .inv .1) (c .if1 .taken)
 
 add-j : tie.Need-add-j Inv-loop μ-loop
 add-j c = search needs
@@ -33,10 +37,19 @@ loop-less c = search needs
 
 loop-again : tie.Need-loop-again Inv-loop μ-loop
 unfolding childAt
-loop-again c = (omega arith, seek-on (c .before .before .before .before .before .args .page .now) (c .before .before .before .before .before .args .count) (c .before .before .before .before .before .args .key) (c .before .before .before .loop .j) (c .before .before .loop-test .taken) (c .before .child-key .ensures) (c .before .before .before .loop .inv .1) (c .if1 .left))
+loop-again c =
+    let args = c .before .before .before .before .before .args in
+    let loop = c .before .before .before .loop in (
+      omega arith,
+      seek-on (args .page .now) (args .count) (args .key) (loop .j) (c .before .before .loop-test .taken)
+          (c .before .child-key .ensures) (loop .inv .1) (c .if1 .left),
+    )
 
 returns-2 : tie.Need-returns-2 Inv-loop μ-loop
-returns-2 c = seek-end (c .before .before .before .args .page .now) (c .before .before .before .args .count) (c .before .before .before .args .key) (c .before .loop .j) (c .loop-test .left) (c .before .loop .inv .1)
+returns-2 c =
+    let args = c .before .before .before .args in
+    let loop = c .before .loop in
+    seek-end (args .page .now) (args .count) (args .key) (loop .j) (c .loop-test .left) (loop .inv .1)
 
 pub has-key-spec : {M : Type 1} → statement M
 has-key-spec =

@@ -10,13 +10,18 @@ names-previous-requires : tie.Need-names-previous-requires
 names-previous-requires c κs = search needs
 
 returns : tie.Need-returns
-returns c = names-none (c .before .before .before .args .n) (c .before .before .before .args .e) (c .before .names-previous .ensures) (pageIn (c .before .before .before .args .page .now)) (c .if1 .taken)
+returns c =
+    let args = c .before .before .before .args in
+    names-none (args .n) (args .e) (c .before .names-previous .ensures) (pageIn (args .page .now)) (c .if1 .taken)
 
 covers-requires : tie.Need-covers-requires
 covers-requires c κs = search needs
 
 returns-2 : tie.Need-returns-2
-returns-2 c = names-some (c .before .before .before .before .args .n) (c .before .before .before .before .args .e) (c .before .before .names-previous .ensures) (pageIn (c .before .before .before .before .args .page .now)) (c .before .if1 .left) (c .covers .ensures)
+returns-2 c =
+    let args = c .before .before .before .before .args in
+    names-some (args .n) (args .e) (c .before .before .names-previous .ensures) (pageIn (args .page .now))
+    (c .before .if1 .left) (c .covers .ensures)
 
 pub mendable-spec : {M : Type 1} → statement M
 mendable-spec = tie.close (tie.spec names-previous-requires returns covers-requires returns-2)

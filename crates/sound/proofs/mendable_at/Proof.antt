@@ -14,7 +14,10 @@ names-previous-requires : tie.Need-names-previous-requires
 names-previous-requires c κs = search needs
 
 returns : tie.Need-returns
-returns c = names-none (c .before .before .before .args .n) (c .before .before .before .args .e) (c .before .names-previous .ensures) (read (c .before .before .before .args .table .now) (c .before .before .before .args .e .previous)) (c .if1 .taken)
+returns c =
+    let args = c .before .before .before .args in
+    names-none (args .n) (args .e) (c .before .names-previous .ensures) (read (args .table .now) (args .e .previous))
+    (c .if1 .taken)
 
 cast-from : tie.Need-cast-from
 cast-from c = search needs
@@ -32,14 +35,23 @@ part-covers-start : tie.Need-part-covers-start
 part-covers-start c = search needs
 
 part-covers-end : tie.Need-part-covers-end
-part-covers-end c = omega (arith, c .before .before .before .before .pre, names-within (c .before .before .before .before .args .n) (c .before .before .before .before .args .e) (sym (c .before .before .names-previous .ensures) ∙ not-false (c .before .before .names-previous .result) (c .before .if1 .left)))
+part-covers-end c =
+    let args = c .before .before .before .before .args in
+    let pre = c .before .before .before .before .pre in
+    let names-previous = c .before .before .names-previous in
+    omega
+    (arith, pre, names-within (args .n) (args .e) (sym (names-previous .ensures) ∙ not-false (names-previous .result) (c .before .if1 .left)))
 
 covers-requires : tie.Need-covers-requires
 covers-requires c κs = search needs
 
 returns-2 : tie.Need-returns-2
 unfolding read pageAt
-returns-2 c = names-some (c .before .before .before .before .before .before .args .n) (c .before .before .before .before .before .before .args .e) (c .before .before .before .before .names-previous .ensures) (read (c .before .before .before .before .before .before .args .table .now) (c .before .before .before .before .before .before .args .e .previous)) (c .before .before .before .if1 .left) (rw add-sub-cancel-left at (c .covers .ensures))
+returns-2 c =
+    let args = c .before .before .before .before .before .before .args in
+    let names-previous = c .before .before .before .before .names-previous in
+    names-some (args .n) (args .e) (names-previous .ensures) (read (args .table .now) (args .e .previous))
+    (c .before .before .before .if1 .left) (rw add-sub-cancel-left at (c .covers .ensures))
 
 pub mendable-at-spec : {M : Type 1} → statement M
 mendable-at-spec =

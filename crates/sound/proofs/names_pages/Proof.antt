@@ -20,8 +20,12 @@ wrapping-sub-usize-requires-2 c κs = search needs
 
 returns : tie.Need-returns
 returns c =
+    let wrapping-sub-usize = c .before .before .wrapping-sub-usize in
+    let wrapping-sub-usize2 = c .before .wrapping-sub-usize2 in
     let a = c .before .before .before .before .before .args in
-    names-outside (a .n) (childAt (a .page .now) (a .j)) (c .before .before .before .child-number .ensures) (c .before .before .wrapping-sub-usize .ensures) (c .before .wrapping-sub-usize2 .ensures) (c .before .before .wrapping-sub-usize .ok) (c .before .wrapping-sub-usize2 .ok) (c .if1 .taken)
+    names-outside (a .n) (childAt (a .page .now) (a .j)) (c .before .before .before .child-number .ensures)
+    (wrapping-sub-usize .ensures) (wrapping-sub-usize2 .ensures) (wrapping-sub-usize .ok) (wrapping-sub-usize2 .ok)
+    (c .if1 .taken)
 
 child-previous-requires : tie.Need-child-previous-requires
 child-previous-requires c κs = search needs
@@ -31,8 +35,13 @@ cast-result c = search needs
 
 returns-2 : tie.Need-returns-2
 returns-2 c =
+    let child-number = c .before .before .before .before .child-number in
+    let wrapping-sub-usize = c .before .before .before .wrapping-sub-usize in
+    let wrapping-sub-usize2 = c .before .before .wrapping-sub-usize2 in
     let a = c .before .before .before .before .before .before .args in
-    names-by-previous (a .n) (childAt (a .page .now) (a .j)) (c .before .before .before .before .child-number .ensures) (c .before .before .before .wrapping-sub-usize .ensures) (c .before .before .wrapping-sub-usize2 .ensures) (c .before .before .before .wrapping-sub-usize .ok) (c .before .before .wrapping-sub-usize2 .ok) (c .child-previous .ensures) (c .before .if1 .left)
+    names-by-previous (a .n) (childAt (a .page .now) (a .j)) (child-number .ensures) (wrapping-sub-usize .ensures)
+    (wrapping-sub-usize2 .ensures) (wrapping-sub-usize .ok) (wrapping-sub-usize2 .ok) (c .child-previous .ensures)
+    (c .before .if1 .left)
 
 pub names-pages-spec : {M : Type 1} → statement M
 names-pages-spec =

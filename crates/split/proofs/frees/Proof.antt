@@ -9,10 +9,14 @@ heirs-requires : tie.Need-heirs-requires
 heirs-requires c κs = search needs
 
 returns : tie.Need-returns
-returns c = frees-heir (c .before .before .before .args .c) (c .before .before .before .args .head) (sym (c .before .before .heirs .ensures) ∙ c .before .if1 .taken)
+returns c =
+    let args = c .before .before .before .args in
+    frees-heir (args .c) (args .head) (sym (c .before .before .heirs .ensures) ∙ c .before .if1 .taken)
 
 returns-2 : tie.Need-returns-2
-returns-2 c = frees-none (c .before .before .args .c) (c .before .before .args .head) (sym (c .before .heirs .ensures) ∙ c .if1 .left)
+returns-2 c =
+    let args = c .before .before .args in
+    frees-none (args .c) (args .head) (sym (c .before .heirs .ensures) ∙ c .if1 .left)
 
 pub frees-spec : {M : Type 1} → statement M
 frees-spec = tie.close (tie.spec heirs-requires returns returns-2)

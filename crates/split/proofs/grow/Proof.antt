@@ -23,7 +23,16 @@ same-length : tie.Need-same-length
 same-length c = search needs
 
 returns : tie.Need-returns
-returns c = grown (c .before .before .before .before .before .before .before .before .before .before .before .before .args .c) (c .before .before .before .before .before .before .before .before .before .before .before .before .args .table .now) (c .before .before .before .before .before .before .before .before .before .before .before .before .args .e) (c .before .before .before .before .before .before .before .before .before .before .before .before .args .head) (c .before .before .before .before .before .before .before .before .before .before .before .before .args .new) (c .before .before .before .before .root-previous .result) (c .before .before .before .before .before .before .before .before .before .before .before .before .args .session) (c .before .before .before .before .before .before .before .before .build-root .last .0) (c .before .before .before .set-root .last .0) (c .take .result) (c .before .before .before .before .before .before .before .before .before .before .before .before .pre .head) (c .before .before .before .before .before .before .before .before .build-root .ensures) (c .before .before .before .before .root-previous .ensures) (c .before .before .before .set-root .ensures) (c .take .ensures)
+returns c =
+    let args = c .before .before .before .before .before .before .before .before .before .before .before .before .args in
+    let pre = c .before .before .before .before .before .before .before .before .before .before .before .before .pre in
+    let build-root = c .before .before .before .before .before .before .before .before .build-root in
+    let root-previous = c .before .before .before .before .root-previous in
+    let set-root = c .before .before .before .set-root in
+    let take = c .take in
+    grown (args .c) (args .table .now) (args .e) (args .head) (args .new) (root-previous .result) (args .session)
+    (build-root .last .0) (set-root .last .0) (take .result) (pre .head) (build-root .ensures)
+    (root-previous .ensures) (set-root .ensures) (take .ensures)
 
 pub grow-spec : {M : Type 1} → statement M
 grow-spec =

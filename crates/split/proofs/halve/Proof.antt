@@ -16,16 +16,36 @@ build-lower-requires : tie.Need-build-lower-requires
 build-lower-requires c κs = search needs
 
 build-upper-requires : tie.Need-build-upper-requires
-build-upper-requires c κs = ((omega (arith, c .before .before .before .before .before .before .before .before .before .pre .upper-in, c .before .before .before .build-lower .kept .0), omega (arith, c .before .before .before .before .before .before .before .before .before .pre .child-in, c .before .before .before .build-lower .kept .0)), divides-still (c .before .before .before .before .before .before .before .before .before .pre) (c .before .before .before .before .before .before .before .before .before .args .c) (c .before .before .before .build-lower .last .0) (c .before .before .before .build-lower .ensures))
+build-upper-requires c κs =
+    let args = c .before .before .before .before .before .before .before .before .before .args in
+    let pre = c .before .before .before .before .before .before .before .before .before .pre in
+    let build-lower = c .before .before .before .build-lower in (
+      (omega (arith, pre .upper-in, build-lower .kept .0), omega (arith, pre .child-in, build-lower .kept .0)),
+      divides-still pre (args .c) (build-lower .last .0) (build-lower .ensures),
+    )
 
 previous-of-requires : tie.Need-previous-of-requires
 previous-of-requires c κs = search needs
 
 put-twins-requires : tie.Need-put-twins-requires
-put-twins-requires c κs = (omega (arith, c .before .before .before .before .before .before .before .before .before .before .before .before .before .before .pre .above-in, c .before .before .before .before .before .before .before .before .build-lower .kept .0, c .before .before .before .before .build-upper .kept .0), takes-still (c .before .before .before .before .before .before .before .before .before .before .before .before .before .before .pre) (c .before .before .before .before .before .before .before .before .before .before .before .before .before .before .args .c) (c .before .before .before .before .before .before .before .before .build-lower .last .0) (c .before .before .before .before .before .before .before .before .build-lower .ensures) (omega (arith, c .before .before .before .before .before .before .before .before .build-lower .kept .0)) (c .before .before .before .before .build-upper .last .0) (c .before .before .before .before .build-upper .ensures) (c .before .before .before .before .before .before .before .before .before .before .middle-at .result) (c .before .before .before .before .before .before .before .before .before .before .middle-at .ensures))
+put-twins-requires c κs =
+    let args = c .before .before .before .before .before .before .before .before .before .before .before .before .before .before .args in
+    let pre = c .before .before .before .before .before .before .before .before .before .before .before .before .before .before .pre in
+    let middle-at = c .before .before .before .before .before .before .before .before .before .before .middle-at in
+    let build-lower = c .before .before .before .before .before .before .before .before .build-lower in
+    let build-upper = c .before .before .before .before .build-upper in (
+      omega (arith, pre .above-in, build-lower .kept .0, build-upper .kept .0),
+      takes-still pre (args .c) (build-lower .last .0) (build-lower .ensures) (omega (arith, build-lower .kept .0))
+          (build-upper .last .0) (build-upper .ensures) (middle-at .result) (middle-at .ensures),
+    )
 
 mark-requires : tie.Need-mark-requires
-mark-requires c κs = (omega (arith, c .before .before .before .before .before .before .before .before .before .before .before .before .before .before .before .before .before .pre .child-in, c .before .before .before .before .before .before .before .before .before .before .before .before .before .before .before .before .before .pre .few), omega (arith, c .before .before .before .before .before .before .before .before .before .before .before .before .before .before .before .before .before .pre .lower-in, c .before .before .before .before .before .before .before .before .before .before .before .before .before .before .before .before .before .pre .few), omega (arith, c .before .before .before .before .before .before .before .before .before .before .before .before .before .before .before .before .before .pre .upper-in, c .before .before .before .before .before .before .before .before .before .before .before .before .before .before .before .before .before .pre .few))
+mark-requires c κs =
+    let pre = c .before .before .before .before .before .before .before .before .before .before .before .before .before .before .before .before .before .pre in (
+      omega (arith, pre .child-in, pre .few),
+      omega (arith, pre .lower-in, pre .few),
+      omega (arith, pre .upper-in, pre .few),
+    )
 
 side-requires : tie.Need-side-requires
 side-requires c κs = search needs
@@ -34,7 +54,20 @@ same-length : tie.Need-same-length
 same-length c = search needs
 
 returns : tie.Need-returns
-returns c = halved (c .before .before .before .before .before .before .before .before .before .before .before .before .before .before .before .before .before .before .before .pre) (c .before .before .before .before .before .before .before .before .before .before .before .before .before .before .before .before .before .before .before .args .c) (c .before .before .before .before .before .before .before .before .before .before .before .before .before .build-lower .last .0) (c .before .before .before .before .before .before .before .before .before .before .before .before .before .build-lower .ensures) (omega (arith, c .before .before .before .before .before .before .before .before .before .before .before .before .before .build-lower .kept .0)) (c .before .before .before .before .before .before .before .before .before .build-upper .last .0) (c .before .before .before .before .before .before .before .before .before .build-upper .ensures) (c .before .before .before .before .before .before .before .before .before .before .before .before .before .before .before .before .before .before .before .args .key) (c .before .before .before .before .before .before .before .before .before .before .before .before .before .before .before .before .before .before .before .args .session) (c .before .before .before .before .before .before .before .before .before .before .before .before .before .before .before .middle-at .result) (c .before .before .before .before .before .previous-of .result) (c .before .before .before .before .put-twins .last .0) (c .before .mark .result) (c .side .result) (c .before .before .before .before .before .before .before .before .before .before .before .before .before .before .before .middle-at .ensures) (c .before .before .before .before .before .previous-of .ensures) (c .before .before .before .before .put-twins .ensures) (c .before .mark .ensures) (c .side .ensures)
+returns c =
+    let args = c .before .before .before .before .before .before .before .before .before .before .before .before .before .before .before .before .before .before .before .args in
+    let pre = c .before .before .before .before .before .before .before .before .before .before .before .before .before .before .before .before .before .before .before .pre in
+    let middle-at = c .before .before .before .before .before .before .before .before .before .before .before .before .before .before .before .middle-at in
+    let build-lower = c .before .before .before .before .before .before .before .before .before .before .before .before .before .build-lower in
+    let build-upper = c .before .before .before .before .before .before .before .before .before .build-upper in
+    let previous-of = c .before .before .before .before .before .previous-of in
+    let put-twins = c .before .before .before .before .put-twins in
+    let mark = c .before .mark in
+    let side = c .side in
+    halved pre (args .c) (build-lower .last .0) (build-lower .ensures) (omega (arith, build-lower .kept .0))
+    (build-upper .last .0) (build-upper .ensures) (args .key) (args .session) (middle-at .result)
+    (previous-of .result) (put-twins .last .0) (mark .result) (side .result) (middle-at .ensures)
+    (previous-of .ensures) (put-twins .ensures) (mark .ensures) (side .ensures)
 
 pub halve-spec : {M : Type 1} → statement M
 halve-spec =

@@ -9,10 +9,14 @@ heirs-requires : tie.Need-heirs-requires
 heirs-requires c κs = search needs
 
 returns : tie.Need-returns
-returns c = previous-heir (c .before .before .args .c) (c .before .before .args .e) (c .before .before .args .head) (sym (c .before .heirs .ensures) ∙ c .if1 .taken)
+returns c =
+    let args = c .before .before .args in
+    previous-heir (args .c) (args .e) (args .head) (sym (c .before .heirs .ensures) ∙ c .if1 .taken)
 
 returns-2 : tie.Need-returns-2
-returns-2 c = previous-self (c .before .before .args .c) (c .before .before .args .e) (c .before .before .args .head) (sym (c .before .heirs .ensures) ∙ c .if1 .left)
+returns-2 c =
+    let args = c .before .before .args in
+    previous-self (args .c) (args .e) (args .head) (sym (c .before .heirs .ensures) ∙ c .if1 .left)
 
 pub previous-of-spec : {M : Type 1} → statement M
 previous-of-spec = tie.close (tie.spec heirs-requires returns returns-2)

@@ -12,13 +12,19 @@ release-requires : tie.Need-release-requires
 release-requires c κs = search needs
 
 returns : tie.Need-returns
-returns c = c .release .ensures ∙ retire-free (c .before .before .before .args .c) (c .before .before .before .args .child) (c .before .before .before .args .head) (c .before .before .before .args .session) (sym (c .before .before .frees .ensures) ∙ c .before .if1 .taken)
+returns c =
+    let args = c .before .before .before .args in
+    c .release .ensures ∙ retire-free (args .c) (args .child) (args .head) (args .session)
+    (sym (c .before .before .frees .ensures) ∙ c .before .if1 .taken)
 
 wait-requires : tie.Need-wait-requires
 wait-requires c κs = search needs
 
 returns-2 : tie.Need-returns-2
-returns-2 c = c .wait .ensures ∙ retire-wait (c .before .before .before .args .c) (c .before .before .before .args .child) (c .before .before .before .args .head) (c .before .before .before .args .session) (sym (c .before .before .frees .ensures) ∙ c .before .if1 .left)
+returns-2 c =
+    let args = c .before .before .before .args in
+    c .wait .ensures ∙ retire-wait (args .c) (args .child) (args .head) (args .session)
+    (sym (c .before .before .frees .ensures) ∙ c .before .if1 .left)
 
 pub retire-spec : {M : Type 1} → statement M
 retire-spec = tie.close (tie.spec frees-requires release-requires returns wait-requires returns-2)

@@ -4,10 +4,14 @@ use Rattle.split.proofs.root_previous.Statement.{statement}
 use Rattle.split.proofs.root_previous.Tie as tie
 
 returns : tie.Need-returns
-returns c = root-built (c .before .before .args .c) (c .before .before .args .e) (c .before .before .args .head) (c .if1 .taken)
+returns c =
+    let args = c .before .before .args in
+    root-built (args .c) (args .e) (args .head) (c .if1 .taken)
 
 returns-2 : tie.Need-returns-2
-returns-2 c = root-older (c .before .before .args .c) (c .before .before .args .e) (c .before .before .args .head) (c .if1 .left)
+returns-2 c =
+    let args = c .before .before .args in
+    root-older (args .c) (args .e) (args .head) (c .if1 .left)
 
 pub root-previous-spec : {M : Type 1} → statement M
 root-previous-spec = tie.close (tie.spec returns returns-2)

@@ -12,15 +12,29 @@ returns c = first-fails _ _ _ _ (not-true (c .before .before .args .s .whole) (c
 
 returns-2 : tie.Need-returns-2
 unfolding entersBy
-returns-2 c = second-fails _ _ _ _ (not-false (c .before .before .before .before .before .args .s .whole) (c .before .before .before .if1 .left)) (le-ltb (c .before .before .before .before .before .args .s .count) (c .before .before .before .before .before .args .a .room) (c .if2 .taken))
+returns-2 c =
+    let args = c .before .before .before .before .before .args in
+    second-fails _ _ _ _ (not-false (args .s .whole) (c .before .before .before .if1 .left))
+    (le-ltb (args .s .count) (args .a .room) (c .if2 .taken))
 
 returns-3 : tie.Need-returns-3
 unfolding entersBy
-returns-3 c = third-fails _ _ _ _ (not-false (c .before .before .before .before .before .before .before .before .args .s .whole) (c .before .before .before .before .before .before .if1 .left)) (lt-ltb (c .before .before .before .before .before .before .before .before .args .s .count) (c .before .before .before .before .before .before .before .before .args .a .room) (omega (arith, c .before .before .before .if2 .left))) (lt-leb (c .before .before .before .before .before .before .before .before .args .e .low) (c .before .before .before .before .before .before .before .before .args .a .high) (c .if3 .taken))
+returns-3 c =
+    let args = c .before .before .before .before .before .before .before .before .args in
+    let if1 = c .before .before .before .before .before .before .if1 in
+    third-fails _ _ _ _ (not-false (args .s .whole) (if1 .left))
+    (lt-ltb (args .s .count) (args .a .room) (omega (arith, c .before .before .before .if2 .left)))
+    (lt-leb (args .e .low) (args .a .high) (c .if3 .taken))
 
 returns-4 : tie.Need-returns-4
 unfolding entersBy
-returns-4 c = fourth-decides _ _ _ _ (not-false (c .before .before .before .before .before .before .before .before .before .before .args .s .whole) (c .before .before .before .before .before .before .before .before .if1 .left)) (lt-ltb (c .before .before .before .before .before .before .before .before .before .before .args .s .count) (c .before .before .before .before .before .before .before .before .before .before .args .a .room) (omega (arith, c .before .before .before .before .before .if2 .left))) (le-leb (c .before .before .before .before .before .before .before .before .before .before .args .e .low) (c .before .before .before .before .before .before .before .before .before .before .args .a .high) (omega (arith, c .before .before .if3 .left)))
+returns-4 c =
+    let args = c .before .before .before .before .before .before .before .before .before .before .args in
+    let if1 = c .before .before .before .before .before .before .before .before .if1 in
+    let if2 = c .before .before .before .before .before .if2 in
+    fourth-decides _ _ _ _ (not-false (args .s .whole) (if1 .left))
+    (lt-ltb (args .s .count) (args .a .room) (omega (arith, if2 .left)))
+    (le-leb (args .e .low) (args .a .high) (omega (arith, c .before .before .if3 .left)))
 
 pub enters-spec : {M : Type 1} → statement M
 enters-spec = tie.close (tie.spec returns returns-2 returns-3 returns-4)

@@ -33,10 +33,26 @@ loop-less : tie.Need-loop-less Inv-loop μ-loop
 loop-less c = search needs
 
 loop-again : tie.Need-loop-again Inv-loop μ-loop
-loop-again c = (omega (arith, c .before .before .before .loop-test .taken), note-turn (c .before .before .before .before .before .before .args .a) (pageAt (c .before .before .before .before .before .before .args .t .now) (c .before .before .before .before .before .before .args .page)) (c .before .before .before .before .before .before .args .count) (c .before .before .before .before .loop .j) (c .before .before .cert-key-at .result) (c .before .cert-record-at .result) (c .before .before .before .before .loop .found) (c .note .result) (c .before .before .before .loop-test .taken) (c .before .before .cert-key-at .ensures) (c .before .cert-record-at .ensures) (c .note .ensures) ∙ c .before .before .before .before .loop .inv .1)
+loop-again c =
+    let args = c .before .before .before .before .before .before .args in
+    let loop = c .before .before .before .before .loop in
+    let loop-test = c .before .before .before .loop-test in
+    let cert-key-at = c .before .before .cert-key-at in
+    let cert-record-at = c .before .cert-record-at in
+    let note = c .note in (
+      omega (arith, loop-test .taken),
+      note-turn (args .a) (pageAt (args .t .now) (args .page)) (args .count) (loop .j) (cert-key-at .result)
+          (cert-record-at .result) (loop .found) (note .result) (loop-test .taken) (cert-key-at .ensures)
+          (cert-record-at .ensures) (note .ensures) ∙ loop .inv .1,
+    )
 
 returns : tie.Need-returns Inv-loop μ-loop
-returns c = sym (note-end (c .before .before .before .args .a) (pageAt (c .before .before .before .args .t .now) (c .before .before .before .args .page)) (c .before .before .before .args .count) (c .before .loop .j) (c .before .loop .found) (c .loop-test .left)) ∙ (c .before .loop .inv .1 ∙ note-all (c .before .before .before .args .a) (pageAt (c .before .before .before .args .t .now) (c .before .before .before .args .page)) (c .before .before .before .args .count) (c .before .before .before .args .s))
+returns c =
+    let args = c .before .before .before .args in
+    let loop = c .before .loop in
+    sym
+    (note-end (args .a) (pageAt (args .t .now) (args .page)) (args .count) (loop .j) (loop .found) (c .loop-test .left))
+    ∙ (loop .inv .1 ∙ note-all (args .a) (pageAt (args .t .now) (args .page)) (args .count) (args .s))
 
 pub note-each-spec : {M : Type 1} → statement M
 note-each-spec =

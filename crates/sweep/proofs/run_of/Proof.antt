@@ -14,7 +14,9 @@ sub-t6 : tie.Need-sub-t6
 sub-t6 c = search needs
 
 returns-2 : tie.Need-returns-2
-returns-2 c = run-inner (c .before .before .before .before .args .e) (c .before .before .before .before .args .head) (c .before .before .if1 .left)
+returns-2 c =
+    let args = c .before .before .before .before .args in
+    run-inner (args .e) (args .head) (c .before .before .if1 .left)
 
 pub run-of-spec : {M : Type 1} → statement M
 run-of-spec = tie.close (tie.spec returns cast-count sub-t6 returns-2)

@@ -18,31 +18,64 @@ abbrev μ-loop : tie.MeasureT-loop
 μ-loop t page level a s next₀ next = next .left
 
 returns : tie.Need-returns Inv-loop μ-loop
-returns c = sym (skip-none (c .before .before .args .a) (c .before .before .args .t .now) (c .before .before .args .page) (c .before .before .args .s) (c .before .before .args .run)) ∙ ap (λ (k : ℕ). skipOf k (c .before .before .args .a) (c .before .before .args .t .now) (c .before .before .args .page) (c .before .before .args .run) (c .before .before .args .s)) (sym (c .if1 .taken))
+returns c =
+    let args = c .before .before .args in
+    sym (skip-none (args .a) (args .t .now) (args .page) (args .s) (args .run))
+    ∙ ap (λ (k : ℕ). skipOf k (args .a) (args .t .now) (args .page) (args .run) (args .s)) (sym (c .if1 .taken))
 
 loop-holds : tie.Need-loop-holds Inv-loop μ-loop
 loop-holds c = (c .before .before .pre .1, c .before .before .pre .2, refl)
 
 first-of-requires : tie.Need-first-of-requires Inv-loop μ-loop
-first-of-requires c κs = (c .before .before .before .before .before .pre .0, omega (arith, c .if2 .taken), c .before .before .loop .inv .0, c .before .before .loop .inv .1)
+first-of-requires c κs =
+    let pre = c .before .before .before .before .before .pre in
+    let loop = c .before .before .loop in
+    (pre .0, omega (arith, c .if2 .taken), loop .inv .0, loop .inv .1)
 
 enters-requires : tie.Need-enters-requires Inv-loop μ-loop
 enters-requires c κs = search needs
 
 returns-2 : tie.Need-returns-2 Inv-loop μ-loop
-returns-2 c = skip-here (c .before .before .before .before .before .before .before .before .args .a) (c .before .before .before .before .before .before .before .before .args .t .now) (c .before .before .before .before .before .before .before .before .args .page) (c .before .before .before .before .before .before .before .before .args .s) (c .before .before .before .before .before .loop .next) (c .before .before .first-of .result) (c .before .before .first-of .ensures) (omega (arith, c .before .before .before .if2 .taken)) (sym (c .before .enters .ensures) ∙ c .if3 .taken) ∙ (c .before .before .before .before .before .loop .inv .2 ∙ sym (skip-some (c .before .before .before .before .before .before .before .before .args .level) (c .before .before .before .before .before .before .before .before .args .a) (c .before .before .before .before .before .before .before .before .args .t .now) (c .before .before .before .before .before .before .before .before .args .page) (c .before .before .before .before .before .before .before .before .args .s) (c .before .before .before .before .before .before .before .before .args .run) (omega (arith, c .before .before .before .before .before .before .if1 .left))))
+returns-2 c =
+    let args = c .before .before .before .before .before .before .before .before .args in
+    let if1 = c .before .before .before .before .before .before .if1 in
+    let loop = c .before .before .before .before .before .loop in
+    let first-of = c .before .before .first-of in
+    skip-here (args .a) (args .t .now) (args .page) (args .s) (loop .next) (first-of .result) (first-of .ensures)
+    (omega (arith, c .before .before .before .if2 .taken)) (sym (c .before .enters .ensures) ∙ c .if3 .taken)
+    ∙
+    (loop .inv .2 ∙ sym (skip-some (args .level) (args .a) (args .t .now) (args .page) (args .s) (args .run) (omega (arith, if1 .left))))
 
 rest-of-requires : tie.Need-rest-of-requires Inv-loop μ-loop
 rest-of-requires c κs = search needs
 
 loop-less : tie.Need-loop-less Inv-loop μ-loop
-loop-less c = omega (arith, c .before .before .before .before .if2 .taken, ap (λ (x : Run). x .left) (c .rest-of .ensures))
+loop-less c =
+    let if2 = c .before .before .before .before .if2 in
+    omega (arith, if2 .taken, ap (λ (x : Run). x .left) (c .rest-of .ensures))
 
 loop-again : tie.Need-loop-again Inv-loop μ-loop
-loop-again c = (omega (arith, c .before .before .before .before .before .before .loop .inv .0, ap (λ (x : Run). x .left) (c .rest-of .ensures), ap (λ (x : Run). x .count) (c .rest-of .ensures)), omega (arith, c .before .before .before .before .before .before .loop .inv .1, ap (λ (x : Run). x .count) (c .rest-of .ensures)), skip-past (c .before .before .before .before .before .before .before .before .before .args .a) (c .before .before .before .before .before .before .before .before .before .args .t .now) (c .before .before .before .before .before .before .before .before .before .args .page) (c .before .before .before .before .before .before .before .before .before .args .s) (c .before .before .before .before .before .before .loop .next) (c .before .before .before .first-of .result) (c .before .before .before .first-of .ensures) (omega (arith, c .before .before .before .before .if2 .taken)) (sym (c .before .before .enters .ensures) ∙ c .before .if3 .left) (c .rest-of .result) (c .rest-of .ensures) ∙ c .before .before .before .before .before .before .loop .inv .2)
+loop-again c =
+    let args = c .before .before .before .before .before .before .before .before .before .args in
+    let loop = c .before .before .before .before .before .before .loop in
+    let if2 = c .before .before .before .before .if2 in
+    let first-of = c .before .before .before .first-of in
+    let rest-of = c .rest-of in (
+      omega
+          (arith, loop .inv .0, ap (λ (x : Run). x .left) (rest-of .ensures), ap (λ (x : Run). x .count) (rest-of .ensures)),
+      omega (arith, loop .inv .1, ap (λ (x : Run). x .count) (rest-of .ensures)),
+      skip-past (args .a) (args .t .now) (args .page) (args .s) (loop .next) (first-of .result) (first-of .ensures)
+          (omega (arith, if2 .taken)) (sym (c .before .before .enters .ensures) ∙ c .before .if3 .left) (rest-of .result)
+          (rest-of .ensures) ∙ loop .inv .2,
+    )
 
 returns-3 : tie.Need-returns-3 Inv-loop μ-loop
-returns-3 c = skip-end (c .before .before .before .before .before .args .a) (c .before .before .before .before .before .args .t .now) (c .before .before .before .before .before .args .page) (c .before .before .before .before .before .args .s) (c .before .before .loop .next) (omega (arith, c .if2 .left)) ∙ (c .before .before .loop .inv .2 ∙ sym (skip-some (c .before .before .before .before .before .args .level) (c .before .before .before .before .before .args .a) (c .before .before .before .before .before .args .t .now) (c .before .before .before .before .before .args .page) (c .before .before .before .before .before .args .s) (c .before .before .before .before .before .args .run) (omega (arith, c .before .before .before .if1 .left))))
+returns-3 c =
+    let args = c .before .before .before .before .before .args in
+    let loop = c .before .before .loop in
+    skip-end (args .a) (args .t .now) (args .page) (args .s) (loop .next) (omega (arith, c .if2 .left))
+    ∙
+    (loop .inv .2 ∙ sym (skip-some (args .level) (args .a) (args .t .now) (args .page) (args .s) (args .run) (omega (arith, c .before .before .before .if1 .left))))
 
 pub skip-spec : {M : Type 1} → statement M
 skip-spec =

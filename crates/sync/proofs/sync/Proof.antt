@@ -28,8 +28,9 @@ same-length-2 c = search needs
 
 returns : tie.Need-returns
 returns c =
+    let lengths-for = c .before .lengths-for in
     let a = c .before .before .before .before .before .before .args in
-    let failed = sym (c .before .lengths-for .ensures (a .session) refl) ∙ not-true (c .before .lengths-for .result) (c .if1 .taken) in
+    let failed = sym (lengths-for .ensures (a .session) refl) ∙ not-true (lengths-for .result) (c .if1 .taken) in
     refused (a .working .now) (a .stable .now) (a .session) failed
 
 same-length-3 : tie.Need-same-length-3
@@ -53,8 +54,10 @@ put32-requires c κs =
 
 copy-requires : tie.Need-copy-requires
 copy-requires c κs =
+    let put32 = c .before .before .before .before .put32 in
     let a = c .before .before .before .before .before .before .before .before .before .before .before .before .before .args in
-    omega (arith, c .before .before .before .before .put32 .kept .0, same (a .working .now) (a .stable .now) (a .session) (passed (c .before .before .before .before .before .before .before)))
+    omega
+    (arith, put32 .kept .0, same (a .working .now) (a .stable .now) (a .session) (passed (c .before .before .before .before .before .before .before)))
 
 turn-requires : tie.Need-turn-requires
 turn-requires c κs = search needs
@@ -68,9 +71,11 @@ same-length-6 c = search needs
 returns-3 : tie.Need-returns-3
 unfolding setNumber
 returns-3 c =
+    let if2 = c .before .before .before .before .before .before .before .before .before .before .if2 in
+    let put32 = c .before .before .before .before .before .before .before .before .put32 in
     let a = c .before .before .before .before .before .before .before .before .before .before .before .before .before .before .before .before .before .args in
-    rw (c .turn .ensures, c .before .before .before .copy .ensures, c .before .before .before .before .before .before .before .before .put32 .ensures)
-    (done (a .working .now) (a .stable .now) (a .session) (passed (c .before .before .before .before .before .before .before .before .before .before .before)) (c .before .before .before .before .before .before .before .before .before .before .if2 .left))
+    rw (c .turn .ensures, c .before .before .before .copy .ensures, put32 .ensures)
+    (done (a .working .now) (a .stable .now) (a .session) (passed (c .before .before .before .before .before .before .before .before .before .before .before)) (if2 .left))
 
 pub sync-spec : {M : Type 1} → statement M
 sync-spec =

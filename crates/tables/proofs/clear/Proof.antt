@@ -21,9 +21,10 @@ loop-holds c = (search needs, refl)
 
 slice-write-table : tie.Need-slice-write-table Inv-loop μ-loop
 slice-write-table c =
+    let loop = c .before .loop in
     let t = c .before .before .args .table .now in
-    let l = length-front t (zeros t) (length-zeros t) (c .before .loop .i) (rw length-zeros (c .before .loop .inv .0)) in
-    omega (arith, ap length (c .before .loop .inv .1), l)
+    let l = length-front t (zeros t) (length-zeros t) (loop .i) (rw length-zeros (loop .inv .0)) in
+    omega (arith, ap length (loop .inv .1), l)
 
 add-i : tie.Need-add-i Inv-loop μ-loop
 add-i c = search needs
@@ -33,8 +34,11 @@ loop-less c = search needs
 
 loop-again : tie.Need-loop-again Inv-loop μ-loop
 loop-again c =
-    let t = c .before .before .args .table .now in
-    (search needs, ap (λ (l : List ℕ). set l (c .before .loop .i) 0) (c .before .loop .inv .1) ∙ zeros-more t (c .before .loop .i) (c .loop-test .taken))
+    let loop = c .before .loop in
+    let t = c .before .before .args .table .now in (
+      search needs,
+      ap (λ (l : List ℕ). set l (loop .i) 0) (loop .inv .1) ∙ zeros-more t (loop .i) (c .loop-test .taken),
+    )
 
 same-length : tie.Need-same-length Inv-loop μ-loop
 same-length c =
@@ -44,8 +48,9 @@ same-length c =
 
 returns : tie.Need-returns Inv-loop μ-loop
 returns c =
+    let loop = c .before .loop in
     let t = c .before .before .args .table .now in
-    c .before .loop .inv .1 ∙ front-all t (zeros t) (length-zeros t) (c .before .loop .i) (rw length-zeros (c .loop-test .left))
+    loop .inv .1 ∙ front-all t (zeros t) (length-zeros t) (loop .i) (rw length-zeros (c .loop-test .left))
 
 pub clear-spec : {M : Type 1} → statement M
 clear-spec =

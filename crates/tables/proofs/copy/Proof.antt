@@ -23,7 +23,12 @@ shared-slice-read-to : tie.Need-shared-slice-read-to Inv-loop μ-loop
 shared-slice-read-to c = search needs
 
 slice-write-to : tie.Need-slice-write-to Inv-loop μ-loop
-slice-write-to c = omega (arith, ap length (c .before .before .loop .inv .1), length-front (c .before .before .before .args .to .now) (c .before .before .before .args .from .now) (c .before .before .before .pre) (c .before .before .loop .i) (c .before .before .loop .inv .0), c .before .before .before .pre)
+slice-write-to c =
+    let args = c .before .before .before .args in
+    let pre = c .before .before .before .pre in
+    let loop = c .before .before .loop in
+    omega
+    (arith, ap length (loop .inv .1), length-front (args .to .now) (args .from .now) pre (loop .i) (loop .inv .0), pre)
 
 add-i : tie.Need-add-i Inv-loop μ-loop
 add-i c = search needs
@@ -32,13 +37,27 @@ loop-less : tie.Need-loop-less Inv-loop μ-loop
 loop-less c = search needs
 
 loop-again : tie.Need-loop-again Inv-loop μ-loop
-loop-again c = (search needs, ap (λ (l : List ℕ). set l (c .before .before .loop .i) (getD (c .before .before .before .args .from .now) (c .before .before .loop .i) 0)) (c .before .before .loop .inv .1) ∙ front-more (c .before .before .before .args .to .now) (c .before .before .before .args .from .now) (c .before .before .before .pre) (c .before .before .loop .i) (c .before .loop-test .taken))
+loop-again c =
+    let args = c .before .before .before .args in
+    let loop = c .before .before .loop in (
+      search needs,
+      ap (λ (l : List ℕ). set l (loop .i) (getD (args .from .now) (loop .i) 0)) (loop .inv .1)
+          ∙ front-more (args .to .now) (args .from .now) (c .before .before .before .pre) (loop .i)
+          (c .before .loop-test .taken),
+    )
 
 same-length : tie.Need-same-length Inv-loop μ-loop
-same-length c = ap length (c .before .loop .inv .1) ∙ length-front (c .before .before .args .to .now) (c .before .before .args .from .now) (c .before .before .pre) (c .before .loop .i) (c .before .loop .inv .0)
+same-length c =
+    let args = c .before .before .args in
+    let loop = c .before .loop in
+    ap length (loop .inv .1) ∙ length-front (args .to .now) (args .from .now) (c .before .before .pre) (loop .i)
+    (loop .inv .0)
 
 returns : tie.Need-returns Inv-loop μ-loop
-returns c = c .before .loop .inv .1 ∙ front-all (c .before .before .args .to .now) (c .before .before .args .from .now) (c .before .before .pre) (c .before .loop .i) (c .loop-test .left)
+returns c =
+    let args = c .before .before .args in
+    let loop = c .before .loop in
+    loop .inv .1 ∙ front-all (args .to .now) (args .from .now) (c .before .before .pre) (loop .i) (c .loop-test .left)
 
 pub copy-spec : {M : Type 1} → statement M
 copy-spec =

@@ -11,15 +11,23 @@ use Rattle.tables.proofs.good_lengths.Tie as tie
 
 returns : tie.Need-returns
 unfolding goodLengths every
-returns c = rw (ne-eqb (length (c .before .args .working .now)) (length (c .before .args .stable .now)) (c .if1 .taken))
+returns c =
+    let args = c .before .args in
+    rw (ne-eqb (length (args .working .now)) (length (args .stable .now)) (c .if1 .taken))
 
 returns-2 : tie.Need-returns-2
 unfolding goodLengths every
-returns-2 c = rw (eq-eqb (length (c .before .before .args .working .now)) (length (c .before .before .args .stable .now)) (c .before .if1 .left), ne-eqb (length (c .before .before .args .working .now) % 512) 0 (c .if2 .taken))
+returns-2 c =
+    let args = c .before .before .args in
+    rw
+    (eq-eqb (length (args .working .now)) (length (args .stable .now)) (c .before .if1 .left), ne-eqb (length (args .working .now) % 512) 0 (c .if2 .taken))
 
 returns-3 : tie.Need-returns-3
 unfolding goodLengths every between pages
-returns-3 c = rw (eq-eqb (length (c .before .before .args .working .now)) (length (c .before .before .args .stable .now)) (c .before .if1 .left), eq-eqb (length (c .before .before .args .working .now) % 512) 0 (c .if2 .left), and-true)
+returns-3 c =
+    let args = c .before .before .args in
+    rw
+    (eq-eqb (length (args .working .now)) (length (args .stable .now)) (c .before .if1 .left), eq-eqb (length (args .working .now) % 512) 0 (c .if2 .left), and-true)
 
 pub good-lengths-spec : {M : Type 1} → statement M
 good-lengths-spec = tie.close (tie.spec returns returns-2 returns-3)

@@ -18,16 +18,29 @@ abbrev μ-loop : tie.MeasureT-loop
 μ-loop t₀ n c key above₀ e₀ level₀ t above e level = level
 
 root-place-requires : tie.Need-root-place-requires Inv-loop μ-loop
-root-place-requires c κs = has-zero (c .before .before .args .n) (c .before .before .args .t .now) (c .before .before .pre .0) (c .before .before .pre .1)
+root-place-requires c κs =
+    let args = c .before .before .args in
+    let pre = c .before .before .pre in
+    has-zero (args .n) (args .t .now) (pre .0) (pre .1)
 
 loop-holds : tie.Need-loop-holds Inv-loop μ-loop
-loop-holds c = begins (c .before .before .before .args .n) (c .before .before .before .args .c) (c .before .before .before .args .key) (c .before .before .before .args .t .now) (c .root-place .result) (c .before .before .before .pre .0) (c .before .before .before .pre .1) (c .before .before .slice-known .given) (c .root-place .ensures) (omega (arith, c .before .before .before .fits .c)) (omega (arith, c .before .before .before .fits .key))
+loop-holds c =
+    let args = c .before .before .before .args in
+    let fits = c .before .before .before .fits in
+    let pre = c .before .before .before .pre in
+    let root-place = c .root-place in
+    begins (args .n) (args .c) (args .key) (args .t .now) (root-place .result) (pre .0) (pre .1)
+    (c .before .before .slice-known .given) (root-place .ensures) (omega (arith, fits .c)) (omega (arith, fits .key))
 
 look-ahead-requires : tie.Need-look-ahead-requires Inv-loop μ-loop
-look-ahead-requires c κs = omega (arith, c .before .before .loop .inv .descent .ready .long, c .before .before .loop .inv .descent .ready .child-below)
+look-ahead-requires c κs =
+    let loop = c .before .before .loop in
+    omega (arith, loop .inv .descent .ready .long, loop .inv .descent .ready .child-below)
 
 enter-requires : tie.Need-enter-requires Inv-loop μ-loop
-enter-requires c κs = (c .before .before .before .before .loop .inv .descent .ready .long, c .before .before .before .before .loop .inv .descent .ready .child-below)
+enter-requires c κs =
+    let loop = c .before .before .before .before .loop in
+    (loop .inv .descent .ready .long, loop .inv .descent .ready .child-below)
 
 enum-known-page : tie.Need-enum-known-page Inv-loop μ-loop
 enum-known-page c = search needs
@@ -39,46 +52,109 @@ no-end-requires : tie.Need-no-end-requires Inv-loop μ-loop
 no-end-requires c κs = search needs
 
 same-length : tie.Need-same-length Inv-loop μ-loop
-same-length c = omega (arith, c .before .before .before .before .before .enter .kept .0, c .before .before .before .before .before .before .before .before .before .before .loop .inv .descent .ready .long, c .before .before .before .before .before .before .before .before .before .before .before .before .before .before .pre .0)
+same-length c =
+    let pre = c .before .before .before .before .before .before .before .before .before .before .before .before .before .before .pre in
+    let loop = c .before .before .before .before .before .before .before .before .before .before .loop in
+    let enter = c .before .before .before .before .before .enter in
+    omega (arith, enter .kept .0, loop .inv .descent .ready .long, pre .0)
 
 returns : tie.Need-returns Inv-loop μ-loop
-returns c = ap (ending (c .before .before .before .before .before .enter .last .0)) (c .no-end .ensures) ∙ damaged (c .before .before .before .before .before .before .before .before .before .before .loop .inv) (c .before .before .before .before .before .before .before .before .before .loop-test .taken) (c .before .before .before .before .before .enter .last .0) (ap (entering (c .before .before .before .before .before .enter .last .0)) (sym (c .before .enum-told .given .1)) ∙ c .before .before .before .before .before .enter .ensures)
+returns c =
+    let loop = c .before .before .before .before .before .before .before .before .before .before .loop in
+    let loop-test = c .before .before .before .before .before .before .before .before .before .loop-test in
+    let enter = c .before .before .before .before .before .enter in
+    ap (ending (enter .last .0)) (c .no-end .ensures) ∙ damaged (loop .inv) (loop-test .taken) (enter .last .0)
+    (ap (entering (enter .last .0)) (sym (c .before .enum-told .given .1)) ∙ enter .ensures)
 
 sub-len : tie.Need-sub-len Inv-loop μ-loop
-sub-len c = omega (arith, c .before .before .before .before .before .before .before .before .before .before .before .before .loop .inv .descent .deep)
+sub-len c =
+    let loop = c .before .before .before .before .before .before .before .before .before .before .before .before .loop in
+    omega (arith, loop .inv .descent .deep)
 
 add-len : tie.Need-add-len Inv-loop μ-loop
-add-len c = omega (arith, c .before .before .before .before .before .before .before .before .before .before .before .before .loop .inv .descent .deep)
+add-len c =
+    let loop = c .before .before .before .before .before .before .before .before .before .before .before .before .loop in
+    omega (arith, loop .inv .descent .deep)
 
 spot-at-requires : tie.Need-spot-at-requires Inv-loop μ-loop
-spot-at-requires c κs = let f = ap (entering (c .before .before .before .before .before .before .before .before .enter .last .0)) (sym (c .before .before .before .before .page .given .1)) ∙ c .before .before .before .before .before .before .before .before .enter .ensures in (omega (arith, c .before .before .before .before .before .before .before .before .enter .kept .0, c .before .before .before .before .before .before .before .before .before .before .before .before .before .loop .inv .descent .ready .long, c .before .before .before .before .before .before .before .before .before .before .before .before .before .loop .inv .descent .ready .child-below), head-here (c .before .before .before .before .before .before .before .before .before .before .before .before .before .loop .inv .descent) (c .before .before .before .before .before .before .before .before .before .before .before .before .loop-test .taken) (c .before .before .before .before .before .before .before .before .before .before .before .before .before .loop .above) (c .before .before .before .before .before .before .before .before .before .before .before .before .before .loop .inv .above) (c .before .before .before .before .before .before .before .before .enter .last .0) (c .before .before .before .before .page .given .0 .0) f, holds (c .before .before .before .before .before .before .before .before .before .before .before .before .before .loop .inv .descent) (c .before .before .before .before .before .before .before .before .before .before .before .before .loop-test .taken) (c .before .before .before .before .before .before .before .before .before .before .before .before .before .loop .above) (c .before .before .before .before .before .before .before .before .before .before .before .before .before .loop .inv .above) (c .before .before .before .before .before .before .before .before .enter .last .0) (c .before .before .before .before .page .given .0 .0) f (c .before .if1 .taken))
+spot-at-requires c κs =
+    let loop = c .before .before .before .before .before .before .before .before .before .before .before .before .before .loop in
+    let loop-test = c .before .before .before .before .before .before .before .before .before .before .before .before .loop-test in
+    let enter = c .before .before .before .before .before .before .before .before .enter in
+    let page = c .before .before .before .before .page in
+    let f = ap (entering (enter .last .0)) (sym (page .given .1)) ∙ enter .ensures in (
+      omega (arith, enter .kept .0, loop .inv .descent .ready .long, loop .inv .descent .ready .child-below),
+      head-here (loop .inv .descent) (loop-test .taken) (loop .above) (loop .inv .above) (enter .last .0)
+          (page .given .0 .0) f,
+      holds (loop .inv .descent) (loop-test .taken) (loop .above) (loop .inv .above) (enter .last .0)
+          (page .given .0 .0) f (c .before .if1 .taken),
+    )
 
 same-length-2 : tie.Need-same-length-2 Inv-loop μ-loop
-same-length-2 c = omega (arith, c .before .before .before .before .before .before .before .before .before .enter .kept .0, c .before .before .before .before .before .before .before .before .before .before .before .before .before .before .loop .inv .descent .ready .long, c .before .before .before .before .before .before .before .before .before .before .before .before .before .before .before .before .before .before .pre .0)
+same-length-2 c =
+    let pre = c .before .before .before .before .before .before .before .before .before .before .before .before .before .before .before .before .before .before .pre in
+    let loop = c .before .before .before .before .before .before .before .before .before .before .before .before .before .before .loop in
+    let enter = c .before .before .before .before .before .before .before .before .before .enter in
+    omega (arith, enter .kept .0, loop .inv .descent .ready .long, pre .0)
 
 returns-2 : tie.Need-returns-2 Inv-loop μ-loop
-returns-2 c = ends (c .before .before .before .before .before .before .before .before .before .before .before .before .before .before .loop .inv) (c .before .before .before .before .before .before .before .before .before .before .before .before .before .loop-test .taken) (c .before .before .before .before .before .before .before .before .before .enter .last .0) (c .before .before .before .before .before .page .given .0 .0) (ap (entering (c .before .before .before .before .before .before .before .before .before .enter .last .0)) (sym (c .before .before .before .before .before .page .given .1)) ∙ c .before .before .before .before .before .before .before .before .before .enter .ensures) (c .before .before .if1 .taken) (c .spot-at .result) (c .spot-at .ensures)
+returns-2 c =
+    let loop = c .before .before .before .before .before .before .before .before .before .before .before .before .before .before .loop in
+    let loop-test = c .before .before .before .before .before .before .before .before .before .before .before .before .before .loop-test in
+    let enter = c .before .before .before .before .before .before .before .before .before .enter in
+    let page = c .before .before .before .before .before .page in
+    let spot-at = c .spot-at in
+    ends (loop .inv) (loop-test .taken) (enter .last .0) (page .given .0 .0)
+    (ap (entering (enter .last .0)) (sym (page .given .1)) ∙ enter .ensures) (c .before .before .if1 .taken)
+    (spot-at .result) (spot-at .ensures)
 
 place-below-requires : tie.Need-place-below-requires Inv-loop μ-loop
-place-below-requires c κs = let f = ap (entering (c .before .before .before .before .before .before .before .before .enter .last .0)) (sym (c .before .before .before .before .page .given .1)) ∙ c .before .before .before .before .before .before .before .before .enter .ensures in (omega (arith, c .before .before .before .before .before .before .before .before .enter .kept .0, c .before .before .before .before .before .before .before .before .before .before .before .before .before .loop .inv .descent .ready .long, c .before .before .before .before .before .before .before .before .before .before .before .before .before .loop .inv .descent .ready .child-below), head-here (c .before .before .before .before .before .before .before .before .before .before .before .before .before .loop .inv .descent) (c .before .before .before .before .before .before .before .before .before .before .before .before .loop-test .taken) (c .before .before .before .before .before .before .before .before .before .before .before .before .before .loop .above) (c .before .before .before .before .before .before .before .before .before .before .before .before .before .loop .inv .above) (c .before .before .before .before .before .before .before .before .enter .last .0) (c .before .before .before .before .page .given .0 .0) f, leads (c .before .before .before .before .before .before .before .before .before .before .before .before .before .loop .inv .descent) (c .before .before .before .before .before .before .before .before .before .before .before .before .loop-test .taken) (c .before .before .before .before .before .before .before .before .before .before .before .before .before .loop .above) (c .before .before .before .before .before .before .before .before .before .before .before .before .before .loop .inv .above) (c .before .before .before .before .before .before .before .before .enter .last .0) (c .before .before .before .before .page .given .0 .0) f (c .before .if1 .left))
+place-below-requires c κs =
+    let loop = c .before .before .before .before .before .before .before .before .before .before .before .before .before .loop in
+    let loop-test = c .before .before .before .before .before .before .before .before .before .before .before .before .loop-test in
+    let enter = c .before .before .before .before .before .before .before .before .enter in
+    let page = c .before .before .before .before .page in
+    let f = ap (entering (enter .last .0)) (sym (page .given .1)) ∙ enter .ensures in (
+      omega (arith, enter .kept .0, loop .inv .descent .ready .long, loop .inv .descent .ready .child-below),
+      head-here (loop .inv .descent) (loop-test .taken) (loop .above) (loop .inv .above) (enter .last .0)
+          (page .given .0 .0) f,
+      leads (loop .inv .descent) (loop-test .taken) (loop .above) (loop .inv .above) (enter .last .0)
+          (page .given .0 .0) f (c .before .if1 .left),
+    )
 
 sub-level : tie.Need-sub-level Inv-loop μ-loop
-sub-level c = omega (arith, c .before .before .before .before .before .before .before .before .before .before .before .before .before .loop-test .taken)
+sub-level c =
+    let loop-test = c .before .before .before .before .before .before .before .before .before .before .before .before .before .loop-test in
+    omega (arith, loop-test .taken)
 
 loop-less : tie.Need-loop-less Inv-loop μ-loop
-loop-less c = omega (arith, c .before .before .before .before .before .before .before .before .before .before .before .before .before .loop-test .taken)
+loop-less c =
+    let loop-test = c .before .before .before .before .before .before .before .before .before .before .before .before .before .loop-test in
+    omega (arith, loop-test .taken)
 
 loop-again : tie.Need-loop-again Inv-loop μ-loop
-loop-again c = let f = ap (entering (c .before .before .before .before .before .before .before .before .before .enter .last .0)) (sym (c .before .before .before .before .before .page .given .1)) ∙ c .before .before .before .before .before .before .before .before .before .enter .ensures in goes-on (c .before .before .before .before .before .before .before .before .before .before .before .before .before .before .loop .inv) (c .before .before .before .before .before .before .before .before .before .before .before .before .before .loop-test .taken) (c .before .before .before .before .before .before .before .before .before .enter .last .0) (c .before .before .before .before .before .page .given .0 .0) f (c .before .before .if1 .left) (c .place-below .result) (c .place-below .ensures)
+loop-again c =
+    let loop = c .before .before .before .before .before .before .before .before .before .before .before .before .before .before .loop in
+    let loop-test = c .before .before .before .before .before .before .before .before .before .before .before .before .before .loop-test in
+    let enter = c .before .before .before .before .before .before .before .before .before .enter in
+    let page = c .before .before .before .before .before .page in
+    let place-below = c .place-below in
+    let f = ap (entering (enter .last .0)) (sym (page .given .1)) ∙ enter .ensures in
+    goes-on (loop .inv) (loop-test .taken) (enter .last .0) (page .given .0 .0) f (c .before .before .if1 .left)
+    (place-below .result) (place-below .ensures)
 
 no-end-requires-2 : tie.Need-no-end-requires-2 Inv-loop μ-loop
 no-end-requires-2 c κs = search needs
 
 same-length-3 : tie.Need-same-length-3 Inv-loop μ-loop
-same-length-3 c = omega (arith, c .before .before .loop .inv .descent .ready .long, c .before .before .before .before .before .before .pre .0)
+same-length-3 c =
+    let pre = c .before .before .before .before .before .before .pre in
+    omega (arith, c .before .before .loop .inv .descent .ready .long, pre .0)
 
 returns-3 : tie.Need-returns-3 Inv-loop μ-loop
-returns-3 c = ap (ending (c .before .before .loop .t)) (c .no-end2 .ensures) ∙ runs-out (c .before .before .loop .inv) (omega (arith, c .before .loop-test .left))
+returns-3 c =
+    let loop = c .before .before .loop in
+    ap (ending (loop .t)) (c .no-end2 .ensures) ∙ runs-out (loop .inv) (omega (arith, c .before .loop-test .left))
 
 pub leaf-of-spec : {M : Type 1} → statement M
 leaf-of-spec =

@@ -35,11 +35,24 @@ cast-place-in c = search needs
 
 place-in-requires : tie.Need-place-in-requires
 unfolding read pageIn
-place-in-requires c κs = let b = pageAt (c .before .before .before .before .args .table .now) (c .before .before .before .before .args .e .child) in let l = length-pageAt (c .before .before .before .before .args .table .now) (c .before .before .before .before .args .e .child) (omega arith) in let f = c .before .before .before .before .pre .1 in let g = c .before .before .before .before .pre .2 in rw (page-part (c .before .before .before .before .args .table .now) (c .before .before .before .before .args .e .child)) (leads-kind b (c .before .before .before .before .args .head) (c .before .before .before .before .args .key) (c .before .before .before .before .args .e) f g, omega (arith, l, leads-room b (c .before .before .before .before .args .head) (c .before .before .before .before .args .key) (c .before .before .before .before .args .e) f g), omega (arith, l), leads-rise b (c .before .before .before .before .args .head) (c .before .before .before .before .args .key) (c .before .before .before .before .args .e) f g, g .high, leads-spot b (c .before .before .before .before .args .head) (c .before .before .before .before .args .key) (c .before .before .before .before .args .e) f g)
+place-in-requires c κs =
+    let args = c .before .before .before .before .args in
+    let pre = c .before .before .before .before .pre in
+    let b = pageAt (args .table .now) (args .e .child) in
+    let l = length-pageAt (args .table .now) (args .e .child) (omega arith) in
+    let f = pre .1 in
+    let g = pre .2 in
+    rw (page-part (args .table .now) (args .e .child))
+    (leads-kind b (args .head) (args .key) (args .e) f g, omega (arith, l, leads-room b (args .head) (args .key) (args .e) f g), omega (arith, l), leads-rise b (args .head) (args .key) (args .e) f g, g .high, leads-spot b (args .head) (args .key) (args .e) f g)
 
 returns : tie.Need-returns
 unfolding read pageIn
-returns c = let b = pageAt (c .before .before .before .before .before .args .table .now) (c .before .before .before .before .before .args .e .child) in ap (pick (c .before .before .before .before .before .args .key)) (leads-kids b (c .before .before .before .before .before .args .head) (c .before .before .before .before .before .args .key) (c .before .before .before .before .before .args .e) (c .before .before .before .before .before .pre .1) (c .before .before .before .before .before .pre .2)) ∙ rw (page-part (c .before .before .before .before .before .args .table .now) (c .before .before .before .before .before .args .e .child)) at (c .place-in .ensures)
+returns c =
+    let args = c .before .before .before .before .before .args in
+    let pre = c .before .before .before .before .before .pre in
+    let b = pageAt (args .table .now) (args .e .child) in
+    ap (pick (args .key)) (leads-kids b (args .head) (args .key) (args .e) (pre .1) (pre .2))
+    ∙ rw (page-part (args .table .now) (args .e .child)) at (c .place-in .ensures)
 
 pub place-below-spec : {M : Type 1} → statement M
 place-below-spec =

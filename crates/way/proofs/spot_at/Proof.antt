@@ -34,11 +34,19 @@ cast-confirm c = search needs
 
 confirm-requires : tie.Need-confirm-requires
 unfolding read pageIn
-confirm-requires c κs = let b = pageAt (c .before .before .before .before .args .table .now) (c .before .before .before .before .args .leaf .place .child) in let l = length-pageAt (c .before .before .before .before .args .table .now) (c .before .before .before .before .args .leaf .place .child) (omega arith) in rw (page-part (c .before .before .before .before .args .table .now) (c .before .before .before .before .args .leaf .place .child)) (omega arith, omega (arith, l, holds-room b (c .before .before .before .before .args .leaf .head) (c .before .before .before .before .pre .1) (c .before .before .before .before .pre .2)), omega (arith, l), holds-keys b (c .before .before .before .before .args .leaf .head) (c .before .before .before .before .pre .1) (c .before .before .before .before .pre .2))
+confirm-requires c κs =
+    let args = c .before .before .before .before .args in
+    let pre = c .before .before .before .before .pre in
+    let b = pageAt (args .table .now) (args .leaf .place .child) in
+    let l = length-pageAt (args .table .now) (args .leaf .place .child) (omega arith) in
+    rw (page-part (args .table .now) (args .leaf .place .child))
+    (omega arith, omega (arith, l, holds-room b (args .leaf .head) (pre .1) (pre .2)), omega (arith, l), holds-keys b (args .leaf .head) (pre .1) (pre .2))
 
 returns : tie.Need-returns
 unfolding spotAt
-returns c = rw (page-part (c .before .before .before .before .before .args .table .now) (c .before .before .before .before .before .args .leaf .place .child)) at (c .confirm .ensures)
+returns c =
+    let args = c .before .before .before .before .before .args in
+    rw (page-part (args .table .now) (args .leaf .place .child)) at (c .confirm .ensures)
 
 pub spot-at-spec : {M : Type 1} → statement M
 spot-at-spec =

@@ -21,19 +21,34 @@ no-way-requires : tie.Need-no-way-requires Inv-loop μ-loop
 no-way-requires c κs = search needs
 
 root-place-requires : tie.Need-root-place-requires Inv-loop μ-loop
-root-place-requires c κs = has-zero (c .before .before .before .args .n) (c .before .before .before .args .t .now) (c .before .before .before .pre .0) (c .before .before .before .pre .1)
+root-place-requires c κs =
+    let args = c .before .before .before .args in
+    let pre = c .before .before .before .pre in
+    has-zero (args .n) (args .t .now) (pre .0) (pre .1)
 
 loop-holds : tie.Need-loop-holds Inv-loop μ-loop
-loop-holds c = begins (c .before .before .before .before .args .n) (c .before .before .before .before .args .c) (c .before .before .before .before .args .key) (c .before .before .before .before .args .t .now) (c .root-place .result) (c .before .before .no-way .result) (c .before .before .before .before .pre .0) (c .before .before .before .before .pre .1) (c .before .before .before .slice-known .given) (c .root-place .ensures) (c .before .before .no-way .ensures) (omega (arith, c .before .before .before .before .fits .c)) (omega (arith, c .before .before .before .before .fits .key))
+loop-holds c =
+    let args = c .before .before .before .before .args in
+    let fits = c .before .before .before .before .fits in
+    let pre = c .before .before .before .before .pre in
+    let no-way = c .before .before .no-way in
+    let root-place = c .root-place in
+    begins (args .n) (args .c) (args .key) (args .t .now) (root-place .result) (no-way .result) (pre .0) (pre .1)
+    (c .before .before .before .slice-known .given) (root-place .ensures) (no-way .ensures) (omega (arith, fits .c))
+    (omega (arith, fits .key))
 
 look-ahead-requires : tie.Need-look-ahead-requires Inv-loop μ-loop
-look-ahead-requires c κs = omega (arith, c .before .before .loop .inv .ready .long, c .before .before .loop .inv .ready .child-below)
+look-ahead-requires c κs =
+    let loop = c .before .before .loop in
+    omega (arith, loop .inv .ready .long, loop .inv .ready .child-below)
 
 above-requires : tie.Need-above-requires Inv-loop μ-loop
 above-requires c κs = search needs
 
 enter-requires : tie.Need-enter-requires Inv-loop μ-loop
-enter-requires c κs = (c .before .before .before .before .before .loop .inv .ready .long, c .before .before .before .before .before .loop .inv .ready .child-below)
+enter-requires c κs =
+    let loop = c .before .before .before .before .before .loop in
+    (loop .inv .ready .long, loop .inv .ready .child-below)
 
 enum-known-head : tie.Need-enum-known-head Inv-loop μ-loop
 enum-known-head c = search needs
@@ -45,40 +60,95 @@ no-way-requires-2 : tie.Need-no-way-requires-2 Inv-loop μ-loop
 no-way-requires-2 c κs = search needs
 
 same-length : tie.Need-same-length Inv-loop μ-loop
-same-length c = omega (arith, c .before .before .before .before .before .enter .kept .0, c .before .before .before .before .before .before .before .before .before .before .before .loop .inv .ready .long, c .before .before .before .before .before .before .before .before .before .before .before .before .before .before .before .before .pre .0)
+same-length c =
+    let pre = c .before .before .before .before .before .before .before .before .before .before .before .before .before .before .before .before .pre in
+    let loop = c .before .before .before .before .before .before .before .before .before .before .before .loop in
+    let enter = c .before .before .before .before .before .enter in
+    omega (arith, enter .kept .0, loop .inv .ready .long, pre .0)
 
 returns : tie.Need-returns Inv-loop μ-loop
-returns c = ap (walking (c .before .before .before .before .before .enter .last .0)) (c .no-way2 .ensures) ∙ damaged (c .before .before .before .before .before .before .before .before .before .before .before .loop .inv) (c .before .before .before .before .before .before .before .before .before .before .loop-test .taken) (c .before .before .before .before .before .before .above .result) (c .before .before .before .before .before .before .above .ensures) (c .before .before .before .before .before .enter .last .0) (ap (entering (c .before .before .before .before .before .enter .last .0)) (sym (c .before .enum-told .given .1)) ∙ c .before .before .before .before .before .enter .ensures)
+returns c =
+    let loop = c .before .before .before .before .before .before .before .before .before .before .before .loop in
+    let loop-test = c .before .before .before .before .before .before .before .before .before .before .loop-test in
+    let above = c .before .before .before .before .before .before .above in
+    let enter = c .before .before .before .before .before .enter in
+    ap (walking (enter .last .0)) (c .no-way2 .ensures) ∙ damaged (loop .inv) (loop-test .taken) (above .result)
+    (above .ensures) (enter .last .0)
+    (ap (entering (enter .last .0)) (sym (c .before .enum-told .given .1)) ∙ enter .ensures)
 
 then-requires : tie.Need-then-requires Inv-loop μ-loop
-then-requires c κs = omega (arith, c .before .before .before .before .before .before .before .before .before .before .before .loop .inv .deep, ap (λ (w : Way). w .len) (c .before .before .before .before .before .before .before .before .before .before .before .loop .inv .way), c .before .before .before .before .before .before .before .before .before .before .loop-test .taken)
+then-requires c κs =
+    let loop = c .before .before .before .before .before .before .before .before .before .before .before .loop in
+    let loop-test = c .before .before .before .before .before .before .before .before .before .before .loop-test in
+    omega (arith, loop .inv .deep, ap (λ (w : Way). w .len) (loop .inv .way), loop-test .taken)
 
 same-length-2 : tie.Need-same-length-2 Inv-loop μ-loop
-same-length-2 c = omega (arith, c .before .before .before .before .before .before .before .before .enter .kept .0, c .before .before .before .before .before .before .before .before .before .before .before .before .before .before .loop .inv .ready .long, c .before .before .before .before .before .before .before .before .before .before .before .before .before .before .before .before .before .before .before .pre .0)
+same-length-2 c =
+    let pre = c .before .before .before .before .before .before .before .before .before .before .before .before .before .before .before .before .before .before .before .pre in
+    let loop = c .before .before .before .before .before .before .before .before .before .before .before .before .before .before .loop in
+    let enter = c .before .before .before .before .before .before .before .before .enter in
+    omega (arith, enter .kept .0, loop .inv .ready .long, pre .0)
 
 returns-2 : tie.Need-returns-2 Inv-loop μ-loop
-returns-2 c = ap (walking (c .before .before .before .before .before .before .before .before .enter .last .0)) (c .before .before .then .ensures) ∙ ends (c .before .before .before .before .before .before .before .before .before .before .before .before .before .before .loop .inv) (c .before .before .before .before .before .before .before .before .before .before .before .before .before .loop-test .taken) (c .before .before .before .before .before .before .before .before .before .above .result) (c .before .before .before .before .before .before .before .before .before .above .ensures) (c .before .before .before .before .before .before .before .before .enter .last .0) (c .before .before .before .before .head .given .0 .0) (ap (entering (c .before .before .before .before .before .before .before .before .enter .last .0)) (sym (c .before .before .before .before .head .given .1)) ∙ c .before .before .before .before .before .before .before .before .enter .ensures) (c .if1 .taken)
+returns-2 c =
+    let loop = c .before .before .before .before .before .before .before .before .before .before .before .before .before .before .loop in
+    let loop-test = c .before .before .before .before .before .before .before .before .before .before .before .before .before .loop-test in
+    let above = c .before .before .before .before .before .before .before .before .before .above in
+    let enter = c .before .before .before .before .before .before .before .before .enter in
+    let head = c .before .before .before .before .head in
+    ap (walking (enter .last .0)) (c .before .before .then .ensures)
+    ∙ ends (loop .inv) (loop-test .taken) (above .result) (above .ensures) (enter .last .0) (head .given .0 .0)
+    (ap (entering (enter .last .0)) (sym (head .given .1)) ∙ enter .ensures) (c .if1 .taken)
 
 place-below-requires : tie.Need-place-below-requires Inv-loop μ-loop
-place-below-requires c κs = let f = ap (entering (c .before .before .before .before .before .before .before .before .before .enter .last .0)) (sym (c .before .before .before .before .before .head .given .1)) ∙ c .before .before .before .before .before .before .before .before .before .enter .ensures in (omega (arith, c .before .before .before .before .before .before .before .before .before .enter .kept .0, c .before .before .before .before .before .before .before .before .before .before .before .before .before .before .before .loop .inv .ready .long, c .before .before .before .before .before .before .before .before .before .before .before .before .before .before .before .loop .inv .ready .child-below), head-here (c .before .before .before .before .before .before .before .before .before .before .before .before .before .before .before .loop .inv) (c .before .before .before .before .before .before .before .before .before .before .before .before .before .before .loop-test .taken) (c .before .before .before .before .before .before .before .before .before .before .above .result) (c .before .before .before .before .before .before .before .before .before .before .above .ensures) (c .before .before .before .before .before .before .before .before .before .enter .last .0) (c .before .before .before .before .before .head .given .0 .0) f, leads (c .before .before .before .before .before .before .before .before .before .before .before .before .before .before .before .loop .inv) (c .before .before .before .before .before .before .before .before .before .before .before .before .before .before .loop-test .taken) (c .before .before .before .before .before .before .before .before .before .before .above .result) (c .before .before .before .before .before .before .before .before .before .before .above .ensures) (c .before .before .before .before .before .before .before .before .before .enter .last .0) (c .before .before .before .before .before .head .given .0 .0) f (c .before .if1 .left))
+place-below-requires c κs =
+    let loop = c .before .before .before .before .before .before .before .before .before .before .before .before .before .before .before .loop in
+    let loop-test = c .before .before .before .before .before .before .before .before .before .before .before .before .before .before .loop-test in
+    let above = c .before .before .before .before .before .before .before .before .before .before .above in
+    let enter = c .before .before .before .before .before .before .before .before .before .enter in
+    let head = c .before .before .before .before .before .head in
+    let f = ap (entering (enter .last .0)) (sym (head .given .1)) ∙ enter .ensures in (
+      omega (arith, enter .kept .0, loop .inv .ready .long, loop .inv .ready .child-below),
+      head-here (loop .inv) (loop-test .taken) (above .result) (above .ensures) (enter .last .0) (head .given .0 .0) f,
+      leads (loop .inv) (loop-test .taken) (above .result) (above .ensures) (enter .last .0) (head .given .0 .0) f
+          (c .before .if1 .left),
+    )
 
 sub-level : tie.Need-sub-level Inv-loop μ-loop
-sub-level c = omega (arith, c .before .before .before .before .before .before .before .before .before .before .before .before .before .before .before .loop-test .taken)
+sub-level c =
+    let loop-test = c .before .before .before .before .before .before .before .before .before .before .before .before .before .before .before .loop-test in
+    omega (arith, loop-test .taken)
 
 loop-less : tie.Need-loop-less Inv-loop μ-loop
-loop-less c = omega (arith, c .before .before .before .before .before .before .before .before .before .before .before .before .before .before .before .loop-test .taken)
+loop-less c =
+    let loop-test = c .before .before .before .before .before .before .before .before .before .before .before .before .before .before .before .loop-test in
+    omega (arith, loop-test .taken)
 
 loop-again : tie.Need-loop-again Inv-loop μ-loop
-loop-again c = let f = ap (entering (c .before .before .before .before .before .before .before .before .before .before .enter .last .0)) (sym (c .before .before .before .before .before .before .head .given .1)) ∙ c .before .before .before .before .before .before .before .before .before .before .enter .ensures in rw (c .before .before .before .before .then .ensures) (goes-on (c .before .before .before .before .before .before .before .before .before .before .before .before .before .before .before .before .loop .inv) (c .before .before .before .before .before .before .before .before .before .before .before .before .before .before .before .loop-test .taken) (c .before .before .before .before .before .before .before .before .before .before .before .above .result) (c .before .before .before .before .before .before .before .before .before .before .before .above .ensures) (c .before .before .before .before .before .before .before .before .before .before .enter .last .0) (c .before .before .before .before .before .before .head .given .0 .0) f (c .before .before .if1 .left) (c .place-below .result) (c .place-below .ensures))
+loop-again c =
+    let loop = c .before .before .before .before .before .before .before .before .before .before .before .before .before .before .before .before .loop in
+    let loop-test = c .before .before .before .before .before .before .before .before .before .before .before .before .before .before .before .loop-test in
+    let above = c .before .before .before .before .before .before .before .before .before .before .before .above in
+    let enter = c .before .before .before .before .before .before .before .before .before .before .enter in
+    let head = c .before .before .before .before .before .before .head in
+    let then = c .before .before .before .before .then in
+    let place-below = c .place-below in
+    let f = ap (entering (enter .last .0)) (sym (head .given .1)) ∙ enter .ensures in
+    rw (then .ensures)
+    (goes-on (loop .inv) (loop-test .taken) (above .result) (above .ensures) (enter .last .0) (head .given .0 .0) f (c .before .before .if1 .left) (place-below .result) (place-below .ensures))
 
 no-way-requires-3 : tie.Need-no-way-requires-3 Inv-loop μ-loop
 no-way-requires-3 c κs = search needs
 
 same-length-3 : tie.Need-same-length-3 Inv-loop μ-loop
-same-length-3 c = omega (arith, c .before .before .loop .inv .ready .long, c .before .before .before .before .before .before .before .pre .0)
+same-length-3 c =
+    let pre = c .before .before .before .before .before .before .before .pre in
+    omega (arith, c .before .before .loop .inv .ready .long, pre .0)
 
 returns-3 : tie.Need-returns-3 Inv-loop μ-loop
-returns-3 c = ap (walking (c .before .before .loop .t)) (c .no-way3 .ensures) ∙ runs-out (c .before .before .loop .inv) (omega (arith, c .before .loop-test .left))
+returns-3 c =
+    let loop = c .before .before .loop in
+    ap (walking (loop .t)) (c .no-way3 .ensures) ∙ runs-out (loop .inv) (omega (arith, c .before .loop-test .left))
 
 pub way-of-spec : {M : Type 1} → statement M
 way-of-spec =

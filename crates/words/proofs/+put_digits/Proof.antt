@@ -45,7 +45,9 @@ put-digits-push-requires t c κs = search needs
 
 put-digits-returns-2 : (t : ℕ) → put-digits-lts.Need-returns-2 (put-digits-in t) (put-digits-at t) put-digits.Post
 unfolding pushedAll
-put-digits-returns-2 t c = c .push .ensures ∙ sym (ap (pushedAll (c .before .before .before .args .t)) (one-digit (c .before .before .before .args .places) (c .before .before .before .args .n) (omega arith) (omega arith)))
+put-digits-returns-2 t c =
+    let args = c .before .before .before .args in
+    c .push .ensures ∙ sym (ap (pushedAll (args .t)) (one-digit (args .places) (args .n) (omega arith) (omega arith)))
 
 put-digits-sub-put-digits : (t : ℕ) → put-digits-lts.Need-sub-put-digits (put-digits-in t) (put-digits-at t) put-digits.Post
 put-digits-sub-put-digits t c = search needs
@@ -60,11 +62,18 @@ put-digits-add-push-2 : (t : ℕ) → put-digits-lts.Need-add-push-2 (put-digits
 put-digits-add-push-2 t c = search needs
 
 put-digits-push-requires-2 : (t : ℕ) → put-digits-lts.Need-push-requires-2 (put-digits-in t) (put-digits-at t) put-digits.Post
-put-digits-push-requires-2 t c κs = let few = few-digits (c .before .before .before .args .places - 1) (c .before .before .before .args .n / 10) in rw (c .put-digits .ensures, pushed-length (c .before .before .before .args .t) (digitsOf (c .before .before .before .args .places - 1) (c .before .before .before .args .n / 10))) (omega arith)
+put-digits-push-requires-2 t c κs =
+    let args = c .before .before .before .args in
+    let few = few-digits (args .places - 1) (args .n / 10) in
+    rw (c .put-digits .ensures, pushed-length (args .t) (digitsOf (args .places - 1) (args .n / 10))) (omega arith)
 
 put-digits-returns-3 : (t : ℕ) → put-digits-lts.Need-returns-3 (put-digits-in t) (put-digits-at t) put-digits.Post
 unfolding pushedAll
-put-digits-returns-3 t c = c .push2 .ensures ∙ ap (λ (t : Text). pushed t (digit (c .before .before .before .before .args .n % 10))) (c .before .put-digits .ensures) ∙ sym (pushed-append (c .before .before .before .before .args .t) (digitsOf (c .before .before .before .before .args .places - 1) (c .before .before .before .before .args .n / 10)) (digit (c .before .before .before .before .args .n % 10) ∷ [])) ∙ sym (ap (pushedAll (c .before .before .before .before .args .t)) (more-digits (c .before .before .before .before .args .places) (c .before .before .before .before .args .n) (omega arith) (omega arith)))
+put-digits-returns-3 t c =
+    let args = c .before .before .before .before .args in
+    c .push2 .ensures ∙ ap (λ (t : Text). pushed t (digit (args .n % 10))) (c .before .put-digits .ensures)
+    ∙ sym (pushed-append (args .t) (digitsOf (args .places - 1) (args .n / 10)) (digit (args .n % 10) ∷ []))
+    ∙ sym (ap (pushedAll (args .t)) (more-digits (args .places) (args .n) (omega arith) (omega arith)))
 
 pub +put-digits-spec : {M : Type 1} → statement M
 +put-digits-spec = close μ-put-digits λ t. put-digits-lts.spec (put-digits-in t)

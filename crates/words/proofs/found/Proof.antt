@@ -13,11 +13,16 @@ put-digits-requires : tie.Need-put-digits-requires
 put-digits-requires c κs = rw (c .of .ensures) (omega arith)
 
 push-requires : tie.Need-push-requires
-push-requires c κs = let few = few-digits 10 (c .before .before .before .before .args .x) in rw (c .put-digits .ensures, c .before .of .ensures, pushed-length _ (digitsOf 10 (c .before .before .before .before .args .x))) (omega arith)
+push-requires c κs =
+    let args = c .before .before .before .before .args in
+    let few = few-digits 10 (args .x) in
+    rw (c .put-digits .ensures, c .before .of .ensures, pushed-length _ (digitsOf 10 (args .x))) (omega arith)
 
 returns : tie.Need-returns
 unfolding textOf
-returns c = rw (c .push .ensures, c .before .put-digits .ensures, c .before .before .of .ensures) (found-text (c .before .before .before .before .before .args .x))
+returns c =
+    let args = c .before .before .before .before .before .args in
+    rw (c .push .ensures, c .before .put-digits .ensures, c .before .before .of .ensures) (found-text (args .x))
 
 pub found-spec : {M : Type 1} → statement M
 found-spec = tie.close (tie.spec of-requires put-digits-requires push-requires returns)

@@ -73,7 +73,12 @@ returns-9 c = rw (c .before .before .before .match .keys9) (c .of9 .ensures)
 
 returns-10 : tie.Need-returns-10
 unfolding answerLine textOf
-returns-10 c = rw (no-word (c .before .before .before .before .args .number) (nine-up (c .before .before .before .before .args .number) (c .before .before .before .match .rest .0 .0 .0 .0 .0 .0 .0 .0 .1) (c .before .before .before .match .rest .0 .0 .0 .0 .0 .0 .0 .1) (c .before .before .before .match .rest .0 .0 .0 .0 .0 .0 .1) (c .before .before .before .match .rest .0 .0 .0 .0 .0 .1) (c .before .before .before .match .rest .0 .0 .0 .0 .1) (c .before .before .before .match .rest .0 .0 .0 .1) (c .before .before .before .match .rest .0 .0 .1) (c .before .before .before .match .rest .0 .1) (c .before .before .before .match .rest .1))) (c .of10 .ensures)
+returns-10 c =
+    let args = c .before .before .before .before .args in
+    let match = c .before .before .before .match in
+    rw
+    (no-word (args .number) (nine-up (args .number) (match .rest .0 .0 .0 .0 .0 .0 .0 .0 .1) (match .rest .0 .0 .0 .0 .0 .0 .0 .1) (match .rest .0 .0 .0 .0 .0 .0 .1) (match .rest .0 .0 .0 .0 .0 .1) (match .rest .0 .0 .0 .0 .1) (match .rest .0 .0 .0 .1) (match .rest .0 .0 .1) (match .rest .0 .1) (match .rest .1)))
+    (c .of10 .ensures)
 
 pub word-spec : {M : Type 1} → statement M
 word-spec =

@@ -23,7 +23,12 @@ same-length-2 c = search needs
 
 returns : tie.Need-returns
 unfolding closed
-returns c = rw (c .new .ensures) (ap answered (c .before .before .before .before .before .before .act .ensures ∙ ap (λ (l : Line). acted l (c .before .before .before .before .before .before .before .before .before .before .before .before .before .args .self .session) (c .before .before .before .before .before .before .before .before .before .before .before .before .before .args .working .now) (c .before .before .before .before .before .before .before .before .before .before .before .before .before .args .stable .now)) (c .before .before .before .before .before .before .before .line .ensures)))
+returns c =
+    let args = c .before .before .before .before .before .before .before .before .before .before .before .before .before .args in
+    let line = c .before .before .before .before .before .before .before .line in
+    let act = c .before .before .before .before .before .before .act in
+    rw (c .new .ensures)
+    (ap answered (act .ensures ∙ ap (λ (l : Line). acted l (args .self .session) (args .working .now) (args .stable .now)) (line .ensures)))
 
 pub close-spec : {M : Type 1} → statement M
 close-spec =

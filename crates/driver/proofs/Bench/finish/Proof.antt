@@ -15,10 +15,16 @@ same-length-2 : tie.Need-same-length-2
 same-length-2 c = search needs
 
 returns : tie.Need-returns
-returns c = c .before .before .before .before .close .ensures ∙ finished-begun (c .before .before .before .before .before .before .before .before .before .before .args .self) (c .before .before .before .before .before .before .before .before .before .before .args .working .now) (c .before .before .before .before .before .before .before .before .before .before .args .stable .now) (c .before .before .before .before .before .before .before .if1 .taken)
+returns c =
+    let args = c .before .before .before .before .before .before .before .before .before .before .args in
+    let if1 = c .before .before .before .before .before .before .before .if1 in
+    let close = c .before .before .before .before .close in
+    close .ensures ∙ finished-begun (args .self) (args .working .now) (args .stable .now) (if1 .taken)
 
 returns-2 : tie.Need-returns-2
-returns-2 c = finished-silent (c .before .before .before .args .self) (c .before .before .before .args .working .now) (c .before .before .before .args .stable .now) (c .if1 .left)
+returns-2 c =
+    let args = c .before .before .before .args in
+    finished-silent (args .self) (args .working .now) (args .stable .now) (c .if1 .left)
 
 pub finish-spec : {M : Type 1} → statement M
 finish-spec = tie.close (tie.spec close-requires same-length same-length-2 returns returns-2)

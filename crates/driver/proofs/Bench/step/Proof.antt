@@ -15,13 +15,20 @@ same-length-2 : tie.Need-same-length-2
 same-length-2 c = search needs
 
 returns : tie.Need-returns
-returns c = c .before .before .before .before .close .ensures ∙ stepped-newline (c .before .before .before .before .before .before .before .before .before .before .args .self) (c .before .before .before .before .before .before .before .before .before .before .args .working .now) (c .before .before .before .before .before .before .before .before .before .before .args .stable .now) (c .before .before .before .before .before .before .before .before .before .before .args .b) (c .before .before .before .before .before .before .before .if1 .taken)
+returns c =
+    let args = c .before .before .before .before .before .before .before .before .before .before .args in
+    let if1 = c .before .before .before .before .before .before .before .if1 in
+    let close = c .before .before .before .before .close in
+    close .ensures ∙ stepped-newline (args .self) (args .working .now) (args .stable .now) (args .b) (if1 .taken)
 
 feed-requires : tie.Need-feed-requires
 feed-requires c κs = search needs
 
 returns-2 : tie.Need-returns-2
-returns-2 c = rw (c .feed .ensures) (stepped-other (c .before .before .before .before .before .args .self) (c .before .before .before .before .before .args .working .now) (c .before .before .before .before .before .args .stable .now) (c .before .before .before .before .before .args .b) (c .before .before .if1 .left))
+returns-2 c =
+    let args = c .before .before .before .before .before .args in
+    rw (c .feed .ensures)
+    (stepped-other (args .self) (args .working .now) (args .stable .now) (args .b) (c .before .before .if1 .left))
 
 pub step-spec : {M : Type 1} → statement M
 step-spec =
