@@ -15,7 +15,7 @@ use Rattle.rules.specs.Table.{read}
 use Rattle.rules.specs.Place.{placeOf, placesIn, highBefore, kids, fits, mendable, mended, show}
 use Rattle.rules.specs.Enter.{mend, enter}
 use Rattle.rules.specs.declared.Place.{Place}
-use Rattle.rules.proofs.Kids.{shown-kind, shown-want, leaf-kids}
+use Rattle.rules.proofs.demand3.ways.Kids.{shown-kind, shown-want, leaf-kids}
 
 -- ── A page entered is what its place shows ──────────────────────────────────────────────────────────────────────
 

@@ -15,7 +15,7 @@ use Rattle.rules.specs.declared.Looked.{Looked}
 use Rattle.rules.specs.declared.Newest.{Newest}
 use Rattle.rules.specs.declared.Listed.{Listed}
 use Rattle.rules.specs.declared.Synced.{Synced}
-use Rattle.rules.proofs.Refusals as rules
+use Rattle.rules.proofs.demand1.Refusals as rules
 use Rattle.answers.specs.Causes.{formatCauses, openCauses, insertCauses, lookupCauses, newestCauses, listCauses, syncCauses}
 use Rattle.answers.specs.Demand1.{Refused, Demand1}
 use Rattle.answers.proofs.Exactly.{given-number}

@@ -5,7 +5,7 @@ use mathlib.Core.Logic.{_⊎_, inl, inr, _↔_}
 use mathlib.Core.Bool.{true}
 use mathlib.Core.List.{List, [], _∷_}
 use Rattle.rules.specs.Test.{mem}
-use Rattle.rules.proofs.Tests.{mem-head, mem-tail, mem-cases}
+use Rattle.rules.proofs.entries.Tests.{mem-head, mem-tail, mem-cases}
 use Rattle.answers.specs.Given.{Cause, Given, numbersIn}
 
 -- no second number is given

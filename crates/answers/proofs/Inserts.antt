@@ -13,7 +13,7 @@ use Rattle.rules.specs.Marks.{freePages}
 use Rattle.rules.specs.Call.{insertedNo, lengthsFor}
 use Rattle.rules.specs.Insert.{insert, insertKey, insertAlong, insertDone, insertRefused, splitting, tooSoon, noRoom}
 use Rattle.rules.specs.declared.Session.{Session}
-use Rattle.rules.proofs.Tests.{not-both}
+use Rattle.rules.proofs.entries.Tests.{not-both}
 use Rattle.answers.specs.Given.{Cause, Given, _when_}
 use Rattle.answers.specs.Causes.{insertCauses, entered, Present, SyncFirst, Full}
 use Rattle.answers.proofs.Meets.{none-damage}

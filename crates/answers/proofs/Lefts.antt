@@ -11,7 +11,7 @@ use Rattle.rules.specs.Newest.{newest, newestMeter, newestLeft, meter}
 use Rattle.rules.specs.List.{list, listFrom, listDone, listRefused, upFrom}
 use Rattle.rules.specs.declared.Session.{Session}
 use Rattle.rules.specs.declared.Asked.{Asked}
-use Rattle.rules.proofs.Refusals as rules
+use Rattle.rules.proofs.demand1.Refusals as rules
 use Rattle.answers.specs.Range.{MendedIn, nothing}
 use Rattle.answers.specs.Demand1.{RangeMended}
 use Rattle.answers.proofs.RangeWalks.{range-mended}

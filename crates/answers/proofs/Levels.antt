@@ -15,7 +15,7 @@ use Rattle.rules.specs.Walk.{Step, numbers, descend, wayOf, Walked, enters, fin
 use Rattle.rules.specs.Tree.{Tree, join, here, treeEach, tree, treeOf}
 use Rattle.rules.specs.declared.Place.{Place}
 use Rattle.rules.specs.declared.Asked.{Asked}
-use Rattle.rules.proofs.Picks.{pick-mem}
+use Rattle.rules.proofs.entries.Picks.{pick-mem}
 use Rattle.answers.specs.Levels.{Levels}
 use Rattle.answers.proofs.Deep.{Deep, not-out, enter-shows, kid-deep}
 

@@ -12,7 +12,7 @@ use Rattle.rules.specs.Place.{rootPlace, kids, pick}
 use Rattle.rules.specs.Enter.{Entered, enter}
 use Rattle.rules.specs.Walk.{Step, Way, numbers, descend, wayOf}
 use Rattle.rules.specs.declared.Place.{Place}
-use Rattle.rules.proofs.Picks.{pick-mem}
+use Rattle.rules.proofs.entries.Picks.{pick-mem}
 use Rattle.answers.specs.OneKey.{Reaches, MeetsDamage}
 use Rattle.answers.proofs.Deep.{Deep, not-out, enter-shows, kid-deep}
 

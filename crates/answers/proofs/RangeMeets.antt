@@ -15,8 +15,8 @@ use Rattle.rules.specs.Enter.{Entered, enter}
 use Rattle.rules.specs.Walk.{Walked, enters, finds, stops, walkEach, walk, walkOf}
 use Rattle.rules.specs.declared.Place.{Place}
 use Rattle.rules.specs.declared.Asked.{Asked}
-use Rattle.rules.proofs.Tests.{not-both}
-use Rattle.rules.proofs.WalkSteps.{walk-past, walk-entered}
+use Rattle.rules.proofs.entries.Tests.{not-both}
+use Rattle.rules.proofs.demand1.WalkSteps.{walk-past, walk-entered}
 use Rattle.answers.specs.Range.{Parent, numbersOf, Comes, MeetsDamageIn}
 use Rattle.answers.proofs.Deep.{Deep, not-out, enter-shows, kid-deep}
 use Rattle.answers.proofs.RangeSteps.{mem-here, mem-before, each-append, none-walked, finds-whole, walk-broken, passed-same, parent, next-comes, next-deep, next-walked}

@@ -14,7 +14,7 @@ use Rattle.rules.specs.Enter.{enter}
 use Rattle.rules.specs.Walk.{Walked, enters, finds, stops, walkEach, walk}
 use Rattle.rules.specs.declared.Place.{Place}
 use Rattle.rules.specs.declared.Asked.{Asked}
-use Rattle.rules.proofs.WalkSteps.{walk-damaged}
+use Rattle.rules.proofs.demand1.WalkSteps.{walk-damaged}
 use Rattle.answers.specs.Range.{Parent, numbersOf, Comes}
 use Rattle.answers.proofs.Deep.{Deep, enter-shows, kid-deep}
 use Rattle.answers.proofs.Levels.{each-same, range-more}

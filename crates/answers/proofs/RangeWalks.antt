@@ -16,7 +16,7 @@ use Rattle.rules.specs.Enter.{mend, enter}
 use Rattle.rules.specs.Walk.{Walked, enters, finds, walkEach, walk, walkOf}
 use Rattle.rules.specs.declared.Place.{Place}
 use Rattle.rules.specs.declared.Asked.{Asked}
-use Rattle.rules.proofs.WalkSteps.{walk-past, walk-entered}
+use Rattle.rules.proofs.demand1.WalkSteps.{walk-past, walk-entered}
 use Rattle.answers.specs.Range.{Parent, numbersOf, Comes, MendedIn, nothing, also}
 use Rattle.answers.proofs.Deep.{Deep, not-out}
 use Rattle.answers.proofs.RangeSteps.{none-walked, finds-table, walk-stopped, parent, next-comes, next-deep, next-walked}

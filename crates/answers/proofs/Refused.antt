@@ -13,7 +13,7 @@ use Rattle.rules.specs.Call.{insertedNo, lengthsFor}
 use Rattle.rules.specs.Insert.{insert, insertKey, insertAlong, insertDone, insertRefused, splitting, tooSoon, noRoom}
 use Rattle.rules.specs.Lookup.{lookup, lookupKey, lookupLeft}
 use Rattle.rules.specs.declared.Session.{Session}
-use Rattle.rules.proofs.Refusals as rules
+use Rattle.rules.proofs.demand1.Refusals as rules
 use Rattle.answers.specs.OneKey.{MendedBy, nothing}
 use Rattle.answers.specs.Demand1.{Refused, WalkMended}
 use Rattle.answers.proofs.Walks.{way-mended}

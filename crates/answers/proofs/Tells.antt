@@ -22,9 +22,9 @@ use Rattle.rules.specs.Call.{lengthsFor}
 use Rattle.rules.specs.Insert.{rootSplits, newPages, tooHigh, noRoom}
 use Rattle.rules.specs.declared.Session.{Session}
 use Rattle.rules.specs.declared.Asked.{Asked}
-use Rattle.rules.proofs.Tests.{and-left, and-right, or-cases, or-left, or-right, and-of, not-both}
-use Rattle.rules.proofs.Keys.{Good, goodParts-true}
-use Rattle.rules.proofs.Lengths.{goodLengths-true, tables-good, lengthsFor-true, tables-lengthsFor}
+use Rattle.rules.proofs.entries.Tests.{and-left, and-right, or-cases, or-left, or-right, and-of, not-both}
+use Rattle.rules.proofs.bytes.Keys.{Good, goodParts-true}
+use Rattle.rules.proofs.bytes.Lengths.{goodLengths-true, tables-good, lengthsFor-true, tables-lengthsFor}
 use Rattle.answers.proofs.Meets.{damage-none}
 use Rattle.answers.proofs.RangeMeets.{damage-cuts}
 use Rattle.answers.specs.Causes.{BadTables, BadLengths, BadKey, BadMeter, DamagedWay, DamagedRange, DamagedTree, stepsIn, entered, under, Full}

@@ -18,7 +18,7 @@ use Rattle.rules.specs.Newest.{meter}
 use Rattle.rules.specs.List.{upFrom}
 use Rattle.rules.specs.declared.Session.{Session}
 use Rattle.rules.specs.declared.Asked.{Asked}
-use Rattle.rules.proofs.Lengths.{Tables}
+use Rattle.rules.proofs.bytes.Lengths.{Tables}
 use Rattle.answers.specs.Given.{Cause, _when_}
 use Rattle.answers.specs.OneKey.{MeetsDamage}
 use Rattle.answers.specs.Range.{MeetsDamageIn}

@@ -20,7 +20,7 @@ use Rattle.rules.specs.declared.Asked.{Asked}
 use Rattle.rules.specs.declared.Looked.{Looked}
 use Rattle.rules.specs.declared.Newest.{Newest}
 use Rattle.rules.specs.declared.Listed.{Listed}
-use Rattle.rules.proofs.Refusals.{Unchanged}
+use Rattle.rules.proofs.demand1.Refusals.{Unchanged}
 use Rattle.answers.specs.OneKey.{MendedBy}
 use Rattle.answers.specs.Range.{MendedIn}
 

@@ -11,7 +11,7 @@ use lib.ListN.{length, take, drop, getD, drop-of-length-le}
 use lib.Seq.{drop-cons, drop-drop, length-take-le}
 use Rattle.rules.specs.Insert.{Making, making, grow, halve, split}
 use Rattle.rules.specs.declared.Session.{Session}
-use Rattle.rules.proofs.All.{All, all-head, all-at}
+use Rattle.rules.proofs.bytes.All.{All, all-head, all-at}
 use Rattle.head.specs.declared.Head.{Head}
 use Rattle.split.specs.Split.{stepAt, Halves, Grows}
 use Rattle.plan.specs.Plan.{fullBy, splitsBy, headsOf}

@@ -9,7 +9,7 @@ use Rattle.rules.specs.Page.{isLeaf}
 use Rattle.rules.specs.Table.{read}
 use Rattle.rules.specs.Walk.{Step}
 use Rattle.rules.specs.Insert.{Making}
-use Rattle.rules.proofs.Views.{leaf-same}
+use Rattle.rules.proofs.entries.Views.{leaf-same}
 use Rattle.edit.specs.Takes.{TakesCert}
 use Rattle.edit.proofs.Callers.{takes-cert}
 use Rattle.apply.proofs.Going.{Gone}

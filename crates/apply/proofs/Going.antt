@@ -15,10 +15,10 @@ use Rattle.rules.specs.Place.{kids, pick}
 use Rattle.rules.specs.Walk.{Step, numbers}
 use Rattle.rules.specs.Insert.{full, tooHigh, divide, Making, making, halve}
 use Rattle.rules.specs.declared.Session.{Session}
-use Rattle.rules.proofs.Tests.{not-both, fails, mem-head, mem-tail, distinct-tail}
-use Rattle.rules.proofs.All.{all-tail, all-map}
-use Rattle.rules.proofs.Places.{Fits}
-use Rattle.rules.proofs.Plans.{rootSplits-full, newPages-full}
+use Rattle.rules.proofs.entries.Tests.{not-both, fails, mem-head, mem-tail, distinct-tail}
+use Rattle.rules.proofs.bytes.All.{all-tail, all-map}
+use Rattle.rules.proofs.entries.Places.{Fits}
+use Rattle.rules.proofs.demand3.steps.Plans.{rootSplits-full, newPages-full}
 use Rattle.edit.specs.Takes.{TakesTwins}
 use Rattle.split.specs.Split.{stepAt}
 use Rattle.apply.specs.Leads.{Whole, Stands, Leads, Fresh, Chosen}

@@ -15,14 +15,14 @@ use Rattle.rules.specs.Table.{read, build, setRoot}
 use Rattle.rules.specs.Insert.{full, divide, newChild, rootOver, rootPrevious, Making, making, grow}
 use Rattle.rules.specs.declared.Place.{Place}
 use Rattle.rules.specs.declared.Session.{Session}
-use Rattle.rules.proofs.Tests.{fails, mem-head, mem-cases, mem-nil}
-use Rattle.rules.proofs.All.{nil, cons}
-use Rattle.rules.proofs.Views.{Shaped, shaped-read, inner-of-kind}
-use Rattle.rules.proofs.Halves.{Divided, divided, rootOver-shaped}
-use Rattle.rules.proofs.Pages.{Wide, wide-fresh, room-pageBytes}
-use Rattle.rules.proofs.PageZero.{length-setRoot, bytes-setRoot, read-setRoot}
-use Rattle.rules.proofs.Tables.{Has, Room, has-page, wide-read, length-build, read-build-same, read-build-other, bytes-build}
-use Rattle.rules.proofs.Widths.{wide-newChild}
+use Rattle.rules.proofs.entries.Tests.{fails, mem-head, mem-cases, mem-nil}
+use Rattle.rules.proofs.bytes.All.{nil, cons}
+use Rattle.rules.proofs.entries.Views.{Shaped, shaped-read, inner-of-kind}
+use Rattle.rules.proofs.entries.Halves.{Divided, divided, rootOver-shaped}
+use Rattle.rules.proofs.bytes.Pages.{Wide, wide-fresh, room-pageBytes}
+use Rattle.rules.proofs.bytes.PageZero.{length-setRoot, bytes-setRoot, read-setRoot}
+use Rattle.rules.proofs.bytes.Tables.{Has, Room, has-page, wide-read, length-build, read-build-same, read-build-other, bytes-build}
+use Rattle.rules.proofs.bytes.Widths.{wide-newChild}
 use Rattle.edit.specs.Takes.{TakesTwins}
 use Rattle.split.specs.Split.{stepAt, Grows}
 use Rattle.head.specs.declared.Head.{Head}

@@ -20,18 +20,18 @@ use Rattle.rules.specs.Walk.{Step}
 use Rattle.rules.specs.Insert.{full, divide, lowerHalf, upperHalf, previousOf, newChild, putChild, lowerPage, upperPage, twins, changed, Making, making, halve}
 use Rattle.rules.specs.declared.Place.{Place}
 use Rattle.rules.specs.declared.Session.{Session}
-use Rattle.rules.proofs.Tests.{fails}
-use Rattle.rules.proofs.Views.{Shaped, shaped-read, shaped-lower, shaped-upper}
-use Rattle.rules.proofs.Sounds.{Sound, sound-of, sound-same, starts-mem}
-use Rattle.rules.proofs.Places.{Fits}
-use Rattle.rules.proofs.Picks.{Kid, kid-key}
-use Rattle.rules.proofs.Asks.{pick-leaf, kids-pick, kids-part}
-use Rattle.rules.proofs.Puts.{length-put-le, length-put-present}
-use Rattle.rules.proofs.Halves.{Divided, divided, find-lower, find-upper, lowerPage-fits, upperPage-fits, lower-room, upper-room, room}
-use Rattle.rules.proofs.Twins.{shaped-twins}
-use Rattle.rules.proofs.Pages.{Wide, room-pageBytes}
-use Rattle.rules.proofs.Tables.{Has, Room, has-page, wide-read, length-build, read-build-same, read-build-other, bytes-build, length-change, read-change-other, bytes-change}
-use Rattle.rules.proofs.Widths.{wide-lowerPage, wide-upperPage}
+use Rattle.rules.proofs.entries.Tests.{fails}
+use Rattle.rules.proofs.entries.Views.{Shaped, shaped-read, shaped-lower, shaped-upper}
+use Rattle.rules.proofs.entries.Sounds.{Sound, sound-of, sound-same, starts-mem}
+use Rattle.rules.proofs.entries.Places.{Fits}
+use Rattle.rules.proofs.entries.Picks.{Kid, kid-key}
+use Rattle.rules.proofs.entries.Asks.{pick-leaf, kids-pick, kids-part}
+use Rattle.rules.proofs.entries.Puts.{length-put-le, length-put-present}
+use Rattle.rules.proofs.entries.Halves.{Divided, divided, find-lower, find-upper, lowerPage-fits, upperPage-fits, lower-room, upper-room, room}
+use Rattle.rules.proofs.entries.Twins.{shaped-twins}
+use Rattle.rules.proofs.bytes.Pages.{Wide, room-pageBytes}
+use Rattle.rules.proofs.bytes.Tables.{Has, Room, has-page, wide-read, length-build, read-build-same, read-build-other, bytes-build, length-change, read-change-other, bytes-change}
+use Rattle.rules.proofs.bytes.Widths.{wide-lowerPage, wide-upperPage}
 use Rattle.head.specs.declared.Head.{Head}
 use Rattle.head.proofs.Headers.{headOf}
 use Rattle.build.specs.Range.{Divides}

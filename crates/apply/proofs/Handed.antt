@@ -13,10 +13,10 @@ use Rattle.rules.specs.Walk as rules
 use Rattle.rules.specs.Marks.{freePages}
 use Rattle.rules.specs.Insert.{rootSplits, tooHigh, newPages, noRoom}
 use Rattle.rules.specs.declared.Session.{Session}
-use Rattle.rules.proofs.All.{All, all-at, all-take, all-map}
-use Rattle.rules.proofs.Rises.{rising-take, rising-distinct}
-use Rattle.rules.proofs.Numbers.{FreePage, all-freePages, rising-freePages}
-use Rattle.rules.proofs.Tests.{or-none, and-other}
+use Rattle.rules.proofs.bytes.All.{All, all-at, all-take, all-map}
+use Rattle.rules.proofs.entries.Rises.{rising-take, rising-distinct}
+use Rattle.rules.proofs.bytes.Numbers.{FreePage, all-freePages, rising-freePages}
+use Rattle.rules.proofs.entries.Tests.{or-none, and-other}
 use Rattle.way.specs.declared.Step.{Step}
 use Rattle.way.specs.declared.Way.{Way}
 use Rattle.apply.specs.Leads.{Leads, Fresh, Chosen, Ready, listed, stepsIn, ReadyWay, Level}

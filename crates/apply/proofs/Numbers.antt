@@ -11,9 +11,9 @@ use lib.Seq.{drop-cons}
 use Rattle.rules.specs.Table.{read}
 use Rattle.rules.specs.Insert.{full, newPages, Making, making, grow, halve, split}
 use Rattle.rules.specs.declared.Session.{Session}
-use Rattle.rules.proofs.All.{all-head}
-use Rattle.rules.proofs.Views.{shaped-read}
-use Rattle.rules.proofs.Plans.{newPages-full, newPages-none}
+use Rattle.rules.proofs.bytes.All.{all-head}
+use Rattle.rules.proofs.entries.Views.{shaped-read}
+use Rattle.rules.proofs.demand3.steps.Plans.{newPages-full, newPages-none}
 use Rattle.split.specs.Split.{stepAt, Halves, Grows}
 use Rattle.plan.specs.Plan.{fullBy}
 use Rattle.plan.proofs.Pages.{full-by}

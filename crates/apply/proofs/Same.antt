@@ -8,8 +8,8 @@ use lib.ListN.{take, drop, getD}
 use lib.Seq.{getD-drop, getD-take}
 use Rattle.rules.specs.Walk.{Step}
 use Rattle.rules.specs.Insert.{full, newPages, Making, split}
-use Rattle.rules.proofs.Plans.{newPages-full, newPages-none}
-use Rattle.rules.proofs.SplitWay.{split-one, split-more}
+use Rattle.rules.proofs.demand3.steps.Plans.{newPages-full, newPages-none}
+use Rattle.rules.proofs.demand3.steps.SplitWay.{split-one, split-more}
 
 -- two lists have the same first numbers
 abbrev pub Agree : ℕ → List ℕ → List ℕ → Type 0

@@ -11,10 +11,10 @@ use Rattle.rules.specs.Table.{read}
 use Rattle.rules.specs.Place.{kids, pick}
 use Rattle.rules.specs.Walk.{Step, numbers}
 use Rattle.rules.specs.Insert.{full, divide, Making, halve}
-use Rattle.rules.proofs.Tests.{fails, mem-nil, mem-head, mem-tail, mem-cases, distinct-head, distinct-tail}
-use Rattle.rules.proofs.All.{All, all-head, all-tail}
-use Rattle.rules.proofs.Views.{Shaped, shaped-read}
-use Rattle.rules.proofs.Asks.{pick-leaf}
+use Rattle.rules.proofs.entries.Tests.{fails, mem-nil, mem-head, mem-tail, mem-cases, distinct-head, distinct-tail}
+use Rattle.rules.proofs.bytes.All.{All, all-head, all-tail}
+use Rattle.rules.proofs.entries.Views.{Shaped, shaped-read}
+use Rattle.rules.proofs.entries.Asks.{pick-leaf}
 use Rattle.edit.specs.Takes.{TakesTwins}
 use Rattle.apply.specs.Leads.{Stands, Leads, Fresh, Chosen}
 use Rattle.apply.proofs.Halving.{takes, Sites}

@@ -16,10 +16,10 @@ use Rattle.rules.specs.Table.{read}
 use Rattle.rules.specs.Walk.{Step, numbers}
 use Rattle.rules.specs.Insert.{full, rootSplits, tooHigh, divide, Making, making, grow, halve, split}
 use Rattle.rules.specs.declared.Session.{Session}
-use Rattle.rules.proofs.Tests.{mem-head, mem-tail, distinct-head, distinct-tail}
-use Rattle.rules.proofs.All.{all-head, all-tail}
-use Rattle.rules.proofs.Plans.{rootSplits-full, newPages-full, rootSplits-none, newPages-none}
-use Rattle.rules.proofs.SplitWay.{split-one, split-more, split-none}
+use Rattle.rules.proofs.entries.Tests.{mem-head, mem-tail, distinct-head, distinct-tail}
+use Rattle.rules.proofs.bytes.All.{all-head, all-tail}
+use Rattle.rules.proofs.demand3.steps.Plans.{rootSplits-full, newPages-full, rootSplits-none, newPages-none}
+use Rattle.rules.proofs.demand3.steps.SplitWay.{split-one, split-more, split-none}
 use Rattle.edit.specs.Takes.{TakesTwins}
 use Rattle.split.specs.Split.{stepAt}
 use Rattle.apply.specs.Leads.{Whole, Stands, Leads, Fresh, Chosen}

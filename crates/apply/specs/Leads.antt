@@ -19,8 +19,8 @@ use Rattle.rules.specs.Call.{Left}
 use Rattle.rules.specs.Insert.{rootSplits, tooHigh, newPages, noRoom, Making, making, grow}
 use Rattle.rules.specs.declared.Session.{Session}
 use Rattle.rules.specs.declared.Inserted.{Inserted}
-use Rattle.rules.proofs.All.{All}
-use Rattle.rules.proofs.Places.{Fits}
+use Rattle.rules.proofs.bytes.All.{All}
+use Rattle.rules.proofs.entries.Places.{Fits}
 use Rattle.head.proofs.Headers.{headOf}
 use Rattle.split.specs.Split.{stepAt, Grows}
 use Rattle.way.specs.Ways.{noStep}

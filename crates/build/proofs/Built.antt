@@ -14,9 +14,9 @@ use Rattle.rules.specs.Layout.{pageSize, headerSize, leafKind, certSize, childS
 use Rattle.rules.specs.Table.{setPage}
 use Rattle.rules.specs.Page.{View, Page, viewIn, count, fresh, headerBytes, pageBytes, buildBytes, blank, over, writeEach, certIn, certBytes, childIn, childBytes, readEach}
 use Rattle.rules.specs.Entry.{Child}
-use Rattle.rules.proofs.EntryBytes.{length-childBytes}
-use Rattle.rules.proofs.Each.{length-readEach}
-use Rattle.rules.proofs.Pages.{viewIn-leaf, viewIn-inner, kind-viewIn, count-viewIn, length-headerBytes, length-blank}
+use Rattle.rules.proofs.bytes.EntryBytes.{length-childBytes}
+use Rattle.rules.proofs.bytes.Each.{length-readEach}
+use Rattle.rules.proofs.bytes.Pages.{viewIn-leaf, viewIn-inner, kind-viewIn, count-viewIn, length-headerBytes, length-blank}
 use Rattle.entries.specs.Spot.{sizeOf}
 use Rattle.entries.proofs.Sets.{over-sets}
 use Rattle.entries.proofs.Ranges.{range-within, write-certs, write-children}

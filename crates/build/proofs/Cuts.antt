@@ -12,7 +12,7 @@ use Rattle.rules.specs.Layout.{headerSize, leafKind, certSize, childSize}
 use Rattle.rules.specs.Entry.{keys, cut, rising}
 use Rattle.rules.specs.Page.{viewIn, count, readEach, certIn, childIn}
 use Rattle.rules.specs.Place.{cutView}
-use Rattle.rules.proofs.Pages.{viewIn-leaf, viewIn-inner, count-viewIn}
+use Rattle.rules.proofs.bytes.Pages.{viewIn-leaf, viewIn-inner, count-viewIn}
 use Rattle.entries.specs.Spot.{sizeOf, keysIn, spotOf, startOf}
 use Rattle.entries.proofs.Cut.{cut-range}
 use Rattle.entries.proofs.KeysIn.{keys-certs, keys-children, length-keysIn, spot-bound, start-bound}

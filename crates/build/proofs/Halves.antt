@@ -13,8 +13,8 @@ use Rattle.rules.specs.Layout.{pageSize, headerSize, leafKind, leafHalf, innerH
 use Rattle.rules.specs.Entry.{keys}
 use Rattle.rules.specs.Page.{viewIn, isLeaf, readEach, certIn, childIn}
 use Rattle.rules.specs.Insert.{divide, lowerHalf, upperHalf}
-use Rattle.rules.proofs.Each.{length-readEach}
-use Rattle.rules.proofs.Pages.{viewIn-leaf, viewIn-inner, kind-viewIn, count-viewIn}
+use Rattle.rules.proofs.bytes.Each.{length-readEach}
+use Rattle.rules.proofs.bytes.Pages.{viewIn-leaf, viewIn-inner, kind-viewIn, count-viewIn}
 use Rattle.entries.specs.Spot.{sizeOf}
 use Rattle.entries.proofs.KeysIn.{keys-certs, keys-children, key-at}
 use Rattle.entries.proofs.Passed.{within}

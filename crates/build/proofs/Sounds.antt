@@ -17,9 +17,9 @@ use Rattle.rules.specs.Sound.{sound, inOrder}
 use Rattle.rules.specs.Place.{mendable}
 use Rattle.rules.specs.Insert.{full, divide}
 use Rattle.rules.specs.declared.Place.{Place}
-use Rattle.rules.proofs.Each.{length-readEach}
-use Rattle.rules.proofs.Pages.{viewIn-leaf, viewIn-inner}
-use Rattle.rules.proofs.Rises.{rising-at}
+use Rattle.rules.proofs.bytes.Each.{length-readEach}
+use Rattle.rules.proofs.bytes.Pages.{viewIn-leaf, viewIn-inner}
+use Rattle.rules.proofs.entries.Rises.{rising-at}
 use Rattle.entries.proofs.KeysIn.{keys-certs, keys-children, length-keysIn}
 use Rattle.build.specs.Range.{Ordered, Divides, halfOf}
 

@@ -12,8 +12,8 @@ use borrow.Author.Tests.{eq-eqb, ne-eqb, eqb-true, eqb-false, ltb-true, ltb-fals
 use Rattle.rules.specs.Layout.{pageSize}
 use Rattle.rules.specs.Table.{pageAt, setPage}
 use Rattle.rules.specs.Crash.{mix, crash}
-use Rattle.rules.proofs.Tables.{Has, has-page, length-pageAt, length-setPage, pageAt-setPage-same, pageAt-setPage-other, pages-ext}
-use Rattle.rules.proofs.Mixes.{chosen, length-mix, pageAt-mix}
+use Rattle.rules.proofs.bytes.Tables.{Has, has-page, length-pageAt, length-setPage, pageAt-setPage-same, pageAt-setPage-other, pages-ext}
+use Rattle.rules.proofs.bytes.Mixes.{chosen, length-mix, pageAt-mix}
 use Rattle.driver.specs.Acts.{crashed}
 
 module _ (marks : List Bool) (i : ℕ) where

@@ -12,7 +12,7 @@ ghost use Prim.Native.Nat.{_<_};
 ghost use lib.ListN.{length};
 ghost use Rattle.rules.specs.Table.{pageAt, setPage};
 ghost use Rattle.rules.specs.Crash.{mix};
-ghost use Rattle.rules.proofs.Mixes.{chosen};
+ghost use Rattle.rules.proofs.bytes.Mixes.{chosen};
 ghost use Rattle.lines.specs.declared.Line.{Line};
 ghost use Rattle.driver.specs.Acts.{benchPages, benchBytes, lookedReply, crashed, acted, turnLeft, fresh, closed, stepped, finished, stepLeft};
 use lines::Line;

@@ -11,7 +11,7 @@ use Rattle.rules.specs.Test.{between}
 use Rattle.rules.specs.Table.{fit0, root0}
 use Rattle.rules.specs.Walk.{walkOf}
 use Rattle.rules.specs.declared.Asked.{Asked}
-use Rattle.rules.proofs.Tests.{every-true, between-low, between-high}
+use Rattle.rules.proofs.entries.Tests.{every-true, between-low, between-high}
 use Rattle.dry.specs.Walk.{dryOf}
 use Rattle.dry.proofs.Decides.{dry-decides}
 

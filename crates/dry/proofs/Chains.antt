@@ -9,13 +9,13 @@ use Rattle.rules.specs.Entry.{Child, keys}
 use Rattle.rules.specs.Page.{View}
 use Rattle.rules.specs.Sound.{namesPages}
 use Rattle.rules.specs.Place.{highBefore, placeOf, placesIn}
-use Rattle.rules.proofs.Tests.{between-low, all-head, all-tail, all-mem, mem-head, mem-tail}
-use Rattle.rules.proofs.Rises.{rises-mem, rising-from}
-use Rattle.rules.proofs.Sounds.{Sound, Names, names-true}
-use Rattle.rules.proofs.Picks.{Kid, Rising, rising-within, rising-rest, places-kids}
-use Rattle.rules.proofs.All as each
-use Rattle.rules.proofs.EntryBytes.{WideChild}
-use Rattle.rules.proofs.Pages.{WideView}
+use Rattle.rules.proofs.entries.Tests.{between-low, all-head, all-tail, all-mem, mem-head, mem-tail}
+use Rattle.rules.proofs.entries.Rises.{rises-mem, rising-from}
+use Rattle.rules.proofs.entries.Sounds.{Sound, Names, names-true}
+use Rattle.rules.proofs.entries.Picks.{Kid, Rising, rising-within, rising-rest, places-kids}
+use Rattle.rules.proofs.bytes.All as each
+use Rattle.rules.proofs.bytes.EntryBytes.{WideChild}
+use Rattle.rules.proofs.bytes.Pages.{WideView}
 
 pub data Chain (n high : ℕ) : ℕ → List Child → Type 0 where
   end : {low : ℕ} → Chain n high low []

@@ -22,8 +22,8 @@ use Rattle.rules.specs.declared.Asked.{Asked}
 use Rattle.rules.specs.declared.Place.{Place}
 use Rattle.fields.proofs.Field.{leAt-bound}
 use Rattle.rules.specs.Table.{root0, birth0}
-use Rattle.rules.proofs.Tests.{not-both}
-use Rattle.rules.proofs.Views.{inner-kind}
+use Rattle.rules.proofs.entries.Tests.{not-both}
+use Rattle.rules.proofs.entries.Views.{inner-kind}
 use Rattle.seen.proofs.Members.{none-at}
 use Rattle.dry.specs.Walk.{marked, meetsWith, meets, counts, breaks, dryEach, dry, untouched, dryOf}
 use Rattle.dry.specs.declared.Dry.{Dry}

@@ -10,8 +10,8 @@ use Rattle.rules.specs.Test.{mem}
 use Rattle.rules.specs.Table.{pageAt, read}
 use Rattle.rules.specs.declared.Asked.{Asked}
 use Rattle.rules.specs.declared.Place.{Place}
-use Rattle.rules.proofs.Sounds.{Sound, sound-same}
-use Rattle.rules.proofs.Places.{fits-true, mendable-true}
+use Rattle.rules.proofs.entries.Sounds.{Sound, sound-same}
+use Rattle.rules.proofs.entries.Places.{fits-true, mendable-true}
 use Rattle.head.specs.Head.{headIn}
 use Rattle.head.specs.declared.Head.{Head}
 use Rattle.seen.specs.declared.Run.{Run}

@@ -8,7 +8,7 @@ use native.Mathlib.Omega.{arith}
 use Rattle.rules.specs.Test.{every}
 use Rattle.rules.specs.declared.Asked.{Asked}
 use Rattle.rules.specs.declared.Place.{Place}
-use Rattle.rules.proofs.Tests.{fails, not-both, every-true}
+use Rattle.rules.proofs.entries.Tests.{fails, not-both, every-true}
 use Rattle.dry.specs.Walk.{meetsWith}
 
 module _ (a : Asked) (e : Place) (count : ℕ) where

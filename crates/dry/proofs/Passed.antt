@@ -12,8 +12,8 @@ use Rattle.rules.specs.Layout.{pageSize, topKind, mostPages}
 use Rattle.rules.specs.Table.{read}
 use Rattle.rules.specs.Place.{fits, mendable}
 use Rattle.rules.specs.declared.Place.{Place}
-use Rattle.rules.proofs.Tests.{fails, not-both}
-use Rattle.rules.proofs.Places.{Fits, fits-true, Mendable, mendable-true}
+use Rattle.rules.proofs.entries.Tests.{fails, not-both}
+use Rattle.rules.proofs.entries.Places.{Fits, fits-true, Mendable, mendable-true}
 use Rattle.dry.specs.Walk.{marked, keeps, helps}
 
 -- a place that a walk comes to: the kinds of page that may stand there go up to top

@@ -19,13 +19,13 @@ use Rattle.rules.specs.Table.{read, build}
 use Rattle.rules.specs.Place.{fits, mendable, mended, cutView}
 use Rattle.rules.specs.Enter.{Entered, damaged, mend, enter}
 use Rattle.rules.specs.declared.Place.{Place}
-use Rattle.rules.proofs.Tests.{not-both}
-use Rattle.rules.proofs.Entries.{length-cut}
-use Rattle.rules.proofs.Pages.{WideView, Wide, room-pageBytes}
-use Rattle.rules.proofs.Widths.{wide-mended}
-use Rattle.rules.proofs.Tables.{Has, has-page, Room, wide-read, bytes-build, length-build, read-build-same, read-build-other}
-use Rattle.rules.proofs.Sounds.{Sound}
-use Rattle.rules.proofs.Places.{Fits, fits-true, Mendable, mendable-true, mended-view-sound}
+use Rattle.rules.proofs.entries.Tests.{not-both}
+use Rattle.rules.proofs.entries.Entries.{length-cut}
+use Rattle.rules.proofs.bytes.Pages.{WideView, Wide, room-pageBytes}
+use Rattle.rules.proofs.bytes.Widths.{wide-mended}
+use Rattle.rules.proofs.bytes.Tables.{Has, has-page, Room, wide-read, bytes-build, length-build, read-build-same, read-build-other}
+use Rattle.rules.proofs.entries.Sounds.{Sound}
+use Rattle.rules.proofs.entries.Places.{Fits, fits-true, Mendable, mendable-true, mended-view-sound}
 use Rattle.dry.specs.Walk.{marked, keeps, sightOf, sightMended, sight}
 use Rattle.dry.proofs.Passed.{Asks, Kept, Passed, passed-on, fits-keeps, mendable-helps, read-fits, read-helps}
 

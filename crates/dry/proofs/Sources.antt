@@ -12,9 +12,9 @@ use Rattle.rules.specs.Test.{mem}
 use Rattle.rules.specs.Table.{read}
 use Rattle.rules.specs.Place.{fits, mendable, cutView}
 use Rattle.rules.specs.declared.Place.{Place}
-use Rattle.rules.proofs.Tests.{and-right}
-use Rattle.rules.proofs.Sounds.{sound-cut-all}
-use Rattle.rules.proofs.Places.{fits-true, mendable-true}
+use Rattle.rules.proofs.entries.Tests.{and-right}
+use Rattle.rules.proofs.entries.Sounds.{sound-cut-all}
+use Rattle.rules.proofs.entries.Places.{fits-true, mendable-true}
 use Rattle.dry.specs.Walk.{marked, keeps, helps, sightOf, sightMended, sight}
 use Rattle.dry.specs.Source.{sourceLost, source, markedBy}
 use Rattle.dry.specs.declared.Source.{Source}

@@ -16,9 +16,9 @@ use Rattle.rules.specs.Table.{pageAt, read}
 use Rattle.rules.specs.Place.{cutView}
 use Rattle.rules.specs.declared.Asked.{Asked}
 use Rattle.rules.specs.declared.Place.{Place}
-use Rattle.rules.proofs.Tests.{fails, not-both, and-left, and-right, between-of, between-low, between-high, between-below, between-above}
-use Rattle.rules.proofs.Each.{length-readEach}
-use Rattle.rules.proofs.Entries.{cut-nil, cut-in, cut-out, cut-all, cut-wider}
+use Rattle.rules.proofs.entries.Tests.{fails, not-both, and-left, and-right, between-of, between-low, between-high, between-below, between-above}
+use Rattle.rules.proofs.bytes.Each.{length-readEach}
+use Rattle.rules.proofs.entries.Entries.{cut-nil, cut-in, cut-out, cut-all, cut-wider}
 use Rattle.head.specs.Head.{certAt, headIn}
 use Rattle.head.specs.declared.Head.{Head}
 use Rattle.head.proofs.Headers.{headOf, headIn-page, certs-leaf, certs-inner}

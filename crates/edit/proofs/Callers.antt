@@ -7,8 +7,8 @@ use Prim.Native.Nat.{ℕ}
 use Rattle.rules.specs.Entry.{find}
 use Rattle.rules.specs.Page.{View, isLeaf}
 use Rattle.rules.specs.Insert.{full}
-use Rattle.rules.proofs.Entries.{absent}
-use Rattle.rules.proofs.Halves.{room}
+use Rattle.rules.proofs.entries.Entries.{absent}
+use Rattle.rules.proofs.entries.Halves.{room}
 use Rattle.edit.specs.Takes.{TakesCert}
 
 -- a leaf that is not full and where nothing is found under a key takes it

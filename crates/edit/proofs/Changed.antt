@@ -14,8 +14,8 @@ use Rattle.fields.proofs.Field.{get-put-other, bytes-put, length-put}
 use Rattle.fields.proofs.Run.{sets-append, part-sets-below, length-part}
 use Rattle.rules.specs.Layout.{headerSize}
 use Rattle.rules.specs.Page.{View, Page, pageIn, count, touch, headerBytes, pageBytes, changeBytes, over, readEach, writeEach, certBytes, childBytes}
-use Rattle.rules.proofs.Each.{length-readEach, writeEach-append}
-use Rattle.rules.proofs.Pages.{length-headerBytes}
+use Rattle.rules.proofs.bytes.Each.{length-readEach, writeEach-append}
+use Rattle.rules.proofs.bytes.Pages.{length-headerBytes}
 use Rattle.entries.proofs.Header.{header-puts}
 use Rattle.entries.proofs.Ranges.{range-within, write-range}
 use Rattle.entries.proofs.Sets.{sets-comm, sets-same, put-same, over-sets}

@@ -13,9 +13,9 @@ use Rattle.rules.specs.Test.{mem}
 use Rattle.rules.specs.Entry.{Entry, Cert, Child, keys, put, rising}
 use Rattle.rules.specs.Page.{View, isLeaf, viewIn, pageIn, count, touch, changeBytes, readEach, writeEach, certIn, certBytes, childIn, childBytes}
 use Rattle.rules.specs.Insert.{putCert, putChild}
-use Rattle.rules.proofs.Each.{length-readEach}
-use Rattle.rules.proofs.EntryBytes.{certBytes-certIn, childBytes-childIn, length-certBytes, length-childBytes, length-writeCerts, length-writeChildren, bytes-writeCerts, bytes-writeChildren}
-use Rattle.rules.proofs.Pages.{viewIn-leaf, viewIn-inner, isLeaf-viewIn}
+use Rattle.rules.proofs.bytes.Each.{length-readEach}
+use Rattle.rules.proofs.bytes.EntryBytes.{certBytes-certIn, childBytes-childIn, length-certBytes, length-childBytes, length-writeCerts, length-writeChildren, bytes-writeCerts, bytes-writeChildren}
+use Rattle.rules.proofs.bytes.Pages.{viewIn-leaf, viewIn-inner, isLeaf-viewIn}
 use Rattle.entries.specs.Spot.{keysIn, spotOf}
 use Rattle.entries.proofs.KeysIn.{keys-certs, keys-children, length-keysIn, spot-bound}
 use Rattle.edit.proofs.Put.{put-absent, put-present, spot-present}

@@ -11,8 +11,8 @@ use lib.ListN.{length, take, drop}
 use Rattle.rules.specs.Test.{mem}
 use Rattle.rules.specs.Entry.{Entry, keys, put, risesFrom, rising}
 use Rattle.entries.specs.Spot.{spotOf}
-use Rattle.rules.proofs.Rises.{rises-head, rises-mem, rising-from, rising-of-rises}
-use Rattle.rules.proofs.Tests.{or-none}
+use Rattle.rules.proofs.entries.Rises.{rises-head, rises-mem, rising-from, rising-of-rises}
+use Rattle.rules.proofs.entries.Tests.{or-none}
 use Rattle.entries.proofs.Cut.{spot-cons, spot-first}
 
 spot-above : (k : ℕ) (xs : List ℕ) → risesFrom k xs ≡ true → spotOf k xs ≡ 0

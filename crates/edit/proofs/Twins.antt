@@ -14,12 +14,12 @@ use Rattle.rules.specs.Test.{mem}
 use Rattle.rules.specs.Entry.{Child, keys, put}
 use Rattle.rules.specs.Page.{Page, isLeaf, viewIn, pageIn, count, touch, pageBytes, changeBytes}
 use Rattle.rules.specs.Insert.{newChild, putChild}
-use Rattle.rules.proofs.Rises.{length-keys}
-use Rattle.rules.proofs.Over.{over-over}
-use Rattle.rules.proofs.All.{all-put}
-use Rattle.rules.proofs.EntryBytes.{WideChild}
-use Rattle.rules.proofs.Views.{shaped-viewIn}
-use Rattle.rules.proofs.Pages.{Wide, wide-pageIn, pageIn-changeBytes, length-pageBytes, length-changeBytes}
+use Rattle.rules.proofs.entries.Rises.{length-keys}
+use Rattle.rules.proofs.bytes.Over.{over-over}
+use Rattle.rules.proofs.bytes.All.{all-put}
+use Rattle.rules.proofs.bytes.EntryBytes.{WideChild}
+use Rattle.rules.proofs.entries.Views.{shaped-viewIn}
+use Rattle.rules.proofs.bytes.Pages.{Wide, wide-pageIn, pageIn-changeBytes, length-pageBytes, length-changeBytes}
 use Rattle.edit.proofs.Put.{keys-present, length-put}
 use Rattle.edit.specs.Takes.{TakesChild, HasChild}
 

@@ -7,9 +7,9 @@ use Prim.Native.Nat.{ℕ}
 use borrow.Author.Tests.{eqb-true, eqb-false}
 use lib.Dec.{eqb}
 use Rattle.rules.specs.Entry.{Child, Below, find}
-use Rattle.rules.proofs.All.{All, nil, cons}
-use Rattle.rules.proofs.EntryBytes.{WideChild}
-use Rattle.rules.proofs.Entries.{find-head, find-tail}
+use Rattle.rules.proofs.bytes.All.{All, nil, cons}
+use Rattle.rules.proofs.bytes.EntryBytes.{WideChild}
+use Rattle.rules.proofs.entries.Entries.{find-head, find-tail}
 
 same-entry : {j k : ℕ} {a b : Below} → j ≡ k → a ≡ b → _≡_ {A = Child} (record { key = j; value = a }) (record { key = k; value = b })
 same-entry p q = cc

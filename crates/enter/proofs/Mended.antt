@@ -16,11 +16,11 @@ use Rattle.rules.specs.declared.Place.{Place}
 use Rattle.head.specs.Head.{headIn}
 use Rattle.head.specs.declared.Head.{Head}
 use Rattle.head.proofs.Headers.{headOf, headIn-page}
-use Rattle.rules.proofs.Entries.{length-cut}
-use Rattle.rules.proofs.Pages.{Wide, room-pageBytes}
-use Rattle.rules.proofs.Tables.{has-page, Room, wide-read, read-build-same}
-use Rattle.rules.proofs.Widths.{wide-mended}
-use Rattle.rules.proofs.Places.{mendable-true}
+use Rattle.rules.proofs.entries.Entries.{length-cut}
+use Rattle.rules.proofs.bytes.Pages.{Wide, room-pageBytes}
+use Rattle.rules.proofs.bytes.Tables.{has-page, Room, wide-read, read-build-same}
+use Rattle.rules.proofs.bytes.Widths.{wide-mended}
+use Rattle.rules.proofs.entries.Places.{mendable-true}
 use Rattle.enter.specs.Entering.{entering, told}
 use Rattle.enter.specs.declared.Entered.{Entered}
 use Rattle.enter.proofs.Told.{mend-page}

@@ -14,9 +14,9 @@ use Rattle.rules.specs.Table.{read, build}
 use Rattle.rules.specs.Place.{fits, mendable, mended}
 use Rattle.rules.specs.Enter as rules
 use Rattle.rules.specs.declared.Place.{Place}
-use Rattle.rules.proofs.Places.{Fits, fits-true, mendable-true, mended-fits}
-use Rattle.rules.proofs.Tables.{has-page, length-build, bytes-build, read-build-other}
-use Rattle.rules.proofs.Tests.{not-both}
+use Rattle.rules.proofs.entries.Places.{Fits, fits-true, mendable-true, mended-fits}
+use Rattle.rules.proofs.bytes.Tables.{has-page, length-build, bytes-build, read-build-other}
+use Rattle.rules.proofs.entries.Tests.{not-both}
 use Rattle.enter.proofs.Mended.{Narrow, room-mended, read-mended}
 
 -- what entering comes to: the page as it stands, mended, or none

@@ -11,8 +11,8 @@ use lib.Dec.{leb}
 use lib.ListN.{take, drop}
 use lib.Seq.{take-nil, drop-nil}
 use Rattle.rules.specs.Entry.{Entry, keys, cut, risesFrom, rising}
-use Rattle.rules.proofs.Tests.{between-of, between-above, between-below}
-use Rattle.rules.proofs.Rises.{rises-head, rises-tail, rising-from, rising-of-rises}
+use Rattle.rules.proofs.entries.Tests.{between-of, between-above, between-below}
+use Rattle.rules.proofs.entries.Rises.{rises-head, rises-tail, rising-from, rising-of-rises}
 use Rattle.entries.specs.Spot.{spotOf, startOf}
 
 -- ── A key passed, or not ────────────────────────────────────────────────────────────────────────────────────────

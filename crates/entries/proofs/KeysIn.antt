@@ -14,7 +14,7 @@ use Rattle.fields.proofs.Field.{leAt-drop}
 use Rattle.rules.specs.Layout.{headerSize, certSize, childSize}
 use Rattle.rules.specs.Entry.{Entry, keys}
 use Rattle.rules.specs.Page.{readEach, certIn, childIn}
-use Rattle.rules.proofs.Each.{length-readEach, readEach-at}
+use Rattle.rules.proofs.bytes.Each.{length-readEach, readEach-at}
 use Rattle.entries.specs.Spot.{keyIn, keysIn, spotOf, startOf}
 
 keys-readEach : {B : Type 0} (read : List ℕ → Entry B) (size k : ℕ) (b : List ℕ) → ((l : List ℕ) → read l .key ≡ keyIn l)

@@ -11,8 +11,8 @@ use Rattle.fields.specs.Field.{Bytes}
 use Rattle.fields.proofs.Bytes.{bytes-drop}
 use Rattle.rules.specs.Layout.{headerSize, certSize, childSize}
 use Rattle.rules.specs.Page.{readEach, writeEach, certIn, certBytes, childIn, childBytes}
-use Rattle.rules.proofs.Each.{take-readEach, drop-readEach, writeEach-readEach}
-use Rattle.rules.proofs.EntryBytes.{certBytes-certIn, childBytes-childIn}
+use Rattle.rules.proofs.bytes.Each.{take-readEach, drop-readEach, writeEach-readEach}
+use Rattle.rules.proofs.bytes.EntryBytes.{certBytes-certIn, childBytes-childIn}
 
 -- a range of entries lies within as many bytes as all of them take
 pub range-within : (size first many k : ℕ) → first + many ≤ k → size * first + size * many ≤ size * k

@@ -12,7 +12,7 @@ use Rattle.rules.specs.declared.Looking.{Looking}
 use Rattle.rules.specs.declared.Newest.{Newest}
 use Rattle.rules.specs.declared.NewestOf.{NewestOf}
 use Rattle.rules.specs.declared.Listing.{Listing}
-use Rattle.rules.proofs.Refusals.{lookup-mends, newest-mends, list-mends}
+use Rattle.rules.proofs.demand1.Refusals.{lookup-mends, newest-mends, list-mends}
 use Rattle.lookup.specs.Looks
 use Rattle.newest.specs.Newests
 use Rattle.list.specs.Lists

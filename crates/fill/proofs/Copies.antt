@@ -12,9 +12,9 @@ use Rattle.rules.specs.Entry.{Cert, keys, cut}
 use Rattle.rules.specs.Page.{certIn, over}
 use Rattle.rules.specs.List.{recordsOf}
 use Rattle.rules.specs.declared.Asked.{Asked}
-use Rattle.rules.proofs.Each.{length-readEach, readEach-at}
-use Rattle.rules.proofs.Over.{take-over, drop-over-behind}
-use Rattle.rules.proofs.Rises.{length-keys, getD-keys, keys-append}
+use Rattle.rules.proofs.bytes.Each.{length-readEach, readEach-at}
+use Rattle.rules.proofs.bytes.Over.{take-over, drop-over-behind}
+use Rattle.rules.proofs.entries.Rises.{length-keys, getD-keys, keys-append}
 use Rattle.head.specs.Head.{certAt}
 use Rattle.fill.specs.Fills.{Lists, listing, listsOf, certsFrom, listed, asked}
 

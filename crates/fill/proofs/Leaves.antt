@@ -9,7 +9,7 @@ use Rattle.rules.specs.Layout.{headerSize, certSize, leafKind, leafRoom}
 use Rattle.rules.specs.Entry.{keys, rising}
 use Rattle.rules.specs.Page.{certIn}
 use Rattle.rules.specs.Table.{pageAt, read}
-use Rattle.rules.proofs.Each.{length-readEach}
+use Rattle.rules.proofs.bytes.Each.{length-readEach}
 use Rattle.head.specs.declared.Head.{Head}
 use Rattle.head.proofs.Headers.{headOf, certs-leaf}
 use Rattle.entries.specs.Spot.{keysIn}

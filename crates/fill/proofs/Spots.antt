@@ -13,7 +13,7 @@ use Rattle.rules.specs.Layout.{headerSize, certSize}
 use Rattle.rules.specs.Entry.{keys, rising}
 use Rattle.rules.specs.Page.{certIn}
 use Rattle.rules.specs.declared.Asked.{Asked}
-use Rattle.rules.proofs.Each.{readEach-at, take-readEach, drop-readEach}
+use Rattle.rules.proofs.bytes.Each.{readEach-at, take-readEach, drop-readEach}
 use Rattle.head.specs.Head.{certAt}
 use Rattle.entries.specs.Spot.{keyIn, keysIn, spotOf, startOf}
 use Rattle.entries.proofs.Cut.{cut-range}

@@ -16,7 +16,7 @@ use Rattle.rules.specs.Enter as entry
 use Rattle.rules.specs.Walk.{Walked, enters, finds, stops, walkEach, walk, walkOf}
 use Rattle.rules.specs.declared.Asked.{Asked}
 use Rattle.rules.specs.declared.Place.{Place}
-use Rattle.rules.proofs.Tests.{every-true}
+use Rattle.rules.proofs.entries.Tests.{every-true}
 use Rattle.head.specs.declared.Head.{Head}
 use Rattle.head.proofs.Headers.{headOf, certs-inner}
 use Rattle.entries.specs.Spot.{keysIn}

@@ -18,8 +18,8 @@ use Rattle.rules.specs.Enter as entry
 use Rattle.rules.specs.Walk.{Walked, enters, finds, stops, walkEach, walk}
 use Rattle.rules.specs.declared.Asked.{Asked}
 use Rattle.rules.specs.declared.Place.{Place}
-use Rattle.rules.proofs.Tests.{not-both}
-use Rattle.rules.proofs.All.{All, all-tail}
+use Rattle.rules.proofs.entries.Tests.{not-both}
+use Rattle.rules.proofs.bytes.All.{All, all-tail}
 use Rattle.head.specs.declared.Head.{Head}
 use Rattle.enter.specs.Entering as entering
 use Rattle.enter.specs.declared.Entered.{Entered}

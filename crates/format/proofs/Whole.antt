@@ -13,7 +13,7 @@ use Rattle.rules.specs.Page.{blank, buildBytes}
 use Rattle.rules.specs.Table.{setPage, build, pages, goodLengths, setNumber, setRoot}
 use Rattle.rules.specs.Format.{formatted, format}
 use Rattle.rules.specs.declared.Formatted.{Formatted}
-use Rattle.rules.proofs.Lengths.{goodLengths-true}
+use Rattle.rules.proofs.bytes.Lengths.{goodLengths-true}
 use Rattle.format.specs.Formats.{formatting, named, firstLeaf}
 
 pub refused : (w s : List ℕ) → goodLengths w s ≡ false → formatting Formatted.Length s ≡ format w s

@@ -6,7 +6,7 @@ use mathlib.Core.Bool.{Bool, true, false, and-true, and-false}
 use mathlib.Core.List.{List, [], _∷_, _++_}
 use lib.ListN.{getD}
 use Rattle.rules.specs.Test.{every}
-use Rattle.rules.proofs.Tests.{Holds, every-of}
+use Rattle.rules.proofs.entries.Tests.{Holds, every-of}
 
 pub every-fails : (ts : List Bool) (i : ℕ) → getD ts i true ≡ false → every ts ≡ false
 unfolding every

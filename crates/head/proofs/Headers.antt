@@ -8,7 +8,7 @@ use Rattle.fields.specs.Field.{leAt}
 use Rattle.rules.specs.Layout.{headerSize, certSize, childSize, leafKind}
 use Rattle.rules.specs.Page.{Page, count, readEach, certIn, childIn, viewIn, pageIn, View}
 use Rattle.rules.specs.Table.{pageAt, read}
-use Rattle.rules.proofs.Pages.{viewIn-leaf, viewIn-inner, kind-viewIn, count-viewIn}
+use Rattle.rules.proofs.bytes.Pages.{viewIn-leaf, viewIn-inner, kind-viewIn, count-viewIn}
 use Rattle.head.specs.declared.Head.{Head}
 use Rattle.head.specs.Head.{headIn}
 

@@ -12,7 +12,7 @@ use Rattle.rules.specs.Entry.{Child}
 use Rattle.rules.specs.Page.{readEach, childIn, viewIn}
 use Rattle.rules.specs.Place.{highBefore, placeOf, placesIn, kids}
 use Rattle.rules.specs.declared.Place.{Place}
-use Rattle.rules.proofs.Each.{length-readEach, readEach-at}
+use Rattle.rules.proofs.bytes.Each.{length-readEach, readEach-at}
 use Rattle.head.specs.Head.{childAt}
 use Rattle.head.proofs.Headers.{view-inner}
 

@@ -10,7 +10,7 @@ use borrow.Author.Tests.{eq-eqb}
 use Rattle.rules.specs.Layout.{zeroKind}
 use Rattle.rules.specs.Test.{between, every}
 use Rattle.rules.specs.Table.{fit0}
-use Rattle.rules.proofs.Tests.{between-of}
+use Rattle.rules.proofs.entries.Tests.{between-of}
 use Rattle.head.specs.declared.Zero.{Zero}
 use Rattle.head.specs.Head.{zeroIn}
 use Rattle.head.proofs.Chain.{every-fails, every-last}

@@ -24,7 +24,7 @@ use Rattle.rules.specs.declared.Inserted.{Inserted}
 use Rattle.rules.specs.declared.Looked.{Looked}
 use Rattle.rules.proofs.Looked as looks
 use Rattle.rules.proofs.Inserted as inserts
-use Rattle.rules.proofs.All.{All, all-head}
+use Rattle.rules.proofs.bytes.All.{All, all-head}
 use Rattle.head.proofs.Headers.{headOf}
 use Rattle.marks.specs.declared.Chosen.{Chosen}
 use Rattle.marks.proofs.Needed.{lowest-at}

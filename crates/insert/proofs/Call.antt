@@ -18,7 +18,7 @@ use Rattle.rules.specs.Call.{lengthsFor}
 use Rattle.rules.specs.Insert.{insert, insertKey, insertAlong, insertDone, insertRefused}
 use Rattle.rules.specs.declared.Session.{Session}
 use Rattle.rules.specs.declared.Inserted.{Inserted}
-use Rattle.rules.proofs.Lengths.{lengthsFor-true}
+use Rattle.rules.proofs.bytes.Lengths.{lengthsFor-true}
 use Rattle.marks.specs.declared.Chosen.{Chosen}
 use Rattle.way.specs.Ways.{walking, told}
 use Rattle.way.specs.declared.Way.{Way}

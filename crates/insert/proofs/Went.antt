@@ -10,8 +10,8 @@ use Rattle.rules.specs.Table.{read}
 use Rattle.rules.specs.Walk as rules
 use Rattle.rules.specs.declared.Place.{Place}
 use Rattle.rules.specs.declared.Session.{Session}
-use Rattle.rules.proofs.All.{All, nil, cons, all-map}
-use Rattle.rules.proofs.Views.{Shaped, shaped-read}
+use Rattle.rules.proofs.bytes.All.{All, nil, cons, all-map}
+use Rattle.rules.proofs.entries.Views.{Shaped, shaped-read}
 use Rattle.head.proofs.Headers.{headOf}
 use Rattle.way.specs.Ways.{stepOf, wayFor, Walking, walking, wayOr, told}
 use Rattle.way.specs.declared.Step.{Step}

@@ -13,7 +13,7 @@ use Rattle.rules.specs.Call.{Left, lengthsFor}
 use Rattle.rules.specs.declared.Session.{Session}
 use Rattle.rules.specs.declared.Inserted.{Inserted}
 use Rattle.rules.specs.declared.Inserting.{Inserting}
-use Rattle.rules.proofs.All.{All}
+use Rattle.rules.proofs.bytes.All.{All}
 use Rattle.marks.specs.declared.Chosen.{Chosen}
 use Rattle.way.specs.declared.Way.{Way}
 use Rattle.plan.specs.Plan.{chosenBy, Headed, planOf}

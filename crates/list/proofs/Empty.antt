@@ -11,7 +11,7 @@ use Rattle.rules.specs.Call.{lengthsFor}
 use Rattle.rules.specs.List as rules
 use Rattle.rules.specs.declared.Session.{Session}
 use Rattle.rules.specs.declared.Listed.{Listed}
-use Rattle.rules.proofs.WalkSteps.{walk-none}
+use Rattle.rules.proofs.demand1.WalkSteps.{walk-none}
 use Rattle.list.specs.Lists.{telling, told}
 use Rattle.list.proofs.Calls.{left, answers}
 

@@ -12,7 +12,7 @@ use Rattle.rules.specs.Table.{pageAt, read}
 use Rattle.rules.specs.Walk as rules
 use Rattle.rules.specs.Lookup.{foundIn}
 use Rattle.rules.specs.declared.Looked.{Looked}
-use Rattle.rules.proofs.All.{All, all-head}
+use Rattle.rules.proofs.bytes.All.{All, all-head}
 use Rattle.head.proofs.Headers.{headOf}
 use Rattle.way.specs.Ways.{Holds, stepOf, wayFor, walking, wayOr, told, spotAt, Walking}
 use Rattle.way.specs.declared.Way.{Way}

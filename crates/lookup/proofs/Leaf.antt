@@ -12,7 +12,7 @@ use Rattle.rules.specs.Layout.{headerSize, certSize, leafRoom}
 use Rattle.rules.specs.Entry.{Cert, keys, find, rising}
 use Rattle.rules.specs.Page.{certIn, viewIn, pageIn}
 use Rattle.rules.specs.declared.Looked.{Looked}
-use Rattle.rules.proofs.Each.{readEach-at}
+use Rattle.rules.proofs.bytes.Each.{readEach-at}
 use Rattle.head.specs.Head.{certAt}
 use Rattle.head.specs.declared.Head.{Head}
 use Rattle.head.proofs.Headers.{headOf}

@@ -9,7 +9,7 @@ use lib.ListN.{length, getD, set, drop, drop-of-length-le}
 use lib.Seq.{drop-cons, set-at, getD-at}
 use Rattle.rules.specs.Layout.{mostPages}
 use Rattle.rules.specs.Marks.{marksFrom, marks}
-use Rattle.rules.proofs.Marked.{length-marksFrom}
+use Rattle.rules.proofs.bytes.Marked.{length-marksFrom}
 
 pub marksFrom-more : (f : ℕ → Bool) (i k : ℕ) → marksFrom f i (suc k) ≡ marksFrom f i k ++ (f (i + k) ∷ [])
 unfolding marksFrom

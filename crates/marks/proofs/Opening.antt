@@ -11,7 +11,7 @@ use Rattle.rules.specs.Tree.{Tree}
 use Rattle.rules.specs.Marks.{marksFrom, marks, isPage, opened}
 use Rattle.rules.specs.declared.Session.{Session}
 use Rattle.marks.specs.Opened.{freeAtOpening, openedBy}
-use Rattle.rules.proofs.Marked.{marks-same}
+use Rattle.rules.proofs.bytes.Marked.{marks-same}
 
 -- the marks of a list of numbers
 abbrev pub Marking : List ℕ → List Bool → Type 0

@@ -7,7 +7,7 @@ use native.Mathlib.Numerals.{add-one}
 use native.Mathlib.Omega.{arith}
 use Rattle.rules.specs.Marks.{numbersFrom, freePages}
 use Rattle.rules.specs.declared.Session.{Session}
-use Rattle.rules.proofs.Numbers.{numbersFrom-here, numbersFrom-past}
+use Rattle.rules.proofs.bytes.Numbers.{numbersFrom-here, numbersFrom-past}
 use Rattle.marks.specs.Lowest.{countsFree, freeFrom, firstOf}
 use Rattle.marks.specs.declared.Free.{Free}
 

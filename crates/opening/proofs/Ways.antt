@@ -13,7 +13,7 @@ use Rattle.rules.specs.Marks.{opened}
 use Rattle.rules.specs.Open.{openRefused, openDone, opening}
 use Rattle.rules.specs.declared.Opened.{Opened}
 use Rattle.rules.specs.declared.Session.{Session}
-use Rattle.rules.proofs.Lengths.{Tables, pages-of, goodLengths-true}
+use Rattle.rules.proofs.bytes.Lengths.{Tables, pages-of, goodLengths-true}
 use Rattle.marks.specs.Opened.{openedBy}
 use Rattle.marks.proofs.Opening.{openedBy-opened}
 use Rattle.seen.specs.Note.{note, nothing, goodMarks}

@@ -14,8 +14,8 @@ use Rattle.rules.specs.Marks.{freePages}
 use Rattle.rules.specs.Walk.{Step, numbers}
 use Rattle.rules.specs.Insert.{full, splitting, tooSoon, rootSplits, newPages, tooHigh, noRoom}
 use Rattle.rules.specs.declared.Session.{Session}
-use Rattle.rules.proofs.All.{All, nil, cons}
-use Rattle.rules.proofs.Views.{viewOf, same-view, Shaped, leaf-kind, inner-kind}
+use Rattle.rules.proofs.bytes.All.{All, nil, cons}
+use Rattle.rules.proofs.entries.Views.{viewOf, same-view, Shaped, leaf-kind, inner-kind}
 use Rattle.head.specs.declared.Head.{Head}
 use Rattle.head.proofs.Headers.{headOf}
 use Rattle.marks.specs.Lowest.{lowestOf}

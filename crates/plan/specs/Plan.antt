@@ -11,8 +11,8 @@ use Rattle.rules.specs.Marks.{freePages}
 use Rattle.rules.specs.Walk.{Step, numbers}
 use Rattle.rules.specs.Insert.{splitting, tooSoon, noRoom}
 use Rattle.rules.specs.declared.Session.{Session}
-use Rattle.rules.proofs.All.{All}
-use Rattle.rules.proofs.Views.{Shaped}
+use Rattle.rules.proofs.bytes.All.{All}
+use Rattle.rules.proofs.entries.Views.{Shaped}
 use Rattle.head.specs.declared.Head.{Head}
 use Rattle.marks.specs.Lowest.{lowestOf}
 use Rattle.marks.specs.declared.Entered.{Entered}

@@ -9,7 +9,7 @@ use Rattle.rules.specs.Lookup.{lookup}
 use Rattle.rules.specs.History.{Event, inserts, looks, syncs, crashes, State, step, afterInsert, afterSync, afterOpen, afterReading}
 use Rattle.rules.specs.History.{crashed as torn}
 use Rattle.rules.specs.declared.Session.{Session}
-use Rattle.rules.proofs.Refusals.{lookup-mends}
+use Rattle.rules.proofs.demand1.Refusals.{lookup-mends}
 use Rattle.lines.specs.declared.Line.{Line}
 use Rattle.words.specs.declared.Reply.{Reply}
 use Rattle.driver.specs.Acts.{crashed, acted}

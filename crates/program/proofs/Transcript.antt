@@ -3,7 +3,7 @@
 use Prim.Native.Nat.{ℕ}
 use mathlib.Core.Path.{_≡_, refl}
 use mathlib.Core.List.{List, [], _∷_}
-use Rattle.rules.proofs.Computing.{rules}
+use Rattle.rules.proofs.cases.Computing.{rules}
 use Rattle.lines.specs.Line.{onto, words, isDigit, digits, value, numberIn, number, end, insertOf, findOf, crashOf, letterOf, asked, lineOf}
 use Rattle.words.specs.Words.{nine, wordOf, digitsOf, decimal, answerLine}
 use Rattle.driver.specs.Acts.{lookedReply, crashed, acted}

@@ -20,8 +20,8 @@ use Rattle.rules.specs.Demand.{Serves, Demand3}
 use Rattle.rules.specs.declared.Session.{Session}
 use Rattle.rules.specs.declared.Inserted.{Inserted}
 use Rattle.rules.specs.declared.Looked.{Looked}
-use Rattle.rules.proofs.Keys.{modelOf-keyOf, serialOf-keyOf, issueOf-keyOf, keyOf-bound}
-use Rattle.rules.proofs.Histories.{demand3}
+use Rattle.rules.proofs.bytes.Keys.{modelOf-keyOf, serialOf-keyOf, issueOf-keyOf, keyOf-bound}
+use Rattle.rules.proofs.demand3.histories.Histories.{demand3}
 use Rattle.reading.specs.Inserting.{inserted, Adds, InsertAdds}
 use Rattle.reading.specs.Agreeing.{answerFor}
 use Rattle.reading.proofs.Marking.{done-n}

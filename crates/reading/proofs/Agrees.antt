@@ -20,9 +20,9 @@ use Rattle.rules.specs.declared.Session.{Session}
 use Rattle.rules.specs.declared.Looked.{Looked}
 use Rattle.rules.specs.declared.Newest.{Newest}
 use Rattle.rules.specs.declared.Listed.{Listed}
-use Rattle.rules.proofs.Keys.{keyOf-bound}
-use Rattle.rules.proofs.Lengths.{lengthsFor-true}
-use Rattle.rules.proofs.Lists.{meter-whole, from-whole}
+use Rattle.rules.proofs.bytes.Keys.{keyOf-bound}
+use Rattle.rules.proofs.bytes.Lengths.{lengthsFor-true}
+use Rattle.rules.proofs.demand3.reads.Lists.{meter-whole, from-whole}
 use Rattle.reading.specs.Agreeing.{held, Passes, answerFor, Largest, listedFrom, Fills, ReadersAgree}
 use Rattle.reading.proofs.Soundly.{Passing, Shows}
 use Rattle.reading.proofs.TreeCerts.{all-ordered}

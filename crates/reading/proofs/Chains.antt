@@ -19,20 +19,20 @@ use Rattle.rules.specs.Place.{rootPlace, kids, pick}
 use Rattle.rules.specs.Walk.{Step, numbers}
 use Rattle.rules.specs.Insert.{full, divide, previousOf, newChild, putChild, lowerPage, upperPage, twins, Making, halve}
 use Rattle.rules.specs.declared.Place.{Place}
-use Rattle.rules.proofs.Tests.{not-both, fails, mem-nil, mem-head, mem-tail, mem-cases}
-use Rattle.rules.proofs.Views.{Shaped, shaped-read}
-use Rattle.rules.proofs.Sounds.{Sound, sound-same}
-use Rattle.rules.proofs.Places.{Fits}
-use Rattle.rules.proofs.EntryBytes.{WideChild}
-use Rattle.rules.proofs.Picks.{Kid, kid-key, pick-holds}
-use Rattle.rules.proofs.Asks.{pick-leaf, kids-pick, kids-rising, kids-within}
-use Rattle.rules.proofs.Puts.{length-put-le}
-use Rattle.rules.proofs.Halves.{Divided, divided, room, lowerPage-fits, upperPage-fits, twins-fits, previousOf-below}
-use Rattle.rules.proofs.Twins.{Twin, lowerPlace, upperPlace, kids-twins, twin-pick-lower, twin-pick-upper}
-use Rattle.rules.proofs.Pages.{Wide, wide-touch}
-use Rattle.rules.proofs.Widths.{wide-putChild, wide-newChild, divide-bound, wide-lowerPage, wide-upperPage}
-use Rattle.rules.proofs.Tables.{wide-read}
-use Rattle.rules.proofs.PageZero.{Same0, same0, rootPlace-same}
+use Rattle.rules.proofs.entries.Tests.{not-both, fails, mem-nil, mem-head, mem-tail, mem-cases}
+use Rattle.rules.proofs.entries.Views.{Shaped, shaped-read}
+use Rattle.rules.proofs.entries.Sounds.{Sound, sound-same}
+use Rattle.rules.proofs.entries.Places.{Fits}
+use Rattle.rules.proofs.bytes.EntryBytes.{WideChild}
+use Rattle.rules.proofs.entries.Picks.{Kid, kid-key, pick-holds}
+use Rattle.rules.proofs.entries.Asks.{pick-leaf, kids-pick, kids-rising, kids-within}
+use Rattle.rules.proofs.entries.Puts.{length-put-le}
+use Rattle.rules.proofs.entries.Halves.{Divided, divided, room, lowerPage-fits, upperPage-fits, twins-fits, previousOf-below}
+use Rattle.rules.proofs.entries.Twins.{Twin, lowerPlace, upperPlace, kids-twins, twin-pick-lower, twin-pick-upper}
+use Rattle.rules.proofs.bytes.Pages.{Wide, wide-touch}
+use Rattle.rules.proofs.bytes.Widths.{wide-putChild, wide-newChild, divide-bound, wide-lowerPage, wide-upperPage}
+use Rattle.rules.proofs.bytes.Tables.{wide-read}
+use Rattle.rules.proofs.bytes.PageZero.{Same0, same0, rootPlace-same}
 use Rattle.apply.specs.Leads.{Whole, Stands, Leads}
 use Rattle.apply.proofs.Halving.{Sites}
 use Rattle.apply.proofs.Going.{leads-first}

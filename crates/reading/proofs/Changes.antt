@@ -23,15 +23,15 @@ use Rattle.rules.specs.Call.{Left, lengthsFor, insertedNo}
 use Rattle.rules.specs.Insert.{splitting, rootSplits, newPages, tooHigh, tooSoon, noRoom, putCert, changed, Making, making, split, insertRefused, insertDone, insertAlong, insertKey, insert}
 use Rattle.rules.specs.declared.Session.{Session}
 use Rattle.rules.specs.declared.Inserted.{Inserted}
-use Rattle.rules.proofs.Tests.{fails, mem-nil, mem-cases, mem-index, distinct-left, or-none, and-other}
-use Rattle.rules.proofs.All.{All, all-at, all-map, all-take}
-use Rattle.rules.proofs.Numbers.{FreePage, all-freePages, distinct-freePages}
-use Rattle.rules.proofs.Views.{Shaped, shaped-read, shaped-putCert, leaf-same}
-use Rattle.rules.proofs.Puts.{length-put-le}
-use Rattle.rules.proofs.Halves.{room}
-use Rattle.rules.proofs.Pages.{room-pageBytes}
-use Rattle.rules.proofs.Tables.{Has, Room, has-page, length-change, pageAt-change-other}
-use Rattle.rules.proofs.Lengths.{Tables, lengthsFor-true}
+use Rattle.rules.proofs.entries.Tests.{fails, mem-nil, mem-cases, mem-index, distinct-left, or-none, and-other}
+use Rattle.rules.proofs.bytes.All.{All, all-at, all-map, all-take}
+use Rattle.rules.proofs.bytes.Numbers.{FreePage, all-freePages, distinct-freePages}
+use Rattle.rules.proofs.entries.Views.{Shaped, shaped-read, shaped-putCert, leaf-same}
+use Rattle.rules.proofs.entries.Puts.{length-put-le}
+use Rattle.rules.proofs.entries.Halves.{room}
+use Rattle.rules.proofs.bytes.Pages.{room-pageBytes}
+use Rattle.rules.proofs.bytes.Tables.{Has, Room, has-page, length-change, pageAt-change-other}
+use Rattle.rules.proofs.bytes.Lengths.{Tables, lengthsFor-true}
 use Rattle.way.proofs.Stood.{way-stands}
 use Rattle.apply.specs.Leads.{Whole, Leads, Fresh, Chosen}
 use Rattle.apply.proofs.Going.{Gone, apart-by}

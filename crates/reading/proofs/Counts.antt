@@ -16,10 +16,10 @@ use Rattle.rules.specs.Place.{kids, pick}
 use Rattle.rules.specs.Walk.{Step}
 use Rattle.rules.specs.Insert.{full, rootSplits, newPages, tooHigh}
 use Rattle.rules.specs.declared.Place.{Place}
-use Rattle.rules.proofs.Tests.{fails}
-use Rattle.rules.proofs.Views.{Shaped, shaped-read}
-use Rattle.rules.proofs.Asks.{pick-leaf, kids-pick, kids-want}
-use Rattle.rules.proofs.Plans.{rootSplits-full}
+use Rattle.rules.proofs.entries.Tests.{fails}
+use Rattle.rules.proofs.entries.Views.{Shaped, shaped-read}
+use Rattle.rules.proofs.entries.Asks.{pick-leaf, kids-pick, kids-want}
+use Rattle.rules.proofs.demand3.steps.Plans.{rootSplits-full}
 use Rattle.apply.specs.Leads.{Stands, Leads}
 use Rattle.apply.proofs.Whole.{root-splits}
 use Rattle.reading.specs.Inserting.{few}

@@ -11,7 +11,7 @@ use Rattle.rules.specs.Walk.{Walked}
 use Rattle.rules.specs.Call.{lengthsFor}
 use Rattle.rules.specs.List.{upFrom, recordsOf, listRefused, listDone, listFrom, list}
 use Rattle.rules.specs.declared.Session.{Session}
-use Rattle.rules.proofs.WalkSteps.{walk-none}
+use Rattle.rules.proofs.demand1.WalkSteps.{walk-none}
 use Rattle.reading.specs.Leaving.{NothingListed, EmptyList}
 
 from-none : (s : Session) (w t : List ℕ) (start : ℕ) (ks xs : List ℕ) → min (length ks) (length xs) ≡ 0

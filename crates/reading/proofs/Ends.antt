@@ -14,11 +14,11 @@ use Rattle.rules.specs.Enter.{enter}
 use Rattle.rules.specs.Walk.{Step, Way, numbers, certsAt, descend, wayOf}
 use Rattle.rules.specs.Tree.{tree, treeOf}
 use Rattle.rules.specs.declared.Place.{Place}
-use Rattle.rules.proofs.Views.{inner-kind}
-use Rattle.rules.proofs.Ways.{Node}
-use Rattle.rules.proofs.Kids.{shown-kind, kid-some}
-use Rattle.rules.proofs.Nodes.{node-root, node-range, node-below, kid-kind}
-use Rattle.rules.proofs.Enters.{AllHigher, none-higher, more-higher}
+use Rattle.rules.proofs.entries.Views.{inner-kind}
+use Rattle.rules.proofs.demand3.ways.Ways.{Node}
+use Rattle.rules.proofs.demand3.ways.Kids.{shown-kind, kid-some}
+use Rattle.rules.proofs.demand3.ways.Nodes.{node-root, node-range, node-below, kid-kind}
+use Rattle.rules.proofs.demand3.reads.Enters.{AllHigher, none-higher, more-higher}
 use Rattle.reading.proofs.Soundly.{Passing, Shows, shows-itself, Seen, enter-seen}
 use Rattle.reading.proofs.TreeCerts.{leaf-certs, finds-below}
 use Rattle.reading.proofs.Gathers.{apart}

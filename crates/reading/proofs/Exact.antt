@@ -19,9 +19,9 @@ use Rattle.rules.specs.Lookup.{foundIn, lookupLeft, lookupKey, lookup}
 use Rattle.rules.specs.declared.Place.{Place}
 use Rattle.rules.specs.declared.Session.{Session}
 use Rattle.rules.specs.declared.Looked.{Looked}
-use Rattle.rules.proofs.Keys.{modelOf-keyOf, serialOf-keyOf, issueOf-keyOf}
-use Rattle.rules.proofs.Entries.{find-head, find-tail}
-use Rattle.rules.proofs.Views.{Shaped, shaped-read, shaped-cut}
+use Rattle.rules.proofs.bytes.Keys.{modelOf-keyOf, serialOf-keyOf, issueOf-keyOf}
+use Rattle.rules.proofs.entries.Entries.{find-head, find-tail}
+use Rattle.rules.proofs.entries.Views.{Shaped, shaped-read, shaped-cut}
 use Rattle.enter.proofs.Stands.{Comes, stood, mends, stops, comes}
 use Rattle.reading.specs.Reading.{LookupExact}
 

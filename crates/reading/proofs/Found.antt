@@ -19,17 +19,17 @@ use Rattle.rules.specs.Enter.{Entered, enter}
 use Rattle.rules.specs.Walk.{Step, numbers, certsAt, descend, wayOf}
 use Rattle.rules.specs.Insert.{putCert, changed, Making}
 use Rattle.rules.specs.declared.Place.{Place}
-use Rattle.rules.proofs.Tests.{every-of, between-of}
-use Rattle.rules.proofs.Views.{Shaped, shaped-read}
-use Rattle.rules.proofs.Places.{Fits, fits-of, putCert-fits}
-use Rattle.rules.proofs.Asks.{pick-leaf}
-use Rattle.rules.proofs.Puts.{find-put-same}
-use Rattle.rules.proofs.Halves.{room}
-use Rattle.rules.proofs.EntryBytes.{WideCert}
-use Rattle.rules.proofs.Pages.{Wide, wide-touch}
-use Rattle.rules.proofs.Widths.{wide-putCert}
-use Rattle.rules.proofs.Tables.{wide-read, read-change-same, read-change-other}
-use Rattle.rules.proofs.PageZero.{Same0, rootPlace-same, same0-change}
+use Rattle.rules.proofs.entries.Tests.{every-of, between-of}
+use Rattle.rules.proofs.entries.Views.{Shaped, shaped-read}
+use Rattle.rules.proofs.entries.Places.{Fits, fits-of, putCert-fits}
+use Rattle.rules.proofs.entries.Asks.{pick-leaf}
+use Rattle.rules.proofs.entries.Puts.{find-put-same}
+use Rattle.rules.proofs.entries.Halves.{room}
+use Rattle.rules.proofs.bytes.EntryBytes.{WideCert}
+use Rattle.rules.proofs.bytes.Pages.{Wide, wide-touch}
+use Rattle.rules.proofs.bytes.Widths.{wide-putCert}
+use Rattle.rules.proofs.bytes.Tables.{wide-read, read-change-same, read-change-other}
+use Rattle.rules.proofs.bytes.PageZero.{Same0, rootPlace-same, same0-change}
 use Rattle.apply.specs.Leads.{Stands, Leads}
 use Rattle.apply.proofs.Going.{Gone, leads-first}
 use Rattle.reading.proofs.Changes.{leaf-at, room-at, has-at}

@@ -21,10 +21,10 @@ use Rattle.rules.specs.Lookup.{foundIn, lookupLeft, lookupKey, lookup}
 use Rattle.rules.specs.declared.Session.{Session}
 use Rattle.rules.specs.declared.Inserted.{Inserted}
 use Rattle.rules.specs.declared.Looked.{Looked}
-use Rattle.rules.proofs.Keys.{goodKey-keyOf}
-use Rattle.rules.proofs.Lengths.{Tables, tables-lengthsFor}
-use Rattle.rules.proofs.Tests.{every-true}
-use Rattle.rules.proofs.PageZero.{Same0, same0, rootPlace-same}
+use Rattle.rules.proofs.bytes.Keys.{goodKey-keyOf}
+use Rattle.rules.proofs.bytes.Lengths.{Tables, tables-lengthsFor}
+use Rattle.rules.proofs.entries.Tests.{every-true}
+use Rattle.rules.proofs.bytes.PageZero.{Same0, same0, rootPlace-same}
 use Rattle.apply.specs.Leads.{Leads}
 use Rattle.apply.proofs.Going.{Gone}
 use Rattle.reading.specs.Leaving.{askedFor, Typed}

@@ -21,14 +21,14 @@ use Rattle.rules.specs.Walk.{Walked, enters, finds, walkEach, walk, walkOf}
 use Rattle.rules.specs.Tree.{empty, join, treeEach, tree, treeOf}
 use Rattle.rules.specs.declared.Asked.{Asked}
 use Rattle.rules.specs.declared.Place.{Place}
-use Rattle.rules.proofs.Tests.{not-both, fails, all-mem, between-low, between-high, between-below, between-above}
-use Rattle.rules.proofs.Entries.{cut-nil, cut-none, cut-append}
-use Rattle.rules.proofs.Ways.{Node}
-use Rattle.rules.proofs.WalkSteps.{walk-past, walk-entered}
-use Rattle.rules.proofs.Kids.{shown-kind}
-use Rattle.rules.proofs.Nodes.{node-root, kid-kind}
-use Rattle.rules.proofs.Opens.{kid-node}
-use Rattle.rules.proofs.Enters.{Higher, AllHigher, none-higher, more-higher}
+use Rattle.rules.proofs.entries.Tests.{not-both, fails, all-mem, between-low, between-high, between-below, between-above}
+use Rattle.rules.proofs.entries.Entries.{cut-nil, cut-none, cut-append}
+use Rattle.rules.proofs.demand3.ways.Ways.{Node}
+use Rattle.rules.proofs.demand1.WalkSteps.{walk-past, walk-entered}
+use Rattle.rules.proofs.demand3.ways.Kids.{shown-kind}
+use Rattle.rules.proofs.demand3.ways.Nodes.{node-root, kid-kind}
+use Rattle.rules.proofs.demand3.epochs.Opens.{kid-node}
+use Rattle.rules.proofs.demand3.reads.Enters.{Higher, AllHigher, none-higher, more-higher}
 use Rattle.reading.proofs.Soundly.{Passing, Shows, shows-itself, Seen, enter-seen}
 use Rattle.reading.proofs.TreeCerts.{certs-here, orders}
 

@@ -2,12 +2,12 @@
 use Prim.Native.Nat.{ℕ}
 use native.Mathlib.Omega.{arith}
 use Rattle.rules.specs.History.{State, run, start}
-use Rattle.rules.proofs.Epochs.{working-good}
-use Rattle.rules.proofs.Opens.{good-tree}
-use Rattle.rules.proofs.Syncs.{lengths-for}
-use Rattle.rules.proofs.Fates.{Alive, Fate, alive, over}
-use Rattle.rules.proofs.Ended.{no-pages}
-use Rattle.rules.proofs.Histories.{fate-start, fate-run}
+use Rattle.rules.proofs.demand3.epochs.Epochs.{working-good}
+use Rattle.rules.proofs.demand3.epochs.Opens.{good-tree}
+use Rattle.rules.proofs.demand3.epochs.Syncs.{lengths-for}
+use Rattle.rules.proofs.demand3.histories.Fates.{Alive, Fate, alive, over}
+use Rattle.rules.proofs.demand3.histories.Ended.{no-pages}
+use Rattle.rules.proofs.demand3.histories.Histories.{fate-start, fate-run}
 use Rattle.reading.specs.Agreeing.{Passes, AgreeIn, ReadersAgree, HistoriesAgree}
 use Rattle.reading.proofs.Agrees.{readers-agree}
 

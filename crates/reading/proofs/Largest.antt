@@ -13,9 +13,9 @@ use Rattle.rules.specs.Entry.{Cert, keys, find, cut, risesFrom, rising}
 use Rattle.rules.specs.Newest.{meter, newestIn}
 use Rattle.rules.specs.declared.Asked.{Asked}
 use Rattle.rules.specs.declared.Newest.{Newest}
-use Rattle.rules.proofs.Tests.{all-head, all-tail, all-imp, all-mem, between-wider, between-of, between-low, between-high}
-use Rattle.rules.proofs.Rises.{rises-head, rises-tail, rises-mem, rising-from, rising-tail, length-keys}
-use Rattle.rules.proofs.Entries.{find-head, find-tail, mem-find, find-cut, cut-within, cut-rising}
+use Rattle.rules.proofs.entries.Tests.{all-head, all-tail, all-imp, all-mem, between-wider, between-of, between-low, between-high}
+use Rattle.rules.proofs.entries.Rises.{rises-head, rises-tail, rises-mem, rising-from, rising-tail, length-keys}
+use Rattle.rules.proofs.entries.Entries.{find-head, find-tail, mem-find, find-cut, cut-within, cut-rising}
 use Rattle.reading.specs.Agreeing.{Largest, found, missing}
 use Rattle.reading.proofs.Gathers.{gather}
 

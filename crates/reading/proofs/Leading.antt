@@ -15,10 +15,10 @@ use Rattle.rules.specs.Place.{rootPlace, kids, pick}
 use Rattle.rules.specs.Enter.{enter}
 use Rattle.rules.specs.Walk.{Step, numbers, descend, wayOf}
 use Rattle.rules.specs.declared.Place.{Place}
-use Rattle.rules.proofs.Tests.{mem-head, mem-tail}
-use Rattle.rules.proofs.Asks.{kids-pick, kids-names}
-use Rattle.rules.proofs.PageZero.{root-previous}
-use Rattle.rules.proofs.WalkSteps.{enter-apart}
+use Rattle.rules.proofs.entries.Tests.{mem-head, mem-tail}
+use Rattle.rules.proofs.entries.Asks.{kids-pick, kids-names}
+use Rattle.rules.proofs.bytes.PageZero.{root-previous}
+use Rattle.rules.proofs.demand1.WalkSteps.{enter-apart}
 use Rattle.way.proofs.Stood.{Ready, ready-root, ready-stays, ready-next, stood-here}
 use Rattle.apply.specs.Leads.{Stands, Leads}
 use Rattle.apply.proofs.Going.{stands-still}

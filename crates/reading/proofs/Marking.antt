@@ -14,10 +14,10 @@ use Rattle.rules.specs.Walk.{Step, numbers}
 use Rattle.rules.specs.Marks.{taken, freePages}
 use Rattle.rules.specs.Insert.{full, newPages, heirs, retire, Making, making, grow, halve, split, insertDone}
 use Rattle.rules.specs.declared.Session.{Session}
-use Rattle.rules.proofs.Tests.{mem-nil, mem-cases}
-use Rattle.rules.proofs.Retire.{retire-n}
-use Rattle.rules.proofs.Marked.{free-taken-same, free-taken-other, free-freed-other, waiting-waits-other}
-use Rattle.rules.proofs.SplitWay.{split-one, split-more, split-none}
+use Rattle.rules.proofs.entries.Tests.{mem-nil, mem-cases}
+use Rattle.rules.proofs.demand3.steps.Retire.{retire-n}
+use Rattle.rules.proofs.bytes.Marked.{free-taken-same, free-taken-other, free-freed-other, waiting-waits-other}
+use Rattle.rules.proofs.demand3.steps.SplitWay.{split-one, split-more, split-none}
 use Rattle.apply.proofs.Going.{mem-rest, mem-not}
 use Rattle.reading.specs.Inserting.{SameMarks}
 use Rattle.reading.proofs.Splitting.{pages-root, pages-stay, pages-below}

@@ -20,12 +20,12 @@ use Rattle.rules.specs.Open.{opening, openRefused}
 use Rattle.rules.specs.declared.Asked.{Asked}
 use Rattle.rules.specs.declared.Place.{Place}
 use Rattle.rules.specs.declared.Opened.{Opened}
-use Rattle.rules.proofs.Tests.{and-left, and-right}
-use Rattle.rules.proofs.Entries.{cut-all}
-use Rattle.rules.proofs.Lengths.{pages-of, goodLengths-true}
-use Rattle.rules.proofs.Ways.{Node}
-use Rattle.rules.proofs.Nodes.{node-root}
-use Rattle.rules.proofs.Opens.{kid-node}
+use Rattle.rules.proofs.entries.Tests.{and-left, and-right}
+use Rattle.rules.proofs.entries.Entries.{cut-all}
+use Rattle.rules.proofs.bytes.Lengths.{pages-of, goodLengths-true}
+use Rattle.rules.proofs.demand3.ways.Ways.{Node}
+use Rattle.rules.proofs.demand3.ways.Nodes.{node-root}
+use Rattle.rules.proofs.demand3.epochs.Opens.{kid-node}
 use Rattle.reading.specs.Entering.{InTree, at-root, below, EnteredFrom, none-yet, one-more, Gives, Alike, OpeningEnters}
 use Rattle.reading.proofs.Soundly.{Passing, Shows, shows-itself, enter-seen}
 use Rattle.reading.proofs.TreeCerts.{all-ordered}

@@ -13,13 +13,13 @@ use Rattle.rules.specs.Table.{fit0, root0}
 use Rattle.rules.specs.Place.{rootPlace, kids, pick, show}
 use Rattle.rules.specs.Tree.{Tree, broken, join, sparedAt, here, treeEach, tree, treeOf, goodTree}
 use Rattle.rules.specs.declared.Place.{Place}
-use Rattle.rules.proofs.Tests.{and-left, and-right, every-true, between-low, between-high, mem-head, mem-tail, mem-left, mem-right, all-mem, not-both, distinct-head, distinct-tail, distinct-left, distinct-right, distinct-apart}
-use Rattle.rules.proofs.Picks.{pick-mem}
-use Rattle.rules.proofs.PageZero.{root-previous}
-use Rattle.rules.proofs.Ways.{at, Node, Lost, Undamaged}
-use Rattle.rules.proofs.Invariant.{Rooted, Good}
-use Rattle.rules.proofs.Nodes.{above, at-root}
-use Rattle.rules.proofs.Opens.{tree-shown, spared-lost}
+use Rattle.rules.proofs.entries.Tests.{and-left, and-right, every-true, between-low, between-high, mem-head, mem-tail, mem-left, mem-right, all-mem, not-both, distinct-head, distinct-tail, distinct-left, distinct-right, distinct-apart}
+use Rattle.rules.proofs.entries.Picks.{pick-mem}
+use Rattle.rules.proofs.bytes.PageZero.{root-previous}
+use Rattle.rules.proofs.demand3.ways.Ways.{at, Node, Lost, Undamaged}
+use Rattle.rules.proofs.demand3.ways.Invariant.{Rooted, Good}
+use Rattle.rules.proofs.demand3.ways.Nodes.{above, at-root}
+use Rattle.rules.proofs.demand3.epochs.Opens.{tree-shown, spared-lost}
 
 -- ── From a place down, first step first ─────────────────────────────────────────────────────────────────────────
 

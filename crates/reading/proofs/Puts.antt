@@ -16,11 +16,11 @@ use Rattle.rules.specs.Call.{lookedNo}
 use Rattle.rules.specs.Lookup.{lookup}
 use Rattle.rules.specs.History.{inserts, State, afterInsert, step, run, start, Typed}
 use Rattle.rules.specs.declared.Looked.{Looked}
-use Rattle.rules.proofs.Keys.{keyOf-parts, modelOf-bound, serialOf-bound, issueOf-bound}
-use Rattle.rules.proofs.Tests.{not-both, between-above}
-use Rattle.rules.proofs.Rises.{rising-from, rising-tail}
-use Rattle.rules.proofs.Entries.{find-head, find-tail, find-below, find-outside, all-find}
-use Rattle.rules.proofs.Puts.{find-put-same, find-put-other, put-rising}
+use Rattle.rules.proofs.bytes.Keys.{keyOf-parts, modelOf-bound, serialOf-bound, issueOf-bound}
+use Rattle.rules.proofs.entries.Tests.{not-both, between-above}
+use Rattle.rules.proofs.entries.Rises.{rising-from, rising-tail}
+use Rattle.rules.proofs.entries.Entries.{find-head, find-tail, find-below, find-outside, all-find}
+use Rattle.rules.proofs.entries.Puts.{find-put-same, find-put-other, put-rising}
 use Rattle.reading.specs.Inserting.{InsertAdds}
 use Rattle.reading.specs.Agreeing.{held, Passes, answerFor, AgreeIn, HistoriesAgree, InsertPuts}
 use Rattle.reading.proofs.FoundThen.{done-good}

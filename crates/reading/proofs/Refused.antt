@@ -18,8 +18,8 @@ use Rattle.rules.specs.Lookup.{lookupLeft, lookupKey, lookup}
 use Rattle.rules.specs.declared.Session.{Session}
 use Rattle.rules.specs.declared.Inserted.{Inserted}
 use Rattle.rules.specs.declared.Looked.{Looked}
-use Rattle.rules.proofs.Keys.{keyOf-bound}
-use Rattle.rules.proofs.Lengths.{lengthsFor-true}
+use Rattle.rules.proofs.bytes.Keys.{keyOf-bound}
+use Rattle.rules.proofs.bytes.Lengths.{lengthsFor-true}
 use Rattle.reading.specs.Leaving.{as-it-was, OnlyWay, Typed, InsertRefused, LookupLeaves}
 use Rattle.reading.proofs.WayLeft.{way-left}
 

@@ -10,11 +10,11 @@ use Rattle.rules.specs.Page.{View}
 use Rattle.rules.specs.Place.{rootPlace, kids, show}
 use Rattle.rules.specs.Tree.{Tree, empty, join, here, treeEach, tree, treeOf}
 use Rattle.rules.specs.declared.Place.{Place}
-use Rattle.rules.proofs.Ways.{Node}
-use Rattle.rules.proofs.Invariant.{Good}
-use Rattle.rules.proofs.Nodes.{node-root}
-use Rattle.rules.proofs.Opens.{tree-shown, kid-node}
-use Rattle.rules.proofs.Mended.{Steady}
+use Rattle.rules.proofs.demand3.ways.Ways.{Node}
+use Rattle.rules.proofs.demand3.ways.Invariant.{Good}
+use Rattle.rules.proofs.demand3.ways.Nodes.{node-root}
+use Rattle.rules.proofs.demand3.epochs.Opens.{tree-shown, kid-node}
+use Rattle.rules.proofs.demand3.steps.Mended.{Steady}
 
 each-same : (f g : Place → Tree) (es : List Place) → ((d : Place) → List·Memᴰ d es → f d .certs ≡ g d .certs)
     → treeEach f es .certs ≡ treeEach g es .certs

@@ -20,23 +20,23 @@ use Rattle.rules.specs.Table.{read, build, birth0}
 use Rattle.rules.specs.Place.{rootPlace, fits, mended, cutView, show}
 use Rattle.rules.specs.Enter.{Entered, mend, enter}
 use Rattle.rules.specs.declared.Place.{Place}
-use Rattle.rules.proofs.All.{All, nil, cons, all-cut}
-use Rattle.rules.proofs.EntryBytes.{WideChild}
-use Rattle.rules.proofs.Entries.{find-head, find-tail}
-use Rattle.rules.proofs.Tests.{fails}
-use Rattle.rules.proofs.Tables.{Has, Room, has-page, wide-read, length-build, bytes-build, read-build-other}
-use Rattle.rules.proofs.PageZero.{rootPlace-same, same0-build}
-use Rattle.rules.proofs.Places.{fits-of, Mendable, mendable-of, mended-fits, Shown, fitting, lost, show-some, shows-mended}
-use Rattle.rules.proofs.Picks.{belowOf}
-use Rattle.rules.proofs.Asks.{kids-pick}
-use Rattle.rules.proofs.Ways.{at, under, Node, Found, Lost, Undamaged}
-use Rattle.rules.proofs.Invariant.{Good}
-use Rattle.rules.proofs.Sources.{show-found}
-use Rattle.rules.proofs.Kids.{sound-here}
-use Rattle.rules.proofs.Nodes.{above, at-root, at-range, node-page, node-range}
-use Rattle.rules.proofs.Mix.{show-as}
-use Rattle.rules.proofs.Touch.{at-goes}
-use Rattle.rules.proofs.Mended.{Steady, steady-same, steady-node, steady-back, steady-found, steady-then, node-last}
+use Rattle.rules.proofs.bytes.All.{All, nil, cons, all-cut}
+use Rattle.rules.proofs.bytes.EntryBytes.{WideChild}
+use Rattle.rules.proofs.entries.Entries.{find-head, find-tail}
+use Rattle.rules.proofs.entries.Tests.{fails}
+use Rattle.rules.proofs.bytes.Tables.{Has, Room, has-page, wide-read, length-build, bytes-build, read-build-other}
+use Rattle.rules.proofs.bytes.PageZero.{rootPlace-same, same0-build}
+use Rattle.rules.proofs.entries.Places.{fits-of, Mendable, mendable-of, mended-fits, Shown, fitting, lost, show-some, shows-mended}
+use Rattle.rules.proofs.entries.Picks.{belowOf}
+use Rattle.rules.proofs.entries.Asks.{kids-pick}
+use Rattle.rules.proofs.demand3.ways.Ways.{at, under, Node, Found, Lost, Undamaged}
+use Rattle.rules.proofs.demand3.ways.Invariant.{Good}
+use Rattle.rules.proofs.demand3.ways.Sources.{show-found}
+use Rattle.rules.proofs.demand3.ways.Kids.{sound-here}
+use Rattle.rules.proofs.demand3.ways.Nodes.{above, at-root, at-range, node-page, node-range}
+use Rattle.rules.proofs.demand3.mix.Mix.{show-as}
+use Rattle.rules.proofs.demand3.steps.Touch.{at-goes}
+use Rattle.rules.proofs.demand3.steps.Mended.{Steady, steady-same, steady-node, steady-back, steady-found, steady-then, node-last}
 use Rattle.enter.proofs.Mended.{Narrow, room-mended, read-mended}
 
 -- a table of n pages whose tree passes opening's tests, and a counter

@@ -17,21 +17,21 @@ use Rattle.rules.specs.Walk.{Step, numbers}
 use Rattle.rules.specs.Insert.{full, newChild, rootOver, rootPrevious, Making, making, grow, halve, split}
 use Rattle.rules.specs.declared.Place.{Place}
 use Rattle.rules.specs.declared.Session.{Session}
-use Rattle.rules.proofs.Tests.{mem-nil, mem-cases, mem-head, distinct-head, distinct-tail}
-use Rattle.rules.proofs.All.{nil, cons, all-head, all-tail}
-use Rattle.rules.proofs.Sounds.{Sound}
-use Rattle.rules.proofs.SplitWay.{split-one, split-more, split-none}
-use Rattle.rules.proofs.Places.{Fits}
-use Rattle.rules.proofs.Plans.{newPages-full}
-use Rattle.rules.proofs.Picks.{belowOf, placeFor, pick-here}
-use Rattle.rules.proofs.Halves.{rootOver-sound, rootOver-shaped, rootOver-fits}
-use Rattle.rules.proofs.Twins.{kids-rootOver}
-use Rattle.rules.proofs.Pages.{Wide, wide-fresh}
-use Rattle.rules.proofs.Widths.{wide-newChild}
-use Rattle.rules.proofs.Tables.{Has, has-page, wide-read}
-use Rattle.rules.proofs.PageZero.{Same0, same0-build, length-setRoot, kind0-setRoot, n0-setRoot, rootPlace-setRoot}
-use Rattle.rules.proofs.Writes.{room-of}
-use Rattle.rules.proofs.Grow.{rootPrevious-below}
+use Rattle.rules.proofs.entries.Tests.{mem-nil, mem-cases, mem-head, distinct-head, distinct-tail}
+use Rattle.rules.proofs.bytes.All.{nil, cons, all-head, all-tail}
+use Rattle.rules.proofs.entries.Sounds.{Sound}
+use Rattle.rules.proofs.demand3.steps.SplitWay.{split-one, split-more, split-none}
+use Rattle.rules.proofs.entries.Places.{Fits}
+use Rattle.rules.proofs.demand3.steps.Plans.{newPages-full}
+use Rattle.rules.proofs.entries.Picks.{belowOf, placeFor, pick-here}
+use Rattle.rules.proofs.entries.Halves.{rootOver-sound, rootOver-shaped, rootOver-fits}
+use Rattle.rules.proofs.entries.Twins.{kids-rootOver}
+use Rattle.rules.proofs.bytes.Pages.{Wide, wide-fresh}
+use Rattle.rules.proofs.bytes.Widths.{wide-newChild}
+use Rattle.rules.proofs.bytes.Tables.{Has, has-page, wide-read}
+use Rattle.rules.proofs.bytes.PageZero.{Same0, same0-build, length-setRoot, kind0-setRoot, n0-setRoot, rootPlace-setRoot}
+use Rattle.rules.proofs.demand3.steps.Writes.{room-of}
+use Rattle.rules.proofs.demand3.steps.Grow.{rootPrevious-below}
 use Rattle.apply.specs.Leads.{Whole, Stands, Leads, Chosen}
 use Rattle.apply.proofs.Going.{Gone, mem-rest, chosen-above, leads-first}
 use Rattle.apply.proofs.Splits.{stands-below, sites}

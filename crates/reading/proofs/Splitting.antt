@@ -15,11 +15,11 @@ use Rattle.rules.specs.Table.{pageAt}
 use Rattle.rules.specs.Walk.{Step, numbers}
 use Rattle.rules.specs.Insert.{full, splitting, rootSplits, newPages, Making, making, grow, halve, split}
 use Rattle.rules.specs.declared.Session.{Session}
-use Rattle.rules.proofs.Tests.{not-both}
-use Rattle.rules.proofs.All.{all-head, all-tail}
-use Rattle.rules.proofs.Tables.{Has, has-page}
-use Rattle.rules.proofs.Plans.{rootSplits-full, newPages-full, newPages-none}
-use Rattle.rules.proofs.SplitWay.{split-one, split-more, split-none}
+use Rattle.rules.proofs.entries.Tests.{not-both}
+use Rattle.rules.proofs.bytes.All.{all-head, all-tail}
+use Rattle.rules.proofs.bytes.Tables.{Has, has-page}
+use Rattle.rules.proofs.demand3.steps.Plans.{rootSplits-full, newPages-full, newPages-none}
+use Rattle.rules.proofs.demand3.steps.SplitWay.{split-one, split-more, split-none}
 use Rattle.apply.specs.Leads.{Whole, Leads, Chosen}
 use Rattle.apply.proofs.Going.{Gone, apart-by, mem-rest, mem-not, chosen-above}
 use Rattle.apply.proofs.Whole.{root-splits, split-gone}

@@ -14,19 +14,19 @@ use Rattle.rules.specs.Page.{View, isLeaf}
 use Rattle.rules.specs.Place.{rootPlace, highBefore, placeOf, placesIn, kids, pick, show}
 use Rattle.rules.specs.Tree.{Tree, empty, join, here, treeEach, tree, treeOf}
 use Rattle.rules.specs.declared.Place.{Place}
-use Rattle.rules.proofs.Tests.{fails, all-nil, all-append, all-imp, all-mem, between-low, between-high, between-below, between-wider}
-use Rattle.rules.proofs.Rises.{rises-mem, rising-nil, rising-from, rising-append, keys-append}
-use Rattle.rules.proofs.Entries.{find-outside, find-append-left, find-append-right}
-use Rattle.rules.proofs.Views.{Shaped, leaf-kind}
-use Rattle.rules.proofs.Sounds.{Sound}
-use Rattle.rules.proofs.Places.{show-some, shown-shaped}
-use Rattle.rules.proofs.Picks.{Rising, rising-rest, kid-key, kid-rise, places-kids, pick-here, pick-later}
-use Rattle.rules.proofs.Asks.{pick-leaf, kids-rising}
-use Rattle.rules.proofs.Ways.{Node}
-use Rattle.rules.proofs.Invariant.{Good}
-use Rattle.rules.proofs.Kids.{shown-kind, sound-here, kid-within, leaf-kids}
-use Rattle.rules.proofs.Nodes.{node-root, node-range, kid-kind}
-use Rattle.rules.proofs.Opens.{tree-shown, kid-node}
+use Rattle.rules.proofs.entries.Tests.{fails, all-nil, all-append, all-imp, all-mem, between-low, between-high, between-below, between-wider}
+use Rattle.rules.proofs.entries.Rises.{rises-mem, rising-nil, rising-from, rising-append, keys-append}
+use Rattle.rules.proofs.entries.Entries.{find-outside, find-append-left, find-append-right}
+use Rattle.rules.proofs.entries.Views.{Shaped, leaf-kind}
+use Rattle.rules.proofs.entries.Sounds.{Sound}
+use Rattle.rules.proofs.entries.Places.{show-some, shown-shaped}
+use Rattle.rules.proofs.entries.Picks.{Rising, rising-rest, kid-key, kid-rise, places-kids, pick-here, pick-later}
+use Rattle.rules.proofs.entries.Asks.{pick-leaf, kids-rising}
+use Rattle.rules.proofs.demand3.ways.Ways.{Node}
+use Rattle.rules.proofs.demand3.ways.Invariant.{Good}
+use Rattle.rules.proofs.demand3.ways.Kids.{shown-kind, sound-here, kid-within, leaf-kids}
+use Rattle.rules.proofs.demand3.ways.Nodes.{node-root, node-range, kid-kind}
+use Rattle.rules.proofs.demand3.epochs.Opens.{tree-shown, kid-node}
 
 -- ── Certificates in order within a range ────────────────────────────────────────────────────────────────────────
 

@@ -15,12 +15,12 @@ use Rattle.rules.specs.Place.{kids, pick, fits, mendable, mended}
 use Rattle.rules.specs.Enter.{Entered, mend, enter}
 use Rattle.rules.specs.Walk.{Step, numbers}
 use Rattle.rules.specs.declared.Place.{Place}
-use Rattle.rules.proofs.Tests.{not-both, fails, mem-nil, mem-head, mem-tail, mem-cases}
-use Rattle.rules.proofs.All.{All, nil, cons}
-use Rattle.rules.proofs.Views.{Shaped, shaped-read}
-use Rattle.rules.proofs.Places.{mendable-true}
-use Rattle.rules.proofs.Asks.{pick-leaf, kids-pick, kids-want}
-use Rattle.rules.proofs.Tables.{has-page, pageAt-build-same, pageAt-build-other}
+use Rattle.rules.proofs.entries.Tests.{not-both, fails, mem-nil, mem-head, mem-tail, mem-cases}
+use Rattle.rules.proofs.bytes.All.{All, nil, cons}
+use Rattle.rules.proofs.entries.Views.{Shaped, shaped-read}
+use Rattle.rules.proofs.entries.Places.{mendable-true}
+use Rattle.rules.proofs.entries.Asks.{pick-leaf, kids-pick, kids-want}
+use Rattle.rules.proofs.bytes.Tables.{has-page, pageAt-build-same, pageAt-build-other}
 use Rattle.enter.proofs.Mended.{room-mended}
 use Rattle.way.proofs.Stood.{Ready, ready-stays, ready-next, Stood, stood-here}
 use Rattle.reading.specs.Leaving.{PageLeft, as-it-was, mended-for}

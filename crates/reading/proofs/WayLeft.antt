@@ -14,9 +14,9 @@ use Rattle.rules.specs.Place.{rootPlace, kids, pick}
 use Rattle.rules.specs.Enter.{Entered, enter}
 use Rattle.rules.specs.Walk.{Step, Way, numbers, descend, wayOf}
 use Rattle.rules.specs.declared.Place.{Place}
-use Rattle.rules.proofs.Tests.{not-both, fails, mem-nil, mem-head, mem-tail}
-use Rattle.rules.proofs.All.{nil}
-use Rattle.rules.proofs.WalkSteps.{descend-damaged, descend-ends, descend-below}
+use Rattle.rules.proofs.entries.Tests.{not-both, fails, mem-nil, mem-head, mem-tail}
+use Rattle.rules.proofs.bytes.All.{nil}
+use Rattle.rules.proofs.demand1.WalkSteps.{descend-damaged, descend-ends, descend-below}
 use Rattle.way.proofs.Stood.{ready-root, ready-long, ready-bytes}
 use Rattle.reading.specs.Leaving.{askedFrom, askedFor, PageLeft, as-it-was}
 use Rattle.reading.proofs.Turns.{Going, turn-others, ends-here, goes-on}

@@ -11,9 +11,9 @@ use Rattle.rules.specs.Page.{Page, pageIn, pageBytes, over, blank, buildBytes, 
 use Rattle.rules.specs.Table.{pageAt, setPage, read, build, change}
 use Rattle.rules.specs.Walk.{Step}
 use Rattle.rules.specs.Insert.{lowerPage, upperPage, twins, rootOver, rootPrevious, changed, Making, grow, halve}
-use Rattle.rules.proofs.Pages.{Wide, length-blank, pageIn-buildBytes, pageIn-changeBytes}
-use Rattle.rules.proofs.Tables.{Has, length-pageAt, pageAt-setPage-same, pageAt-setPage-other}
-use Rattle.rules.proofs.PageZero.{length-setRoot, pageAt-setRoot}
+use Rattle.rules.proofs.bytes.Pages.{Wide, length-blank, pageIn-buildBytes, pageIn-changeBytes}
+use Rattle.rules.proofs.bytes.Tables.{Has, length-pageAt, pageAt-setPage-same, pageAt-setPage-other}
+use Rattle.rules.proofs.bytes.PageZero.{length-setRoot, pageAt-setRoot}
 
 -- ── One page ────────────────────────────────────────────────────────────────────────────────────────────────────
 

@@ -13,10 +13,10 @@ use Rattle.rules.specs.Test.{between}
 use Rattle.rules.specs.Entry.{Entry, Child, keys, find, rising}
 use Rattle.rules.specs.Place.{highBefore, placeOf, placesIn, pick}
 use Rattle.rules.specs.declared.Place.{Place}
-use Rattle.rules.proofs.Rises.{rises-head, rising-from, rising-tail, length-keys}
-use Rattle.rules.proofs.Entries.{find-tail, find-below, find-at}
-use Rattle.rules.proofs.Tests.{between-above}
-use Rattle.rules.proofs.Picks.{pick-here, pick-later}
+use Rattle.rules.proofs.entries.Rises.{rises-head, rising-from, rising-tail, length-keys}
+use Rattle.rules.proofs.entries.Entries.{find-tail, find-below, find-at}
+use Rattle.rules.proofs.entries.Tests.{between-above}
+use Rattle.rules.proofs.entries.Picks.{pick-here, pick-later}
 use Rattle.entries.specs.Spot.{spotOf}
 use Rattle.entries.proofs.Cut.{spot-cons, spot-first}
 use Rattle.entries.proofs.KeysIn.{spot-bound}

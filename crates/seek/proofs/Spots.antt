@@ -10,7 +10,7 @@ use lib.ListN.{length, getD}
 use Rattle.fields.specs.Field.{leAt}
 use Rattle.rules.specs.Layout.{headerSize}
 use Rattle.rules.specs.Entry.{rising}
-use Rattle.rules.proofs.Rises.{rising-tail, rising-at-le}
+use Rattle.rules.proofs.entries.Rises.{rising-tail, rising-at-le}
 use Rattle.entries.specs.Spot.{keysIn, spotOf}
 use Rattle.entries.proofs.Cut.{spot-cons, spot-first}
 use Rattle.entries.proofs.KeysIn.{length-keysIn, key-at, spot-bound}

@@ -11,9 +11,9 @@ use lib.ListN.{length, take, drop}
 use borrow.Author.Tests.{leb-true, leb-false, le-leb, lt-leb}
 use Rattle.rules.specs.Test.{mem}
 use Rattle.rules.specs.Entry.{Child, keys, cut, risesFrom, rising}
-use Rattle.rules.proofs.Tests.{between-of, between-below, between-above, mem-head, mem-tail, mem-cases}
-use Rattle.rules.proofs.Rises.{rises-mem, rising-from, rising-tail}
-use Rattle.rules.proofs.Entries.{cut-nil, cut-in, cut-out, cut-none}
+use Rattle.rules.proofs.entries.Tests.{between-of, between-below, between-above, mem-head, mem-tail, mem-cases}
+use Rattle.rules.proofs.entries.Rises.{rises-mem, rising-from, rising-tail}
+use Rattle.rules.proofs.entries.Entries.{cut-nil, cut-in, cut-out, cut-none}
 use Rattle.seen.specs.Run.{upTo, below}
 
 pub upTo-in : (k : ℕ) (x : Child) (xs : List Child) → x .key ≤ k → upTo k (x ∷ xs) ≡ suc (upTo k xs)

@@ -13,8 +13,8 @@ use Rattle.rules.specs.Page.{View, pageIn}
 use Rattle.rules.specs.Table.{pageAt, read}
 use Rattle.rules.specs.Place.{kids, cutView, placesIn}
 use Rattle.rules.specs.declared.Place.{Place}
-use Rattle.rules.proofs.Sounds.{Sound}
-use Rattle.rules.proofs.Entries.{cut-nil}
+use Rattle.rules.proofs.entries.Sounds.{Sound}
+use Rattle.rules.proofs.entries.Entries.{cut-nil}
 use Rattle.head.specs.declared.Head.{Head}
 use Rattle.head.specs.Head.{headIn}
 use Rattle.head.proofs.Headers.{view-leaf, view-inner, kind-view}

@@ -11,7 +11,7 @@ use lib.ListN.{length, getD, set, replicate, length-set, length-replicate}
 use lib.Seq.{getD-set-same, getD-set-other}
 use borrow.Author.Tests.{ltb-true, ltb-false, eqb-true, eqb-false, not-true}
 use Rattle.rules.specs.Test.{all, mem, distinct}
-use Rattle.rules.proofs.Tests.{and-left, and-right, and-of, fails, not-both, same-test, mem-nil, mem-head, mem-tail, mem-cases, all-mem, all-of-mem, distinct-nil, distinct-head, distinct-tail, distinct-cons}
+use Rattle.rules.proofs.entries.Tests.{and-left, and-right, and-of, fails, not-both, same-test, mem-nil, mem-head, mem-tail, mem-cases, all-mem, all-of-mem, distinct-nil, distinct-head, distinct-tail, distinct-cons}
 use Rattle.seen.specs.Note.{mark, unmarked, apart}
 use Rattle.seen.proofs.Beyond.{marked-beyond}
 

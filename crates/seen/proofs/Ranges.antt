@@ -14,10 +14,10 @@ use Rattle.rules.specs.Sound.{namesPages}
 use Rattle.rules.specs.Place.{fits, show, kids, cutView, placeOf, placesIn, highBefore}
 use Rattle.rules.specs.Tree.{Tree, broken, empty, join, sparedAt, here, treeEach, tree}
 use Rattle.rules.specs.declared.Place.{Place}
-use Rattle.rules.proofs.Tests.{mem-nil, mem-cases, mem-append-cases, all-head, all-tail}
-use Rattle.rules.proofs.Entries.{all-cut}
-use Rattle.rules.proofs.Sounds.{names-true}
-use Rattle.rules.proofs.Places.{Shown, fitting, lost, show-some, fits-of}
+use Rattle.rules.proofs.entries.Tests.{mem-nil, mem-cases, mem-append-cases, all-head, all-tail}
+use Rattle.rules.proofs.entries.Entries.{all-cut}
+use Rattle.rules.proofs.entries.Sounds.{names-true}
+use Rattle.rules.proofs.entries.Places.{Shown, fitting, lost, show-some, fits-of}
 
 pub record Within (n : ℕ) (x : Tree) : Type 0 where
   pub children : (i : ℕ) → mem i (x .children) ≡ true → i < n

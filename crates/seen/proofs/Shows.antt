@@ -14,9 +14,9 @@ use Rattle.rules.specs.Table.{read}
 use Rattle.rules.specs.Place.{fits, mendable, show, kids, cutView}
 use Rattle.rules.specs.Tree.{sparedAt}
 use Rattle.rules.specs.declared.Place.{Place}
-use Rattle.rules.proofs.Tests.{not-both}
-use Rattle.rules.proofs.Sounds.{sound-cut-all}
-use Rattle.rules.proofs.Places.{fits-true, mendable-true, show-fitting, show-lost, show-damaged}
+use Rattle.rules.proofs.entries.Tests.{not-both}
+use Rattle.rules.proofs.entries.Sounds.{sound-cut-all}
+use Rattle.rules.proofs.entries.Places.{fits-true, mendable-true, show-fitting, show-lost, show-damaged}
 use Rattle.sound.proofs.Fitting.{fits-beyond}
 use Rattle.seen.specs.declared.Run.{Run}
 use Rattle.seen.specs.declared.Shown.{Shown}

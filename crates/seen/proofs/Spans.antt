@@ -10,7 +10,7 @@ use Rattle.rules.specs.Page.{readEach, childIn}
 use Rattle.rules.specs.Table.{pageAt}
 use Rattle.rules.specs.Entry.{Child}
 use Rattle.rules.specs.Place.{highBefore, placeOf, placesIn}
-use Rattle.rules.proofs.Each.{length-readEach, take-readEach, drop-readEach}
+use Rattle.rules.proofs.bytes.Each.{length-readEach, take-readEach, drop-readEach}
 use Rattle.head.specs.Head.{childAt, nowhere}
 use Rattle.head.proofs.Kids.{kid-at}
 use Rattle.seen.specs.declared.Run.{Run}

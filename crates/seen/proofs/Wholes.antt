@@ -11,7 +11,7 @@ use Rattle.rules.specs.Test.{every, all, mem, distinct}
 use Rattle.rules.specs.Table.{root0, fit0}
 use Rattle.rules.specs.Place.{rootPlace}
 use Rattle.rules.specs.Tree.{Tree, treeOf, goodTree}
-use Rattle.rules.proofs.Tests.{every-true, between-low, between-high}
+use Rattle.rules.proofs.entries.Tests.{every-true, between-low, between-high}
 use Rattle.seen.specs.Note.{mark, note, nothing, apart, goodMarks}
 use Rattle.seen.proofs.Ranges.{Within, within-tree}
 use Rattle.seen.proofs.Members.{fresh-at, fresh-distinct, fresh-apart}

@@ -14,8 +14,8 @@ use Rattle.rules.specs.Test.{between, every, all}
 use Rattle.rules.specs.Entry.{Cert, Child, keys, rising}
 use Rattle.rules.specs.Page.{Page, isLeaf, readEach, certIn, childIn, pageIn}
 use Rattle.rules.specs.Sound.{startsAt, inOrder, sound}
-use Rattle.rules.proofs.Each.{length-readEach}
-use Rattle.rules.proofs.Tests.{between-of, between-below, between-above, every-true}
+use Rattle.rules.proofs.bytes.Each.{length-readEach}
+use Rattle.rules.proofs.entries.Tests.{between-of, between-below, between-above, every-true}
 use Rattle.head.specs.declared.Head.{Head}
 use Rattle.head.specs.Head.{headIn}
 use Rattle.head.proofs.Chain.{every-fails, every-last}

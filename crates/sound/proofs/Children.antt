@@ -12,7 +12,7 @@ use Rattle.rules.specs.Test.{between}
 use Rattle.rules.specs.Entry.{Child}
 use Rattle.rules.specs.Page.{readEach, childIn}
 use Rattle.rules.specs.Sound.{startsAt, namesPages}
-use Rattle.rules.proofs.Tests.{between-of, between-below, between-above}
+use Rattle.rules.proofs.entries.Tests.{between-of, between-below, between-above}
 use Rattle.sound.specs.Pass.{childrenPass}
 use Rattle.head.specs.Head.{childAt}
 use Rattle.head.proofs.Left.{left-all, left-more}

@@ -15,7 +15,7 @@ use Rattle.rules.specs.Page.{Page, isLeaf, readEach, childIn, viewIn, pageIn}
 use Rattle.rules.specs.Sound.{sound}
 use Rattle.rules.specs.Place.{kindAsked, mendable}
 use Rattle.rules.specs.declared.Place.{Place}
-use Rattle.rules.proofs.Tests.{between-of, between-below, between-above, between-low, between-high, and-left}
+use Rattle.rules.proofs.entries.Tests.{between-of, between-below, between-above, between-low, between-high, and-left}
 use Rattle.head.specs.declared.Head.{Head}
 use Rattle.head.specs.Head.{headIn}
 use Rattle.head.proofs.Chain.{every-fails, every-last}

@@ -10,7 +10,7 @@ use borrow.Author.Tests.{ltb-true, lt-ltb, leb-true, le-leb}
 use Rattle.rules.specs.Test.{between, all}
 use Rattle.rules.specs.Entry.{Entry, keys, risesFrom, rising}
 use Rattle.rules.specs.Sound.{inOrder}
-use Rattle.rules.proofs.Tests.{and-left, and-right, and-of, same-test, between-of, between-low, between-high, all-head, all-tail, all-nil, all-cons}
+use Rattle.rules.proofs.entries.Tests.{and-left, and-right, and-of, same-test, between-of, between-low, between-high, all-head, all-tail, all-nil, all-cons}
 
 -- what is left to test after an entry with the key `last`
 unfoldable pub risen : {B : Type 0} → (Entry B → Bool) → ℕ → ℕ → List (Entry B) → Bool

@@ -11,9 +11,9 @@ use Rattle.rules.specs.Marks.{taken}
 use Rattle.rules.specs.Insert.{divide, lowerHalf, upperHalf, lowerPage, upperPage, twins, changed, making, halve}
 use Rattle.rules.specs.declared.Place.{Place}
 use Rattle.rules.specs.declared.Session.{Session}
-use Rattle.rules.proofs.Views.{shaped-read, shaped-lower, shaped-upper}
-use Rattle.rules.proofs.Pages.{room-pageBytes}
-use Rattle.rules.proofs.Tables.{Room, read-build-other}
+use Rattle.rules.proofs.entries.Views.{shaped-read, shaped-lower, shaped-upper}
+use Rattle.rules.proofs.bytes.Pages.{room-pageBytes}
+use Rattle.rules.proofs.bytes.Tables.{Room, read-build-other}
 use Rattle.head.specs.declared.Head.{Head}
 use Rattle.head.proofs.Headers.{headOf}
 use Rattle.build.specs.Range.{Divides}

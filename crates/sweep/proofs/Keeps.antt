@@ -16,13 +16,13 @@ use Rattle.rules.specs.Enter as entry
 use Rattle.rules.specs.Walk.{Walked, enters, finds, stops, walkEach, walk}
 use Rattle.rules.specs.declared.Asked.{Asked}
 use Rattle.rules.specs.declared.Place.{Place}
-use Rattle.rules.proofs.All.{All, nil, cons}
-use Rattle.rules.proofs.Pages.{Wide}
-use Rattle.rules.proofs.Tables.{has-page, wide-read, pageAt-build-other}
-use Rattle.rules.proofs.Tests.{mem-tail, not-both}
-use Rattle.rules.proofs.Places.{Fits}
-use Rattle.rules.proofs.Picks.{belowOf}
-use Rattle.rules.proofs.Asks.{kids-mem, kids-names}
+use Rattle.rules.proofs.bytes.All.{All, nil, cons}
+use Rattle.rules.proofs.bytes.Pages.{Wide}
+use Rattle.rules.proofs.bytes.Tables.{has-page, wide-read, pageAt-build-other}
+use Rattle.rules.proofs.entries.Tests.{mem-tail, not-both}
+use Rattle.rules.proofs.entries.Places.{Fits}
+use Rattle.rules.proofs.entries.Picks.{belowOf}
+use Rattle.rules.proofs.entries.Asks.{kids-mem, kids-names}
 use Rattle.enter.proofs.Mended.{room-mended}
 use Rattle.enter.proofs.Finds.{wide-find}
 use Rattle.enter.proofs.Stands.{Comes, stood, mends, comes, stands, stays-long, stays-bytes, found-fits}

@@ -11,7 +11,7 @@ use Rattle.rules.specs.Place.{rootPlace}
 use Rattle.rules.specs.Walk.{Walked, walk, walkOf}
 use Rattle.rules.specs.declared.Asked.{Asked}
 use Rattle.rules.specs.declared.Place.{Place}
-use Rattle.rules.proofs.Tests.{every-true, between-low, between-high}
+use Rattle.rules.proofs.entries.Tests.{every-true, between-low, between-high}
 use Rattle.enter.specs.declared.Above.{Above}
 use Rattle.sweep.specs.Sweeps.{lastOf, sofarOf, sweeping, told, Known, aboveAt, Deep, Ready}
 use Rattle.sweep.specs.declared.Sofar.{Sofar}

@@ -8,8 +8,8 @@ use native.Mathlib.Omega.{arith}
 use Rattle.rules.specs.Walk.{Walked, walkEach, walk}
 use Rattle.rules.specs.declared.Asked.{Asked}
 use Rattle.rules.specs.declared.Place.{Place}
-use Rattle.rules.proofs.All.{All, all-tail}
-use Rattle.rules.proofs.WalkSteps.{walk-past}
+use Rattle.rules.proofs.bytes.All.{All, all-tail}
+use Rattle.rules.proofs.demand1.WalkSteps.{walk-past}
 use Rattle.enter.specs.declared.Above.{Above}
 use Rattle.sweep.specs.Sweeps.{sweeping, told, entersBy, aboveAt, Ready, placesLeft, firstOf, restOf, skipped, skipOf, Lies}
 use Rattle.sweep.specs.declared.Sofar.{Sofar}

@@ -20,11 +20,11 @@ use Rattle.rules.specs.Enter as entry
 use Rattle.rules.specs.Walk.{Walked, enters, finds, stops, walkEach, walk}
 use Rattle.rules.specs.declared.Asked.{Asked}
 use Rattle.rules.specs.declared.Place.{Place}
-use Rattle.rules.proofs.All.{All, all-head, all-tail}
-use Rattle.rules.proofs.Each.{length-readEach}
-use Rattle.rules.proofs.Tests.{every-true, mem-head}
-use Rattle.rules.proofs.Places.{Fits}
-pub use Rattle.rules.proofs.WalkSteps.{walk-past, walk-damaged, walk-entered}
+use Rattle.rules.proofs.bytes.All.{All, all-head, all-tail}
+use Rattle.rules.proofs.bytes.Each.{length-readEach}
+use Rattle.rules.proofs.entries.Tests.{every-true, mem-head}
+use Rattle.rules.proofs.entries.Places.{Fits}
+pub use Rattle.rules.proofs.demand1.WalkSteps.{walk-past, walk-damaged, walk-entered}
 use Rattle.head.specs.Head.{nowhere}
 use Rattle.head.specs.declared.Head.{Head}
 use Rattle.head.proofs.Headers.{headOf, view-leaf, kind-here, count-here}

@@ -14,7 +14,7 @@ use Rattle.rules.specs.Place.{placesIn}
 use Rattle.rules.specs.Walk.{Walked}
 use Rattle.rules.specs.declared.Asked.{Asked}
 use Rattle.rules.specs.declared.Place.{Place}
-use Rattle.rules.proofs.All.{All}
+use Rattle.rules.proofs.bytes.All.{All}
 use Rattle.head.specs.Head.{nowhere}
 use Rattle.head.specs.declared.Head.{Head}
 use Rattle.enter.specs.declared.Above.{Above}

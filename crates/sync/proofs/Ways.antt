@@ -13,7 +13,7 @@ use Rattle.rules.specs.Call.{lengthsFor}
 use Rattle.rules.specs.Sync.{syncRefused, syncDone, sync}
 use Rattle.rules.specs.declared.Session.{Session}
 use Rattle.rules.specs.declared.Synced.{Synced}
-use Rattle.rules.proofs.Lengths.{lengthsFor-true}
+use Rattle.rules.proofs.bytes.Lengths.{lengthsFor-true}
 use Rattle.sync.specs.Syncs.{left}
 
 module _ (w t : List ℕ) (s : Session) where

@@ -18,11 +18,11 @@ use Rattle.rules.specs.Place.{rootPlace, kids, pick}
 use Rattle.rules.specs.Enter as entry
 use Rattle.rules.specs.Walk as rules
 use Rattle.rules.specs.declared.Place.{Place}
-use Rattle.rules.proofs.Views.{Shaped, leaf-of-kind, inner-of-kind, shaped-read}
-use Rattle.rules.proofs.Asks.{pick-leaf}
+use Rattle.rules.proofs.entries.Views.{Shaped, leaf-of-kind, inner-of-kind, shaped-read}
+use Rattle.rules.proofs.entries.Asks.{pick-leaf}
 use Rattle.head.specs.declared.Head.{Head}
 use Rattle.head.proofs.Headers.{headOf}
-use Rattle.rules.proofs.WalkSteps.{descend-damaged, descend-ends, descend-below}
+use Rattle.rules.proofs.demand1.WalkSteps.{descend-damaged, descend-ends, descend-below}
 use Rattle.enter.specs.Entering as enters
 use Rattle.enter.specs.declared.Entered.{Entered}
 use Rattle.enter.specs.declared.Above.{Above}

@@ -13,9 +13,9 @@ use Rattle.rules.specs.Entry.{Child, keys, rising}
 use Rattle.rules.specs.Page.{View, readEach, childIn, viewIn, pageIn}
 use Rattle.rules.specs.Place.{placesIn, kids, pick}
 use Rattle.rules.specs.declared.Place.{Place}
-use Rattle.rules.proofs.Each.{length-readEach}
-use Rattle.rules.proofs.Sounds.{starts-first}
-use Rattle.rules.proofs.Views.{inner-kind}
+use Rattle.rules.proofs.bytes.Each.{length-readEach}
+use Rattle.rules.proofs.entries.Sounds.{starts-first}
+use Rattle.rules.proofs.entries.Views.{inner-kind}
 use Rattle.head.specs.declared.Head.{Head}
 use Rattle.head.proofs.Headers.{headOf, view-inner, kind-view, count-view}
 use Rattle.entries.specs.Spot.{keysIn, spotOf}

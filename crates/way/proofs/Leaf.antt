@@ -9,8 +9,8 @@ use Rattle.fields.specs.Field.{leAt}
 use Rattle.rules.specs.Layout.{headerSize, certSize, leafRoom}
 use Rattle.rules.specs.Entry.{Cert, keys, rising}
 use Rattle.rules.specs.Page.{View, readEach, certIn, viewIn, pageIn}
-use Rattle.rules.proofs.Each.{length-readEach}
-use Rattle.rules.proofs.Views.{leaf-kind}
+use Rattle.rules.proofs.bytes.Each.{length-readEach}
+use Rattle.rules.proofs.entries.Views.{leaf-kind}
 use Rattle.head.specs.declared.Head.{Head}
 use Rattle.head.proofs.Headers.{headOf, view-leaf, kind-view, count-view}
 use Rattle.entries.specs.Spot.{keysIn, spotOf}

@@ -17,8 +17,8 @@ use Rattle.rules.specs.Place.{rootPlace, kids, pick}
 use Rattle.rules.specs.Enter as entry
 use Rattle.rules.specs.Walk.{Step, numbers, descend, wayOf}
 use Rattle.rules.specs.declared.Place.{Place}
-use Rattle.rules.proofs.Tests.{every-true}
-use Rattle.rules.proofs.Asks.{kids-pick, kids-names}
+use Rattle.rules.proofs.entries.Tests.{every-true}
+use Rattle.rules.proofs.entries.Asks.{kids-pick, kids-names}
 use Rattle.way.proofs.Stood.{Ready, ready-root, ready-next, stood-here}
 
 -- a place is asked for by the first page above it, or it is the root's

@@ -17,13 +17,13 @@ use Rattle.rules.specs.Place.{rootPlace, kids, pick}
 use Rattle.rules.specs.Enter as entry
 use Rattle.rules.specs.Walk.{Step, numbers, descend, wayOf}
 use Rattle.rules.specs.declared.Place.{Place}
-use Rattle.rules.proofs.All.{All, nil, cons}
-use Rattle.rules.proofs.Pages.{Wide}
-use Rattle.rules.proofs.Tables.{wide-read}
-use Rattle.rules.proofs.Tests.{every-true, between-low, between-high, mem-head, mem-tail}
-use Rattle.rules.proofs.Places.{Fits}
-use Rattle.rules.proofs.Picks.{belowOf, pick-holds}
-use Rattle.rules.proofs.Asks.{kids-pick, kids-names, kids-total}
+use Rattle.rules.proofs.bytes.All.{All, nil, cons}
+use Rattle.rules.proofs.bytes.Pages.{Wide}
+use Rattle.rules.proofs.bytes.Tables.{wide-read}
+use Rattle.rules.proofs.entries.Tests.{every-true, between-low, between-high, mem-head, mem-tail}
+use Rattle.rules.proofs.entries.Places.{Fits}
+use Rattle.rules.proofs.entries.Picks.{belowOf, pick-holds}
+use Rattle.rules.proofs.entries.Asks.{kids-pick, kids-names, kids-total}
 use Rattle.enter.proofs.Finds.{wide-find}
 use Rattle.enter.proofs.Mended.{Narrow}
 use Rattle.enter.proofs.Stands.{comes, stands, stays, stays-long, stays-bytes, found-fits}

@@ -2,7 +2,7 @@
 -- Assumes nothing.
 use Rattle.rules.specs.Page.{pageIn}
 use Rattle.rules.specs.Insert.{lowerPage}
-use Rattle.rules.proofs.Pages.{count-viewIn}
+use Rattle.rules.proofs.bytes.Pages.{count-viewIn}
 use Rattle.build.proofs.Halves.{lower-half, half-below}
 use native.Mathlib.Omega.{arith}
 use borrow.Author.Needs.{needs}

@@ -2,7 +2,7 @@
 -- Assumes nothing.
 use mathlib.Core.Path.{sym}
 use Rattle.build.proofs.Built.{range-fits, entries-fit, range-bytes}
-use Rattle.rules.proofs.Pages.{count-viewIn}
+use Rattle.rules.proofs.bytes.Pages.{count-viewIn}
 use native.Mathlib.Omega.{arith}
 use borrow.Author.Needs.{needs}
 use Rattle.build.proofs.range_page.Statement.{statement}

@@ -2,7 +2,7 @@
 use mathlib.Core.Path.{sym}
 use native.Mathlib.Nat.{add-sub-cancel-left}
 use Rattle.rules.specs.Table.{pageAt, setPage}
-use Rattle.rules.proofs.Tables.{setPage-pageAt}
+use Rattle.rules.proofs.bytes.Tables.{setPage-pageAt}
 use borrow.Author.Needs.{needs}
 use Rattle.driver.proofs.write_page.Statement.{statement}
 use Rattle.driver.proofs.write_page.Tie as tie

@@ -1,6 +1,6 @@
 -- `driver::write_pages` meets its contract. Assumes nothing.
 use Rattle.rules.specs.Table.{pageAt, setPage}
-use Rattle.rules.proofs.Mixes.{chosen}
+use Rattle.rules.proofs.bytes.Mixes.{chosen}
 use mathlib.Core.Path.{_≡_, refl, sym, ap, _∙_}
 use mathlib.Core.Bool.{Bool, false}
 use mathlib.Core.List.{List}

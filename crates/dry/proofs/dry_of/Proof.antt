@@ -2,7 +2,7 @@
 use mathlib.Core.Path.{ap, _∙_}
 use Rattle.rules.specs.declared.Place.{Place}
 use Rattle.dry.specs.Walk.{dry, untouched, dryOf}
-use Rattle.rules.proofs.PageZero.{has-zero}
+use Rattle.rules.proofs.bytes.PageZero.{has-zero}
 use borrow.Author.Needs.{needs}
 use Rattle.dry.proofs.dry_of.Statement.{statement}
 use Rattle.dry.proofs.dry_of.Tie as tie

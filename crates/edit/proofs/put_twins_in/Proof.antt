@@ -2,7 +2,7 @@
 -- Assumes nothing.
 use Rattle.rules.specs.Insert.{newChild}
 use Rattle.rules.specs.Entry.{Child}
-use Rattle.rules.proofs.EntryBytes.{WideChild}
+use Rattle.rules.proofs.bytes.EntryBytes.{WideChild}
 use Rattle.edit.specs.Takes.{twinsOf}
 use Rattle.edit.proofs.Twins.{long-first, takes-first, change-twice, wide-newChild}
 use borrow.Author.Needs.{needs}

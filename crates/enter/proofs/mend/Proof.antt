@@ -3,7 +3,7 @@
 use mathlib.Core.Path.{sym, _∙_}
 use borrow.Author.Tests.{not-true, not-false}
 use Rattle.rules.specs.Table.{read}
-use Rattle.rules.proofs.Places.{mendable-true}
+use Rattle.rules.proofs.entries.Places.{mendable-true}
 use Rattle.build.proofs.Sounds.{mendable-ordered}
 use Rattle.enter.proofs.Told.{mend-damaged}
 use Rattle.enter.proofs.Mended.{mended-told}

@@ -1,6 +1,6 @@
 -- `fill::fill`: nothing stands above the root, and nothing was found before it.
 -- Assumes nothing.
-use Rattle.rules.proofs.PageZero.{has-zero}
+use Rattle.rules.proofs.bytes.PageZero.{has-zero}
 use Rattle.sweep.proofs.Roots.{no-above, ready-root}
 use Rattle.fill.specs.Fills.{filling}
 use Rattle.fill.proofs.Steps.{known-nothing, whole-walk}

@@ -1,6 +1,6 @@
 -- `fill::fill_leaf_at`: the same on a page of the table.
 -- Assumes nothing.
-use Rattle.rules.proofs.Tables.{length-pageAt}
+use Rattle.rules.proofs.bytes.Tables.{length-pageAt}
 use Rattle.entries.proofs.Part.{page-part}
 use native.Mathlib.Omega.{arith}
 use borrow.Author.Needs.{needs}

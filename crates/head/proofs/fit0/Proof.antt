@@ -3,7 +3,7 @@
 use Prim.Native.Nat.{_-_}
 use borrow.Author.Tests.{ne-eqb}
 use Rattle.rules.specs.Layout.{zeroKind}
-use Rattle.rules.proofs.Tests.{between-below, between-above}
+use Rattle.rules.proofs.entries.Tests.{between-below, between-above}
 use Rattle.head.proofs.PageZero.{fit0-fails, fit0-last}
 use native.Mathlib.Omega.{arith}
 use borrow.Author.Needs.{needs}

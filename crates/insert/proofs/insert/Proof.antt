@@ -3,7 +3,7 @@
 use Prim.Native.Nat.{ℕ}
 use mathlib.Core.Path.{refl, sym, ap, _∙_}
 use Rattle.rules.specs.Insert.{insertKey}
-use Rattle.rules.proofs.Lengths.{lengthsFor-true}
+use Rattle.rules.proofs.bytes.Lengths.{lengthsFor-true}
 use Rattle.insert.proofs.Along.{not-done}
 use Rattle.insert.proofs.Call.{test-refused, test-passed, way-short, deciding, key-refused, key-ready, key-done}
 use native.Mathlib.Omega.{arith}

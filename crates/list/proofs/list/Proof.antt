@@ -3,7 +3,7 @@
 use mathlib.Core.Path.{refl, sym, ap, _∙_}
 use borrow.Author.Tests.{not-true, not-false}
 use Rattle.rules.specs.declared.Asked.{Asked}
-use Rattle.rules.proofs.Lengths.{lengthsFor-true}
+use Rattle.rules.proofs.bytes.Lengths.{lengthsFor-true}
 use Rattle.list.proofs.Calls.{roomy, bad-length, bad-zero, answers}
 use native.Mathlib.Omega.{arith}
 use borrow.Author.Needs.{needs}

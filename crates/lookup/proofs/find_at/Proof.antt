@@ -4,7 +4,7 @@ use mathlib.Core.Path.{ap, sym, _∙_}
 use Rattle.rules.specs.Entry.{find}
 use Rattle.rules.specs.Page.{pageIn}
 use Rattle.rules.specs.Table.{pageAt, read}
-use Rattle.rules.proofs.Tables.{length-pageAt}
+use Rattle.rules.proofs.bytes.Tables.{length-pageAt}
 use Rattle.entries.proofs.Part.{page-part}
 use Rattle.lookup.specs.Looks.{lookedIn}
 use Rattle.way.proofs.Leaf.{certs-are, holds-room, holds-rise}

@@ -1,6 +1,6 @@
 -- `lookup::lookup`: test after test, in document 01's order.
 -- Assumes nothing.
-use Rattle.rules.proofs.Lengths.{lengthsFor-true}
+use Rattle.rules.proofs.bytes.Lengths.{lengthsFor-true}
 use mathlib.Core.Path.{refl, sym, _∙_}
 use borrow.Author.Tests.{not-true, not-false}
 use Rattle.lookup.proofs.Call.{bad-length, bad-key, bad-zero, looked-up}

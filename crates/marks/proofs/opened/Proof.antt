@@ -9,7 +9,7 @@ use native.Mathlib.Omega.{arith}
 use lib.ListN.{set}
 use Rattle.rules.specs.Layout.{mostPages}
 use Rattle.rules.specs.Marks.{marksFrom, marks}
-use Rattle.rules.proofs.Marked.{length-marks}
+use Rattle.rules.proofs.bytes.Marked.{length-marks}
 use Rattle.marks.specs.Opened.{freeAtOpening}
 use Rattle.marks.proofs.Fill.{filled, filled-more, filled-all}
 use borrow.Author.Needs.{needs}

@@ -1,7 +1,7 @@
 -- `newest::newest`: each return is one of the ways that the rules name. Assumes nothing.
 use mathlib.Core.Path.{refl, sym, _∙_}
 use borrow.Author.Tests.{not-true, not-false}
-use Rattle.rules.proofs.Lengths.{lengthsFor-true}
+use Rattle.rules.proofs.bytes.Lengths.{lengthsFor-true}
 use Rattle.newest.proofs.Calls.{bad-length, bad-model, bad-serial, bad-zero, answers}
 use native.Mathlib.Omega.{arith}
 use borrow.Author.Needs.{needs}

@@ -4,7 +4,7 @@ use lib.ListN.{length, drop}
 use Rattle.rules.specs.Layout.{headerSize, certSize}
 use Rattle.rules.specs.Page.{certIn}
 use Rattle.rules.specs.Table.{pageAt}
-use Rattle.rules.proofs.Each.{length-readEach}
+use Rattle.rules.proofs.bytes.Each.{length-readEach}
 use Rattle.head.proofs.Headers.{certs-leaf}
 use Rattle.sweep.proofs.Notes.{noted-inner, noted-leaf}
 use borrow.Author.Needs.{needs}

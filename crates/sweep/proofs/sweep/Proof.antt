@@ -1,5 +1,5 @@
 -- `sweep::sweep`: the page walk from the root, with nothing above and nothing found. Assumes nothing.
-use Rattle.rules.proofs.PageZero.{has-zero}
+use Rattle.rules.proofs.bytes.PageZero.{has-zero}
 use Rattle.sweep.proofs.Roots.{no-above, ready-root, known-nothing, whole-walk}
 use native.Mathlib.Omega.{arith}
 use borrow.Author.Needs.{needs}

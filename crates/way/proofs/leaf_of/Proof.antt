@@ -3,7 +3,7 @@
 use Rattle.enter.specs.Entering.{entering}
 use mathlib.Core.Path.{sym, ap, _∙_}
 use Rattle.way.specs.Ways.{ending}
-use Rattle.rules.proofs.PageZero.{has-zero}
+use Rattle.rules.proofs.bytes.PageZero.{has-zero}
 use Rattle.way.proofs.Descent.{head-here, holds, leads}
 use Rattle.way.proofs.Ending.{Seeking, begins, runs-out, damaged, ends, goes-on}
 use borrow.Author.Needs.{needs}

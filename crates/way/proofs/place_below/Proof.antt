@@ -4,7 +4,7 @@ use mathlib.Core.Path.{ap, _∙_}
 use Rattle.rules.specs.Page.{pageIn}
 use Rattle.rules.specs.Place.{pick}
 use Rattle.rules.specs.Table.{pageAt, read}
-use Rattle.rules.proofs.Tables.{length-pageAt}
+use Rattle.rules.proofs.bytes.Tables.{length-pageAt}
 use Rattle.entries.proofs.Part.{page-part}
 use Rattle.way.proofs.Inner.{leads-kind, leads-room, leads-rise, leads-spot, leads-kids}
 use native.Mathlib.Omega.{arith}

@@ -2,7 +2,7 @@
 -- Assumes nothing.
 use Rattle.rules.specs.Page.{pageIn}
 use Rattle.rules.specs.Table.{pageAt, read}
-use Rattle.rules.proofs.Tables.{length-pageAt}
+use Rattle.rules.proofs.bytes.Tables.{length-pageAt}
 use Rattle.entries.proofs.Part.{page-part}
 use Rattle.way.specs.Ways.{spotAt}
 use Rattle.way.proofs.Leaf.{holds-room, holds-keys}

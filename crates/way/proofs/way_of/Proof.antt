@@ -5,7 +5,7 @@ use Rattle.way.specs.declared.Way.{Way}
 use mathlib.Core.Path.{sym, ap, _∙_}
 use native.Mathlib.Omega.{arith}
 use Rattle.way.specs.Ways.{walking}
-use Rattle.rules.proofs.PageZero.{has-zero}
+use Rattle.rules.proofs.bytes.PageZero.{has-zero}
 use Rattle.way.proofs.Descent.{Descent, begins, runs-out, damaged, head-here, ends, leads, goes-on}
 use borrow.Author.Needs.{needs}
 use Rattle.way.proofs.way_of.Statement.{statement}

@@ -1,0 +1,3 @@
+-- The bench cases.
+pub mod Computing
+pub mod Cases

@@ -1,0 +1,6 @@
+-- Histories.
+pub mod Pasts
+pub mod Fates
+pub mod Survivals
+pub mod Ended
+pub mod Histories

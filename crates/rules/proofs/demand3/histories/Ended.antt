@@ -1,0 +1,146 @@
+-- A store whose last opening found the number spent: every call that is given its session is refused and changes nothing, and
+-- every further opening finds the number spent.
+use Prim.Native.Nat.{ℕ}
+use native.Mathlib.Omega.{arith}
+use mathlib.Core.Path.{_≡_, sym, ap, _∙_, subst}
+use mathlib.Core.Bool.{Bool, false, _&&_}
+use mathlib.Core.List.{List}
+use lib.Dec.{eqb}
+use borrow.Author.Tests.{eqb-true, eq-eqb, lt-leb}
+use Rattle.rules.specs.Layout.{lastNumber}
+use Rattle.rules.specs.Table.{pages, goodLengths, number0}
+use Rattle.rules.specs.Key.{keyOf}
+use Rattle.rules.specs.Marks.{nobody}
+use Rattle.rules.specs.Call.{Left, lengthsFor, openedNo}
+use Rattle.rules.specs.Open.{opening, openRefused}
+use Rattle.rules.specs.Insert.{insert, insertRefused}
+use Rattle.rules.specs.Lookup.{lookup, lookupLeft}
+use Rattle.rules.specs.Newest.{newest, newestLeft}
+use Rattle.rules.specs.List.{ListLeft, list, listRefused}
+use Rattle.rules.specs.Sync.{sync, syncRefused}
+use Rattle.rules.specs.History.{Event, inserts, looks, asksNewest, lists, syncs, opens, crashes, crashesInSync, State, afterInsert, afterSync, afterOpen, afterReading, crashed, crashedInSync, step}
+use Rattle.rules.specs.Demand.{CrashOf, between, inSync, openAnswer, Survives}
+use Rattle.rules.specs.declared.Opened.{Opened}
+use Rattle.rules.specs.declared.Inserted.{Inserted}
+use Rattle.rules.specs.declared.Looked.{Looked}
+use Rattle.rules.specs.declared.Newest.{Newest}
+use Rattle.rules.specs.declared.Listed.{Listed}
+use Rattle.rules.specs.declared.Synced.{Synced}
+use Rattle.rules.specs.declared.Session.{Session}
+use Rattle.rules.proofs.entries.Tests.{and-right, fails}
+use Rattle.rules.proofs.bytes.Lengths.{pages-of}
+use Rattle.rules.proofs.demand3.epochs.Openings.{opening-spent}
+use Rattle.rules.proofs.demand3.histories.Fates.{Over, over-refused}
+
+module _ {n : ℕ} {m : State} (o : Over n m) where
+  pub no-pages : m .session .n ≡ 0
+  unfolding nobody
+  no-pages = ap (λ (s : Session). s .n) (o .nobody)
+
+  -- ── Calls ─────────────────────────────────────────────────────────────────────────────────────────────────────
+
+  refused : lengthsFor (m .session) (m .working) (m .stable) ≡ false
+  unfolding lengthsFor
+  refused =
+      fails (goodLengths (m .working) (m .stable) && eqb (m .session .n) (pages (m .working)))
+      (λ h. omega (
+        arith,
+        no-pages,
+        pages-of (m .working) n (o .working),
+        o .few,
+        eqb-true (m .session .n) (pages (m .working))
+            (and-right (goodLengths (m .working) (m .stable)) (eqb (m .session .n) (pages (m .working))) h),
+      ))
+
+  stays : Over n (afterReading m (m .working))
+  unfolding afterReading
+  stays = o
+
+  inserting : (model serial issue x : ℕ)
+      → insert (m .working) (m .stable) (m .session) model serial issue x
+      ≡ insertRefused Inserted.Length (m .session) (m .working) (m .stable)
+  unfolding insert
+  inserting model serial issue x = rw (refused, insert)
+
+  looking : (model serial issue : ℕ)
+      → lookup (m .working) (m .stable) (m .session) model serial issue ≡ lookupLeft (m .session) (m .working) (m .stable) Looked.Length
+  unfolding lookup
+  looking model serial issue = rw (refused, lookup)
+
+  asking : (model serial : ℕ)
+      → newest (m .working) (m .stable) (m .session) model serial ≡ newestLeft (m .session) (m .working) (m .stable) Newest.Length
+  unfolding newest
+  asking model serial = rw (refused, newest)
+
+  listing : (start : ℕ) (ks xs : List ℕ)
+      → list (m .working) (m .stable) (m .session) start ks xs ≡ listRefused Listed.Length (m .session) (m .working) (m .stable) ks xs
+  unfolding list
+  listing start ks xs = rw (refused, list)
+
+  syncing : sync (m .working) (m .stable) (m .session) ≡ syncRefused Synced.Length (m .session) (m .working) (m .stable)
+  unfolding sync
+  syncing = rw (refused, sync)
+
+  -- ── Openings ──────────────────────────────────────────────────────────────────────────────────────────────────
+
+  opening-again : opening (m .working) (m .stable) ≡ openRefused Opened.Spent (m .working) (m .stable)
+  opening-again =
+      opening-spent n (m .working) (m .stable) (o .few) (o .most) (o .working) (o .stable) (o .good) (o .spent)
+
+  over-opens : Over n (afterOpen m (opening (m .working) (m .stable)))
+  over-opens =
+      subst (λ (r : Left Opened). Over n (afterOpen m r)) (sym opening-again)
+      (over-refused n m (m .working) (m .stable) (o .few) (o .most) (o .working) (o .stable) (o .good) (o .spent))
+
+  crashed-stays : (written : List Bool) → crashed written m ≡ m .stable
+  unfolding crashed
+  crashed-stays written = rw (eq-eqb (m .session .n) 0 no-pages, crashed)
+
+  in-sync-stays : (written : List Bool) → crashedInSync written m ≡ m .stable
+  unfolding crashedInSync
+  in-sync-stays written = rw (eq-eqb (m .session .n) 0 no-pages, crashedInSync)
+
+  crash-stays : {t : List ℕ} → CrashOf m t → t ≡ m .stable
+  crash-stays (between written) = crashed-stays written
+  crash-stays (inSync written) = in-sync-stays written
+
+  never-done : opening (m .working) (m .stable) .answer ≡ Opened.Done → ⊥
+  unfolding openRefused openedNo
+  never-done h = omega (arith, ap openedNo (sym (ap (λ (r : Left Opened). r .answer) opening-again) ∙ h))
+
+  not-done : {t : List ℕ} → t ≡ m .stable → opening (m .working) t .answer ≡ Opened.Done → ⊥
+  not-done q h = never-done (sym (ap (λ (u : List ℕ). opening (m .working) u .answer) q) ∙ h)
+
+  answers : opening (m .working) (m .stable) .answer ≡ openAnswer (m .stable)
+  unfolding openAnswer openRefused
+  answers =
+      ap (λ (r : Left Opened). r .answer) opening-again ∙ sym (rw (lt-leb (number0 (m .stable)) lastNumber (o .spent), openAnswer))
+
+  pub over-survives : Survives m
+  over-survives = record {
+    opens = λ t c. subst (λ (u : List ℕ). opening (m .working) u .answer ≡ openAnswer u) (sym (crash-stays c)) answers;
+    shows = λ t c d k h. absurd (not-done (crash-stays c) d);
+    keeps = λ t c d k y h e. absurd (not-done (crash-stays c) d);
+    nothing-written = λ d k h. absurd (never-done d);
+    all-written = λ t q d k h. absurd (not-done (q ∙ crashed-stays _) d);
+    all-written-in-sync = λ t q d k h. absurd (not-done (q ∙ in-sync-stays _) d);
+  }
+
+  -- ── Any event ─────────────────────────────────────────────────────────────────────────────────────────────────
+
+  pub over-step : (e : Event) → Over n (step e m)
+  unfolding step afterReading afterInsert afterSync insertRefused lookupLeft newestLeft listRefused syncRefused
+  over-step (inserts model serial issue x) =
+      subst (λ (r : Left Inserted). Over n (afterInsert (keyOf model serial issue) x m r)) (sym (inserting model serial issue x)) o
+  over-step (looks model serial issue) =
+      subst (λ (r : Left Looked). Over n (afterReading m (r .working))) (sym (looking model serial issue)) o
+  over-step (asksNewest model serial) =
+      subst (λ (r : Left Newest). Over n (afterReading m (r .working))) (sym (asking model serial)) o
+  over-step (lists start ks xs) =
+      subst (λ (r : ListLeft). Over n (afterReading m (r .working))) (sym (listing start ks xs)) o
+  over-step syncs = subst (λ (r : Left Synced). Over n (afterSync m r)) (sym syncing) o
+  over-step opens = over-opens
+  over-step (crashes written) =
+      subst (λ (t : List ℕ). Over n (afterOpen m (opening (m .working) t))) (sym (crashed-stays written)) over-opens
+  over-step (crashesInSync written) =
+      subst (λ (t : List ℕ). Over n (afterOpen m (opening (m .working) t))) (sym (in-sync-stays written)) over-opens

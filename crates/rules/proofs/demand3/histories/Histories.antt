@@ -1,0 +1,285 @@
+-- Histories: a store fresh from format and opening is alive, and every event leaves it alive or with its number spent. So what
+-- demand 3 says holds at every point of every history.
+use Prim.Native.Nat.{ℕ, _≤_}
+use native.Mathlib.Omega.{arith}
+use mathlib.Core.Path.{_≡_, refl, sym, ap, _∙_, subst}
+use mathlib.Core.Logic.{inl, inr}
+use mathlib.Core.Bool.{Bool, true, false}
+use mathlib.Core.List.{List, [], _∷_}
+use mathlib.Core.Option.{Option, some}
+use lib.Dec.{eqb, leb}
+use lib.ListN.{length}
+use borrow.Author.Tests.{eqb-true, eqb-false, leb-true, leb-false}
+use Rattle.rules.specs.Layout.{fewestPages, lastKey, lastNumber}
+use Rattle.rules.specs.Key.{keyOf, goodParts}
+use Rattle.rules.specs.Table.{pages, goodLengths}
+use Rattle.rules.specs.Marks.{turned, nobody}
+use Rattle.rules.specs.Call.{Left, insertedNo}
+use Rattle.rules.specs.Format.{formatted, format}
+use Rattle.rules.specs.Open.{opening}
+use Rattle.rules.specs.Insert.{insertRefused, insert}
+use Rattle.rules.specs.Lookup.{lookup}
+use Rattle.rules.specs.Newest.{newest}
+use Rattle.rules.specs.List.{list}
+use Rattle.rules.specs.Sync.{sync, syncDone, syncRefused}
+use Rattle.rules.specs.History.{Event, inserts, looks, asksNewest, lists, syncs, opens, crashes, crashesInSync, State, latest, earliest, gains, afterInsert, afterSync, afterOpen, afterReading, crashed, crashedInSync, step, start, run, Typed, AllTyped}
+use Rattle.rules.specs.Demand.{between, inSync, Among, Reads, look, ask, listing, Survives, Serves, Lent, Demand3}
+use Rattle.rules.specs.declared.Opened.{Opened}
+use Rattle.rules.specs.declared.Inserted.{Inserted}
+use Rattle.rules.specs.declared.Synced.{Synced}
+use Rattle.rules.specs.declared.Session.{Session}
+use Rattle.rules.proofs.bytes.Keys.{keyOf-bound}
+use Rattle.rules.proofs.bytes.Lengths.{pages-of, tables-good}
+use Rattle.rules.proofs.demand3.ways.Ways.{Tells}
+use Rattle.rules.proofs.demand3.ways.Nodes.{tells-one}
+use Rattle.rules.proofs.demand3.epochs.Store.{Safe}
+use Rattle.rules.proofs.demand3.epochs.Syncs.{sync-done, sync-spent, numbered, sync-safe, sync-told}
+use Rattle.rules.proofs.demand3.epochs.Formats.{fresh-table, first-opening, first-safe}
+use Rattle.rules.proofs.demand3.steps.Mended.{steady-same}
+use Rattle.rules.proofs.demand3.steps.PutIn.{Also}
+use Rattle.rules.proofs.demand3.steps.Inserts.{Stays, Added, Inserts, present, sync-first, no-room, added, insert-inserts, insert-bad-key}
+use Rattle.rules.proofs.demand3.reads.Enters.{Calm, calm}
+use Rattle.rules.proofs.demand3.reads.Looks.{lookup-calm, never-lost, content-told}
+use Rattle.rules.proofs.demand3.reads.Lists.{newest-answers, list-answers, never-damaged, never-refused, newest-same, list-same}
+use Rattle.rules.proofs.demand3.histories.Pasts.{Settled, settled-gains, settled-earliest, gains-here, gains-other, gains-more, gains-new}
+use Rattle.rules.proofs.demand3.histories.Fates.{Alive, Fate, alive, over, safe-widen, tells-bound, alive-anew, alive-done, alive-reading}
+use Rattle.rules.proofs.demand3.histories.Survivals.{alive-survives, fate-opens, fate-crashes}
+use Rattle.rules.proofs.demand3.histories.Ended.{no-pages, over-survives, over-step}
+
+-- ── Insert ──────────────────────────────────────────────────────────────────────────────────────────────────────
+
+-- a refusal leaves a key's states as they were
+refused-past : (k x : ℕ) (m : State) (answer : Inserted) → (answer ≡ Inserted.Done → ⊥) → (s : Session) (w t : List ℕ)
+    → afterInsert k x m (record { answer = answer; session = s; working = w; stable = t })
+    ≡ record { session = s; working = w; stable = t; past = m .past }
+unfolding afterInsert
+refused-past k x m Inserted.Done h s w t = absurd (h refl)
+refused-past k x m Inserted.Length h s w t = refl
+refused-past k x m Inserted.BadKey h s w t = refl
+refused-past k x m Inserted.Damaged h s w t = refl
+refused-past k x m Inserted.Present h s w t = refl
+refused-past k x m Inserted.SyncFirst h s w t = refl
+refused-past k x m Inserted.Full h s w t = refl
+
+-- so it is like a call that only reads
+alive-refused : {n : ℕ} {m : State} (k x : ℕ) → Alive n m → (r : Left Inserted) (answer : Inserted) → (answer ≡ Inserted.Done → ⊥)
+    → r .answer ≡ answer → Stays (m .session) (m .working) (m .stable) (λ j o. Among o (m .past j)) r → Alive n (afterInsert k x m r)
+unfolding afterReading
+alive-refused {n} {m} k x a r answer d h y =
+    subst (Alive n) (sym is) (alive-reading (r .working) a (record { safe = y .safe; steady = y .steady }))
+  where
+    is : afterInsert k x m r ≡ afterReading m (r .working)
+    is =
+        ap
+        (λ (b : Inserted). afterInsert k x m (record { answer = b; session = r .session; working = r .working; stable = r .stable }))
+        h
+        ∙ (refused-past k x m answer d (r .session) (r .working) (r .stable)
+        ∙ (ap
+        (λ (s : Session). record { session = s; working = r .working; stable = r .stable; past = m .past })
+        (y .session)
+        ∙ ap
+        (λ (t : List ℕ). record { session = m .session; working = r .working; stable = t; past = m .past })
+        (y .stable)))
+
+-- the key was absent and has its record, every other key is as it was
+module _ {n : ℕ} {m : State} (a : Alive n m) (k x : ℕ) (bound : k ≤ lastKey) (r : Left Inserted)
+    (i : Added (m .session) (m .working) (m .stable) (λ j o. Among o (m .past j)) k x r) where
+  abbrev inserted : State
+  inserted = record { session = r .session; working = r .working; stable = r .stable; past = gains k x (m .past) }
+
+  inserted-is : afterInsert k x m r ≡ inserted
+  unfolding afterInsert
+  inserted-is =
+      ap
+      (λ (b : Inserted). afterInsert k x m (record { answer = b; session = r .session; working = r .working; stable = r .stable }))
+      (i .answer)
+
+  gained : (j : ℕ) (o : Option ℕ) → Also (λ j o. Among o (m .past j)) k x j o → Among o (gains k x (m .past) j)
+  gained j o (inl h) = gains-more k x (m .past) j o h
+  gained j o (inr h) =
+      subst (λ (p : Option ℕ). Among p (gains k x (m .past) j)) (sym (h .1))
+      (subst (λ (l : ℕ). Among (some x) (gains k x (m .past) l)) (sym (h .0)) (gains-new k x (m .past)))
+
+  first-state : (j : ℕ) → earliest (m .past j) ≡ earliest (gains k x (m .past) j)
+  first-state j = go (eqb j k) refl
+    where
+      go : (b : Bool) → eqb j k ≡ b → earliest (m .past j) ≡ earliest (gains k x (m .past) j)
+      go true h =
+          sym (ap earliest (gains-here k x (m .past) j (eqb-true j k h)) ∙ settled-earliest (m .past j) (some x) (a .settled j))
+      go false h = sym (ap earliest (gains-other k x (m .past) j (eqb-false j k h)))
+
+  told : (j : ℕ) → j ≤ lastKey → Tells (m .session .n) (r .working) j (latest (gains k x (m .past) j))
+  unfolding latest
+  told j h = go (eqb j k) refl
+    where
+      go : (b : Bool) → eqb j k ≡ b → Tells (m .session .n) (r .working) j (latest (gains k x (m .past) j))
+      go true q =
+          let e = eqb-true j k q in
+          subst (Tells (m .session .n) (r .working) j) (sym (ap latest (gains-here k x (m .past) j e)))
+          (subst (λ (l : ℕ). Tells (m .session .n) (r .working) l (some x)) (sym e) (i .own))
+      go false q =
+          let d = eqb-false j k q in
+          subst (Tells (m .session .n) (r .working) j) (sym (ap latest (gains-other k x (m .past) j d)))
+          (i .others j (latest (m .past j)) d (a .now j h))
+
+  settles : (j : ℕ) → Settled (gains k x (m .past) j)
+  settles j = go (eqb j k) refl
+    where
+      go : (b : Bool) → eqb j k ≡ b → Settled (gains k x (m .past) j)
+      go true q =
+          let e = eqb-true j k q in
+          subst Settled (sym (gains-here k x (m .past) j e))
+          (settled-gains (m .past j) x (a .settled j)
+          (ap (λ (l : ℕ). latest (m .past l)) e ∙ tells-one (a .now k bound) (i .absent)))
+      go false q = subst Settled (sym (gains-other k x (m .past) j (eqb-false j k q))) (a .settled j)
+
+  pub alive-inserted : Alive n (afterInsert k x m r)
+  alive-inserted =
+      subst (Alive n) (sym inserted-is)
+      (record {
+        pages = i .pages ∙ a .pages;
+        safe =
+            subst (λ (t : List ℕ). Safe (r .session) (r .working) t (λ j o. Among o (gains k x (m .past) j))) (sym (i .stable))
+            (safe-widen (λ j o. Among o (gains k x (m .past) j)) gained (i .safe));
+        then = λ j h.
+            subst (λ (l : ℕ). Tells l (r .stable) j (earliest (gains k x (m .past) j))) (sym (i .pages))
+            (subst (λ (t : List ℕ). Tells (m .session .n) t j (earliest (gains k x (m .past) j))) (sym (i .stable))
+            (subst (Tells (m .session .n) (m .stable) j) (first-state j) (a .then j h)));
+        now = λ j h.
+            subst (λ (l : ℕ). Tells l (r .working) j (latest (gains k x (m .past) j))) (sym (i .pages)) (told j h);
+        settled = settles;
+      })
+
+-- ── Sync ────────────────────────────────────────────────────────────────────────────────────────────────────────
+
+alive-sync : {n : ℕ} {m : State} → Alive n m → Alive n (afterSync m (sync (m .working) (m .stable) (m .session)))
+unfolding afterSync syncDone syncRefused turned
+alive-sync {n} {m} a = go (leb (m .session .c) lastNumber) refl
+  where
+    new : m .session .c ≤ lastNumber → Alive (m .session .n) (afterSync m (syncDone (m .session) (m .working)))
+    new l =
+        alive-anew (turned (m .session)) (numbered (a .safe)) (λ k. latest (m .past k)) (sync-safe (a .safe) l)
+        (λ k o y. tells-one y (sync-told (a .safe) (a .now k (tells-bound y))))
+
+    go : (b : Bool) → leb (m .session .c) lastNumber ≡ b → Alive n (afterSync m (sync (m .working) (m .stable) (m .session)))
+    go true h =
+        let l = leb-true (m .session .c) lastNumber h in
+        subst (λ (r : Left Synced). Alive n (afterSync m r)) (sym (sync-done (a .safe) l))
+        (subst (λ (i : ℕ). Alive i (afterSync m (syncDone (m .session) (m .working)))) (a .pages) (new l))
+    go false h =
+        subst (λ (r : Left Synced). Alive n (afterSync m r)) (sym (sync-spent (a .safe) (leb-false (m .session .c) lastNumber h))) a
+
+-- ── What demand 3 says between crashes ──────────────────────────────────────────────────────────────────────────
+
+module _ {n : ℕ} {m : State} (a : Alive n m) where
+  abbrev CalmNow : List ℕ → Type 0
+  CalmNow w = Calm (m .session) (m .working) (m .stable) (λ k o. Among o (m .past k)) w
+
+  reads-calm : (e : Event) → Reads e → CalmNow (step e m .working)
+  unfolding step afterReading
+  reads-calm (looks model serial issue) look = lookup-calm (calm (a .safe)) model serial issue
+  reads-calm (asksNewest model serial) ask = newest-answers (a .safe) (calm (a .safe)) model serial .left
+  reads-calm (lists from ks xs) listing = list-answers (a .safe) (calm (a .safe)) from ks xs .left
+
+  alive-serves : Serves m
+  alive-serves = record {
+    looks-up = λ k h. content-told (a .safe) h (a .now k h);
+    lookup-whole = never-lost (calm (a .safe));
+    newest-whole = never-damaged (a .safe);
+    list-whole = never-refused (a .safe);
+    newest-stays = λ e r model serial. newest-same (a .safe) (reads-calm e r) model serial;
+    list-stays = λ e r from ks xs. list-same (a .safe) (reads-calm e r) from ks xs;
+  }
+
+-- ── Whole histories ─────────────────────────────────────────────────────────────────────────────────────────────
+
+alive-insert : {n : ℕ} {m : State} → Alive n m → (model serial issue x : ℕ) → Typed (inserts model serial issue x)
+    → Alive n (afterInsert (keyOf model serial issue) x m (insert (m .working) (m .stable) (m .session) model serial issue x))
+unfolding Typed insertedNo insertRefused
+alive-insert {n} {m} a model serial issue x t = go (goodParts model serial issue) refl
+  where
+    k : ℕ
+    k = keyOf model serial issue
+
+    r : Left Inserted
+    r = insert (m .working) (m .stable) (m .session) model serial issue x
+
+    other : (answer : Inserted) → 1 ≤ insertedNo answer → answer ≡ Inserted.Done → ⊥
+    other answer l e = omega (arith, ap insertedNo e)
+
+    came : Inserts (m .session) (m .working) (m .stable) (λ j o. Among o (m .past j)) k x r → Alive n (afterInsert k x m r)
+    came (present y told h z) = alive-refused k x a r Inserted.Present (other Inserted.Present (omega arith)) h z
+    came (sync-first told h z) = alive-refused k x a r Inserted.SyncFirst (other Inserted.SyncFirst (omega arith)) h z
+    came (no-room told h z) = alive-refused k x a r Inserted.Full (other Inserted.Full (omega arith)) h z
+    came (added i) = alive-inserted a k x (omega (arith, keyOf-bound model serial issue (t .1) (t .2) (t .0))) r i
+
+    go : (b : Bool) → goodParts model serial issue ≡ b → Alive n (afterInsert k x m r)
+    go true g = came (insert-inserts (a .safe) model serial issue x (t .0) (t .1) (t .2) (t .3) g)
+    go false g =
+        subst (λ (z : Left Inserted). Alive n (afterInsert k x m z))
+        (sym (insert-bad-key (a .safe) model serial issue x (t .0) (t .1) (t .2) (t .3) g))
+        (alive-refused k x a (insertRefused Inserted.BadKey (m .session) (m .working) (m .stable)) Inserted.BadKey
+        (other Inserted.BadKey (omega arith)) refl
+        (record { session = refl; stable = refl; safe = a .safe; steady = steady-same }))
+
+alive-step : {n : ℕ} {m : State} → Alive n m → (e : Event) → Typed e → Fate n (step e m)
+unfolding step
+alive-step a (inserts model serial issue x) t = alive (alive-insert a model serial issue x t)
+alive-step {n} {m} a (looks model serial issue) t =
+    alive (alive-reading (lookup (m .working) (m .stable) (m .session) model serial issue .working) a
+    (lookup-calm (calm (a .safe)) model serial issue))
+alive-step {n} {m} a (asksNewest model serial) t =
+    alive (alive-reading (newest (m .working) (m .stable) (m .session) model serial .working) a
+    (newest-answers (a .safe) (calm (a .safe)) model serial .left))
+alive-step {n} {m} a (lists from ks xs) t =
+    alive (alive-reading (list (m .working) (m .stable) (m .session) from ks xs .working) a
+    (list-answers (a .safe) (calm (a .safe)) from ks xs .left))
+alive-step a syncs t = alive (alive-sync a)
+alive-step a opens t = fate-opens a
+alive-step {n} {m} a (crashes written) t = fate-crashes a (crashed written m) (between written)
+alive-step {n} {m} a (crashesInSync written) t = fate-crashes a (crashedInSync written m) (inSync written)
+
+fate-step : {n : ℕ} {m : State} → Fate n m → (e : Event) → Typed e → Fate n (step e m)
+fate-step (alive a) e t = alive-step a e t
+fate-step (over o) e t = over (over-step o e)
+
+pub fate-run : {n : ℕ} (m : State) → Fate n m → (h : List Event) → AllTyped h → Fate n (run h m)
+unfolding run AllTyped
+fate-run m f [] t = f
+fate-run m f (e ∷ es) t = fate-run (step e m) (fate-step f e (t .0)) es (t .1)
+
+-- format, then open
+pub fate-start : (n : ℕ) (w s : List ℕ) → Lent n w s → Fate n (start w s)
+unfolding start format
+fate-start n w s l =
+    alive (subst (λ (t : List ℕ). Alive n (afterOpen before (opening w t))) (sym formats)
+    (subst (λ (r : Left Opened). Alive n (afterOpen before r)) (sym (first-opening n (l .few) (l .most) w (l .working)))
+    (alive-done n before (fresh-table n (l .few) (l .most)) (first-safe n (l .few) (l .most)))))
+  where
+    before : State
+    before = record { session = nobody; working = w; stable = s; past = λ k. [] }
+
+    lengths : goodLengths w s ≡ true
+    lengths = tables-good (record { least = l .few; most = l .most; working = l .working; stable = l .stable })
+
+    formats : format w s .stable ≡ fresh-table n (l .few) (l .most)
+    formats =
+        rw (lengths, format)
+        (ap (λ (i : ℕ). formatted i (length s)) (pages-of s n (l .stable)) ∙ ap (formatted n) (l .stable))
+
+fate-survives : {n : ℕ} {m : State} → Fate n m → Survives m
+fate-survives (alive a) = alive-survives a
+fate-survives (over o) = over-survives o
+
+-- a session that was handed out has pages
+fate-serves : {n : ℕ} {m : State} → fewestPages ≤ n → Fate n m → m .session .n ≡ n → Serves m
+fate-serves f (alive a) h = alive-serves a
+fate-serves f (over o) h = absurd (omega (arith, no-pages o, h))
+
+-- ── The theorem ─────────────────────────────────────────────────────────────────────────────────────────────────
+
+pub demand3 : Demand3
+unfolding Demand3
+demand3 n w s l h t =
+    let f = fate-run (start w s) (fate-start n w s l) h t in
+    (fate-survives f, fate-serves (l .few) f)

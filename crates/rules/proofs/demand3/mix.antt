@@ -1,0 +1,5 @@
+-- The mix theorem.
+pub mod Mix
+pub mod Backed
+pub mod Live
+pub mod MixTheorem

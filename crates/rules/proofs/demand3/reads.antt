@@ -1,0 +1,5 @@
+-- The calls that read.
+pub mod Enters
+pub mod Looks
+pub mod Walks
+pub mod Lists

@@ -1,0 +1,22 @@
+-- The steps of a call.
+pub mod Again
+pub mod Touch
+pub mod Sides
+pub mod Cleft
+pub mod Split
+pub mod Parts
+pub mod Halve
+pub mod Grow
+pub mod After
+pub mod Retire
+pub mod Writes
+pub mod Mended
+pub mod Paths
+pub mod Keeps
+pub mod HalveBytes
+pub mod GrowBytes
+pub mod Stands
+pub mod SplitWay
+pub mod PutIn
+pub mod Plans
+pub mod Inserts

@@ -1,0 +1,12 @@
+-- Tests, entries, soundness, places.
+pub mod Tests
+pub mod Rises
+pub mod Entries
+pub mod Puts
+pub mod Views
+pub mod Sounds
+pub mod Places
+pub mod Halves
+pub mod Picks
+pub mod Asks
+pub mod Twins
