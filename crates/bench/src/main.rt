@@ -11,6 +11,7 @@ ghost use lib.ListN.{length};
 ghost use Rattle.driver.specs.Acts.{benchBytes};
 ghost use Rattle.bench.specs.Runs.{run, stand};
 use driver::Bench;
+use libc::STDERR_FILENO;
 use libc::STDIN_FILENO;
 use libc::STDOUT_FILENO;
 use words::Reply;
@@ -27,12 +28,17 @@ struct Fed {
     on: bool,
 }
 
-// Writes a line; nothing for a byte inside one.
+// Writes a line; nothing for a byte inside one. A line that can't be written is told on standard error, since a program
+// has no exit status of its own.
 fn print(reply: Reply) -> bool {
     let text = words::spell(reply);
     let n = text.len;
     let bytes = text.bytes;
-    io::write_all(STDOUT_FILENO, &bytes[..n])
+    if io::write_all(STDOUT_FILENO, &bytes[..n]) {
+        return true;
+    }
+    io::write_all(STDERR_FILENO, b"bench: cannot write to standard output\n");
+    false
 }
 
 // The bytes of a chunk, one after the other, up to one whose line can't be written.
@@ -66,6 +72,7 @@ fn read_some(working: &mut [u8], stable: &mut [u8], bench: Bench) -> Fed
     let mut chunk = [0u8; CHUNK];
     let got = libc::read(STDIN_FILENO, &mut chunk);
     if got < 0 {
+        io::write_all(STDERR_FILENO, b"bench: cannot read standard input\n");
         return Fed { bench, on: false };
     }
     if got == 0 {
