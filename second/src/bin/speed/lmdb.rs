@@ -1,5 +1,6 @@
 #![cfg(lmdb)]
 //! LMDB in a folder for temporary files, never forced to the disc: keys as 64-bit numbers, the order of its own choice.
+//! With its write map it changes the file in memory; without, it writes the pages.
 
 use super::subject::Subject;
 use second::key::key;
@@ -46,6 +47,7 @@ extern "C" {
 }
 
 const NO_SYNC: c_uint = 0x1_0000;
+const WRITE_MAP: c_uint = 0x8_0000;
 const READ_ONLY: c_uint = 0x2_0000;
 const INTEGER_KEY: c_uint = 0x08;
 const NO_OVERWRITE: c_uint = 0x10;
@@ -59,11 +61,33 @@ const SET_RANGE: c_uint = 17;
 const MAP: usize = 16 << 20;
 
 pub struct Lmdb {
+    name: &'static str,
     env: *mut c_void,
     dbi: c_uint,
     reading: *mut c_void,
     writing: *mut c_void,
-    folder: PathBuf,
+    _folder: Folder,
+}
+
+/// A folder of its own for each environment, gone with it.
+pub struct Folder(PathBuf);
+
+impl Folder {
+    pub fn new(name: &str) -> Folder {
+        let folder = std::env::temp_dir().join(format!("speed-{}-{name}", std::process::id()));
+        std::fs::create_dir_all(&folder).expect("a folder for LMDB");
+        Folder(folder)
+    }
+
+    pub fn path(&self) -> CString {
+        CString::new(self.0.to_str().expect("a plain path")).expect("a plain path")
+    }
+}
+
+impl Drop for Folder {
+    fn drop(&mut self) {
+        let _ = std::fs::remove_dir_all(&self.0);
+    }
 }
 
 fn done(status: c_int) {
@@ -72,20 +96,28 @@ fn done(status: c_int) {
 
 impl Lmdb {
     pub fn new() -> Lmdb {
-        let folder = std::env::temp_dir().join(format!("speed-{}", std::process::id()));
-        std::fs::create_dir_all(&folder).expect("a folder for LMDB");
-        let path = CString::new(folder.to_str().expect("a plain path")).expect("a plain path");
+        Lmdb::with("LMDB", NO_SYNC)
+    }
+
+    pub fn write_map() -> Lmdb {
+        Lmdb::with("LMDB write map", NO_SYNC | WRITE_MAP)
+    }
+
+    fn with(name: &'static str, flags: c_uint) -> Lmdb {
+        let folder = Folder::new(if flags == NO_SYNC { "plain" } else { "map" });
+        let path = folder.path();
         let mut lmdb = Lmdb {
+            name,
             env: null_mut(),
             dbi: 0,
             reading: null_mut(),
             writing: null_mut(),
-            folder,
+            _folder: folder,
         };
         unsafe {
             done(mdb_env_create(&mut lmdb.env));
             done(mdb_env_set_mapsize(lmdb.env, MAP));
-            done(mdb_env_open(lmdb.env, path.as_ptr(), NO_SYNC, 0o600));
+            done(mdb_env_open(lmdb.env, path.as_ptr(), flags, 0o600));
         }
         lmdb.begin();
         unsafe {
@@ -133,13 +165,12 @@ impl Drop for Lmdb {
     fn drop(&mut self) {
         self.end_reading();
         unsafe { mdb_env_close(self.env) };
-        let _ = std::fs::remove_dir_all(&self.folder);
     }
 }
 
 impl Subject for Lmdb {
     fn name(&self) -> &'static str {
-        "LMDB"
+        self.name
     }
 
     fn clear(&mut self) {

@@ -1,5 +1,7 @@
-//! The time of each call, side by side in one run: the proved store, the second program, a map in memory, LMDB, SQLite.
+//! The time of each call, side by side in one run: the proved store, the second program, a map in memory, LMDB, SQLite;
+//! and the proved store and LMDB once more, called from C.
 
+mod from_c;
 mod lmdb;
 mod map;
 mod sqlite;
@@ -56,9 +58,22 @@ fn subjects() -> Vec<Box<dyn Subject>> {
     all.push(Box::new(map::Map::new()));
     #[cfg(lmdb)]
     all.push(Box::new(lmdb::Lmdb::new()));
+    #[cfg(lmdb)]
+    all.push(Box::new(lmdb::Lmdb::write_map()));
     #[cfg(sqlite)]
     all.push(Box::new(sqlite::Sqlite::new()));
     all
+}
+
+/// Called from C, which is there where both can be linked.
+fn from_c() -> Vec<Box<dyn Subject>> {
+    #[cfg(caller)]
+    return vec![
+        Box::new(from_c::FromC::store()),
+        Box::new(from_c::FromC::lmdb()),
+    ];
+    #[cfg(not(caller))]
+    Vec::new()
 }
 
 fn main() {
@@ -71,10 +86,15 @@ fn main() {
     let certificates = certificates(&Rng::new(1991));
     let meters = certificates.present.iter().map(|(key, _)| parts(*key));
     let meters: Vec<(u16, u32)> = meters.map(|(model, serial, _)| (model, serial)).collect();
-    let mut table = Table::new(subjects());
-    for _ in 0..rounds {
-        table.round(&certificates, &meters);
-    }
     println!("{COUNT} certificates, best of {rounds} rounds, ns");
-    println!("{table}");
+    for (caller, subjects) in [("Rust", subjects()), ("C, gcc -O2", from_c())] {
+        if subjects.is_empty() {
+            continue;
+        }
+        let mut table = Table::new(subjects);
+        for _ in 0..rounds {
+            table.round(&certificates, &meters);
+        }
+        println!("\ncalled from {caller}\n{table}");
+    }
 }

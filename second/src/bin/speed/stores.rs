@@ -82,14 +82,15 @@ macro_rules! subject {
                 true
             }
 
-            fn refused(&mut self) -> bool {
-                let $tables = &mut self.store;
-                let session = &mut $reach.session;
-                session.n += 1;
-                let (answer, _) = self.store.lookup(1);
-                let $tables = &mut self.store;
-                $reach.session.n -= 1;
-                assert_eq!(answer, LENGTH);
+            fn refused(&mut self, count: usize) -> bool {
+                for _ in 0..count {
+                    let $tables = &mut self.store;
+                    $reach.session.n += 1;
+                    let (answer, _) = self.store.lookup(1);
+                    let $tables = &mut self.store;
+                    $reach.session.n -= 1;
+                    assert_eq!(answer, LENGTH);
+                }
                 true
             }
         }

@@ -15,6 +15,30 @@ pub trait Subject {
     /// The record of a meter's largest issue.
     fn newest(&mut self, model: u16, serial: u32) -> Option<u32>;
 
+    /// Looks up one after the other, with the records of those that are found; says how many.
+    fn lookups(&mut self, keys: &[u64], records: &mut [u32]) -> usize {
+        let mut found = 0;
+        for (key, place) in keys.iter().zip(records) {
+            if let Some(record) = self.lookup(*key) {
+                *place = record;
+                found += 1;
+            }
+        }
+        found
+    }
+
+    /// The newest of each meter, likewise.
+    fn newests(&mut self, meters: &[(u16, u32)], records: &mut [u32]) -> usize {
+        let mut found = 0;
+        for ((model, serial), place) in meters.iter().zip(records) {
+            if let Some(record) = self.newest(*model, *serial) {
+                *place = record;
+                found += 1;
+            }
+        }
+        found
+    }
+
     /// How many certificates there are, each of them read.
     fn list(&mut self) -> usize;
 
@@ -29,8 +53,8 @@ pub trait Subject {
         false
     }
 
-    /// A call that is refused at once; false if it has no such thing.
-    fn refused(&mut self) -> bool {
+    /// Calls that are refused at once; false if it has no such thing.
+    fn refused(&mut self, _count: usize) -> bool {
         false
     }
 }

@@ -57,22 +57,19 @@ fn round(
     meters: &[(u16, u32)],
 ) -> [Option<f64>; ROWS.len()] {
     let count = all.present.len();
+    let (keys, given): (Vec<u64>, Vec<u32>) = all.present.iter().copied().unzip();
+    let mut records = vec![0; count];
     subject.clear();
     let insert = each(count, || subject.fill(&all.present));
     let present = each(count, || {
-        for (key, record) in &all.present {
-            assert_eq!(subject.lookup(*key), Some(*record));
-        }
+        assert_eq!(subject.lookups(&keys, &mut records), count);
     });
+    assert_eq!(records, given);
     let absent = each(count, || {
-        for key in &all.absent {
-            assert_eq!(subject.lookup(*key), None);
-        }
+        assert_eq!(subject.lookups(&all.absent, &mut records), 0);
     });
     let newest = each(count, || {
-        for (model, serial) in meters {
-            assert!(subject.newest(*model, *serial).is_some());
-        }
+        assert_eq!(subject.newests(meters, &mut records), count);
     });
     let list = each(count * LISTS, || {
         for _ in 0..LISTS {
@@ -84,11 +81,7 @@ fn round(
     let mut opened = false;
     let open = each(1, || opened = subject.open());
     let mut refuses = false;
-    let refused = each(count, || {
-        for _ in 0..count {
-            refuses = subject.refused();
-        }
-    });
+    let refused = each(count, || refuses = subject.refused(count));
     [
         Some(present),
         Some(absent),
