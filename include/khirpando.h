@@ -2,12 +2,19 @@
  *
  * A certificate has a model (1 to 65,535), a serial (1 to 4,294,967,295) and an issue (1 to 65,535); the store keeps a
  * record, any 32-bit number, for each. The tables are 512 * n bytes each, 4 <= n <= 128: the working table, in memory,
- * and the stable table, which outlasts a crash. The caller hands the session in with each call and keeps the one it gets
- * back. Link target/staticlib/libexports.a, which `rt staticlib exports` writes; example/certificates.c shows each call
- * at work.
+ * and the stable table, the image of what is on the flash. The caller hands the session in with each call and keeps the
+ * one it gets back. Link target/staticlib/libexports.a, which `rt staticlib exports` writes; example/certificates.c
+ * shows each call at work.
+ *
+ * On a machine with files use host/khstore.h rather than these calls: it keeps tables, session and file together, and
+ * does all that "Your flash driver" below asks for.
  *
  * Any bytes, lengths, keys and sessions get an answer. C's own duties stay the caller's: each pointer is to as many
- * bytes (or numbers) as its length says, no two of them overlap, none is null, and every mark of a session is 0 or 1. */
+ * bytes (or numbers) as its length says, no two of them overlap, none is null, and every mark of a session is 0 or 1.
+ *
+ * Threads. The library has no variables of its own, and a call takes no memory but the stack. Calls on different tables
+ * may run at the same time. On the same tables one call runs at a time, the reading ones too: they mend working pages.
+ * A thread stopped in the middle of a call leaves tables that no call may see: read the flash again and open. */
 #ifndef KHIRPANDO_H
 #define KHIRPANDO_H
 
@@ -19,25 +26,135 @@
 extern "C" {
 #endif
 
-/* Where several answers would do, the lowest is given. With any but KH_DONE the numbers beside it are 0, the session is
- * as it was handed in, and nothing has changed but working pages that the call mended on its way. */
+/* ---- Your flash driver ----------------------------------------------------------------------------------------------
+ *
+ * Putting pages on the flash is the caller's part. What was synced outlasts every crash, which is proved (demand 3), on
+ * the conditions of that demand: at a crash each page on the flash is the stable table's or "the working page of that
+ * moment", everything else is forgotten, and an opening comes next. This table is what they ask for. "01" is the paper
+ * with the rules; where it names no other place, its paragraph on sync.
+ *
+ *   After                  has changed               must be on the flash                        because
+ *   ---------------------  ------------------------  ------------------------------------------  ----------------------
+ *   kh_format, answer 0    stable: every page        every page, before the first kh_open        01, Format: it "runs
+ *                                                                                                to its end before the
+ *                                                                                                first opening"
+ *   kh_open, answer 0      stable: page 0            stable page 0, before any other page        01, Open: "one page
+ *                          working: every page       is written                                  write"; without it a
+ *                                                                                                counter value is given
+ *                                                                                                twice
+ *   kh_insert, kh_lookup,  working: any page, and    nothing                                     01: "pages reach the
+ *   kh_newest, kh_list,    mended ones even if the                                               stable table only" in
+ *   any answer             call is refused                                                       sync, open, at a crash
+ *   kh_sync, answer 0      stable: page 0 and each   all of these, in any order, before anyone   01: a crash may fall
+ *                          that differed from        is told that the sync is done, and before   inside a sync; demand
+ *                          working                   any page of a later call is written         3: what is kept is of
+ *                          working: page 0           (simplest: before the next call)            the last sync
+ *   kh_format, kh_open,    nothing                   nothing; after a refused kh_open no         01: "nor after an
+ *   kh_sync, refused                                 working page may be written at all          opening that answered
+ *                                                                                                8"
+ *
+ * 1. A page is written whole: a crash leaves its 512 old bytes or its 512 new ones, and no other page changes with it
+ *    (01: "one page write is atomic"). So lend memory as stable table, never flash or a file mapped into memory: a crash
+ *    would find kh_sync half-way through a page. If the flash's own unit is larger than a page, the driver sees to it
+ *    that the neighbours outlast the write.
+ * 2. What is written is the stable table. A working page may be written between two calls, never while one runs, and
+ *    only if no call that changes it comes before the next sync is on the flash: demand 3 says "of that moment". So it
+ *    is for the moment when the power fails: call nothing more, and write any working pages, in any order, as many as
+ *    there is time for. If the power then stays, the next call is kh_sync, or the flash is read and opened. Never write
+ *    working pages ahead of a sync to save time: pages of two moments can name one child twice, and then the opening
+ *    after a crash answers 3.
+ * 3. A write that failed leaves the old page or the new one: a crash like any other. Write the same bytes again before
+ *    anything else. If that fails too, the sync is not done: write no other page, drop both tables and the session,
+ *    read the flash and open; all that was there at the sync or opening before is there. If a flush failed, no page
+ *    written since the flush before is certain, and what is read back may come from a cache: write every stable page
+ *    again, and flush. After a failed write of kh_format's pages, format again.
+ * 4. After a crash read the n pages into the stable table and open. The working table may hold anything. */
+
+/* ---- Versions and limits ----------------------------------------------------------------------------------------- */
+
+#define KH_VERSION_MAJOR 4
+#define KH_VERSION_MINOR 0
+#define KH_VERSION_PATCH 0
+#define KH_VERSION "4.0.0"
+
+#define KH_LAYOUT 9       /* the kind of page 0: a table with another one is refused with KH_DAMAGED */
+#define KH_PAGE_BYTES 512 /* bytes of a page */
+#define KH_PAGES_LEAST 4  /* pages of a table */
+#define KH_PAGES_MOST 128
+#define KH_LAST_NUMBER 4294967293u /* the last number that opens; it starts at 2, openings and syncs add 1 each */
+#define KH_SESSION_BYTES 264       /* sizeof(KhSession); grows with the fields of later versions */
+
+/* Bytes of a table of n pages, and the most certificates that a list of it can show. */
+#define KH_TABLE_BYTES(n) ((size_t)(n) * KH_PAGE_BYTES)
+#define KH_LIST_MOST(n) (((size_t)(n) - 1) * 40)
+
+/* ---- Answers --------------------------------------------------------------------------------------------------------
+ *
+ * Where several would do, the lowest is given. With any but KH_DONE the numbers beside it are 0, the session is as it
+ * was handed in, and nothing has changed but working pages that the call mended on its way. */
 enum {
     KH_DONE = 0,
-    KH_LENGTH = 1,    /* a table's length is wrong, the two differ, or the session is another table's */
-    KH_BADKEY = 2,    /* a zero model, serial or issue */
-    KH_DAMAGED = 3,   /* a page that the call needs is spoilt, and so is the one it was made from */
-    KH_NONE = 4,      /* no such certificate */
-    KH_PRESENT = 5,   /* the certificate is there already, with whatever record */
-    KH_SYNCFIRST = 6, /* sync, then insert again */
-    KH_FULL = 7,      /* too few free pages; a sync may free some */
-    KH_SPENT = 8      /* the counter is at its end */
+    /* A table's length is wrong, the two differ, or the session is another table's. Lend the tables that were opened,
+     * with the last session. The session of a refused opening gets this from every call: there is no store open. */
+    KH_LENGTH = 1,
+    /* A zero model, serial or issue. Correct the number. */
+    KH_BADKEY = 2,
+    /* A page that the call needs is spoilt, and so is the one it was made from; of an opening: page 0 or the tree is.
+     * No call and no crash does this: bad flash, or a driver that breaks its rules. Put what other calls still find into
+     * a new store; after a refused opening there is none to ask. */
+    KH_DAMAGED = 3,
+    /* No such certificate. It was never put in, or not synced before a crash: put it in. */
+    KH_NONE = 4,
+    /* The certificate is there already, with whatever record, which stays. A correction gets the next issue. */
+    KH_PRESENT = 5,
+    /* Sync, then insert again: it is done, or answers KH_FULL. */
+    KH_SYNCFIRST = 6,
+    /* Too few free pages. Sync and insert again. If it stays: list everything, which mends every page, sync, open and
+     * insert again. If it still stays, the store is full: put everything into a larger one. */
+    KH_FULL = 7,
+    /* The counter is at its end. A sync: list what is there, in this session, and put it into a new store now. An
+     * opening: this table opens no more. */
+    KH_SPENT = 8
 };
 
+/* The word for an answer. */
+static inline const char *kh_word(uint32_t answer)
+{
+    static const char *const words[] = {"done",    "length",    "badkey", "damaged", "none",
+                                        "present", "syncfirst", "full",   "spent"};
+    return answer < sizeof words / sizeof *words ? words[answer] : "unknown";
+}
+
+/* ---- Keys -----------------------------------------------------------------------------------------------------------
+ *
+ * A list shows certificates by key: model * 2^48 + serial * 2^16 + issue. */
+static inline uint64_t kh_key(uint16_t model, uint32_t serial, uint16_t issue)
+{
+    return (uint64_t)model << 48 | (uint64_t)serial << 16 | issue;
+}
+
+static inline uint16_t kh_key_model(uint64_t key)
+{
+    return (uint16_t)(key >> 48);
+}
+
+static inline uint32_t kh_key_serial(uint64_t key)
+{
+    return (uint32_t)(key >> 16);
+}
+
+static inline uint16_t kh_key_issue(uint64_t key)
+{
+    return (uint16_t)key;
+}
+
+/* ---- What is handed back ----------------------------------------------------------------------------------------- */
+
 typedef struct {
-    uint16_t n;        /* pages of each table; 0 in what a refused opening hands out */
-    uint32_t c;        /* the counter: grows with each opening and each sync */
-    bool free[128];    /* pages that an insert may take */
-    bool waiting[128]; /* pages that become free at the next sync */
+    uint16_t n;                  /* pages of each table; 0 in what a refused opening hands out */
+    uint32_t c;                  /* the counter: grows with each opening and each sync */
+    bool free[KH_PAGES_MOST];    /* pages that an insert may take */
+    bool waiting[KH_PAGES_MOST]; /* pages that become free at the next sync */
 } KhSession;
 
 typedef struct {
@@ -64,33 +181,50 @@ typedef struct {
     KhSession session;
 } KhListed;
 
-/* Makes the stable table an empty store. Once, before the first opening; the working table is only measured. */
-uint32_t kh_format(const uint8_t *working, size_t working_len, uint8_t *stable, size_t stable_len);
+#ifdef __cplusplus
+static_assert(sizeof(KhSession) == KH_SESSION_BYTES, "a session is laid out as the library has it");
+#else
+_Static_assert(sizeof(KhSession) == KH_SESSION_BYTES, "a session is laid out as the library has it");
+#endif
+
+/* ---- Calls ----------------------------------------------------------------------------------------------------------
+ *
+ * A result that is thrown away takes the session with it, and with the session what was put in since. */
+#if defined(__GNUC__)
+#define KH_KEEP __attribute__((warn_unused_result))
+#else
+#define KH_KEEP
+#endif
+
+/* Makes the stable table an empty store. Once, before the first opening; the working table is only measured.
+ * Answers 0, 1. */
+KH_KEEP uint32_t kh_format(const uint8_t *working, size_t working_len, uint8_t *stable, size_t stable_len);
 
 /* Tests the stable table, copies it to the working table and hands out a session: at the start and after every crash.
  * Answers 0, 1, 3, 8. */
-KhAnswered kh_open(uint8_t *working, size_t working_len, uint8_t *stable, size_t stable_len);
+KH_KEEP KhAnswered kh_open(uint8_t *working, size_t working_len, uint8_t *stable, size_t stable_len);
 
 /* Puts a certificate in. It outlasts a crash for certain from the next sync on. Answers 0, 1, 2, 3, 5, 6, 7. */
-KhAnswered kh_insert(uint8_t *working, size_t working_len, const uint8_t *stable, size_t stable_len, KhSession session,
-                     uint16_t model, uint32_t serial, uint16_t issue, uint32_t record);
+KH_KEEP KhAnswered kh_insert(uint8_t *working, size_t working_len, const uint8_t *stable, size_t stable_len,
+                             KhSession session, uint16_t model, uint32_t serial, uint16_t issue, uint32_t record);
 
 /* The record of a certificate. Answers 0, 1, 2, 3, 4. */
-KhLooked kh_lookup(uint8_t *working, size_t working_len, const uint8_t *stable, size_t stable_len, KhSession session,
-                   uint16_t model, uint32_t serial, uint16_t issue);
+KH_KEEP KhLooked kh_lookup(uint8_t *working, size_t working_len, const uint8_t *stable, size_t stable_len,
+                           KhSession session, uint16_t model, uint32_t serial, uint16_t issue);
 
 /* The largest issue of a meter, and its record. Answers 0, 1, 2, 3, 4. */
-KhNewest kh_newest(uint8_t *working, size_t working_len, const uint8_t *stable, size_t stable_len, KhSession session,
-                   uint16_t model, uint32_t serial);
+KH_KEEP KhNewest kh_newest(uint8_t *working, size_t working_len, const uint8_t *stable, size_t stable_len,
+                           KhSession session, uint16_t model, uint32_t serial);
 
 /* The certificates from a start key upwards, in key order, up to the shorter list; `count` says how many, and places
- * beyond stay as they were. A key is model * 2^48 + serial * 2^16 + issue; the start may be any number.
- * Answers 0, 1, 3. */
-KhListed kh_list(uint8_t *working, size_t working_len, const uint8_t *stable, size_t stable_len, KhSession session,
-                 uint64_t start, uint64_t *keys, size_t keys_len, uint32_t *records, size_t records_len);
+ * beyond stay as they were. The start may be any number. Answers 0, 1, 3. */
+KH_KEEP KhListed kh_list(uint8_t *working, size_t working_len, const uint8_t *stable, size_t stable_len,
+                         KhSession session, uint64_t start, uint64_t *keys, size_t keys_len, uint32_t *records,
+                         size_t records_len);
 
-/* Copies the working table to the stable table: what was put in is kept from now on. Answers 0, 1, 8. */
-KhAnswered kh_sync(uint8_t *working, size_t working_len, uint8_t *stable, size_t stable_len, KhSession session);
+/* Copies the working table to the stable table: what was put in is kept from the moment when all changed pages are on
+ * the flash. Answers 0, 1, 8. */
+KH_KEEP KhAnswered kh_sync(uint8_t *working, size_t working_len, uint8_t *stable, size_t stable_len, KhSession session);
 
 #ifdef __cplusplus
 }
