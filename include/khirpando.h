@@ -54,9 +54,9 @@ extern "C" {
  *                                                                                                8"
  *
  * 1. A page is written whole: a crash leaves its 512 old bytes or its 512 new ones, and no other page changes with it
- *    (01: "one page write is atomic"). So lend memory as stable table, never flash or a file mapped into memory: a crash
- *    would find kh_sync half-way through a page. If the flash's own unit is larger than a page, the driver sees to it
- *    that the neighbours outlast the write.
+ *    (01: "one page write is atomic"). So lend memory as stable table, never flash or a file mapped into memory: there a
+ *    crash would find kh_sync half-way through a page. If the flash's own unit is larger than a page, the driver sees to
+ *    it that the neighbours outlast the write.
  * 2. What is written is the stable table. A working page may be written between two calls, never while one runs, and
  *    only if no call that changes it comes before the next sync is on the flash: demand 3 says "of that moment". So it
  *    is for the moment when the power fails: call nothing more, and write any working pages, in any order, as many as
@@ -100,8 +100,8 @@ enum {
     /* A zero model, serial or issue. Correct the number. */
     KH_BADKEY = 2,
     /* A page that the call needs is spoilt, and so is the one it was made from; of an opening: page 0 or the tree is.
-     * No call and no crash does this: bad flash, or a driver that breaks its rules. Put what other calls still find into
-     * a new store; after a refused opening there is none to ask. */
+     * No call and no crash does this, but bad flash, or a driver that breaks its rules. Put what other calls still find
+     * into a new store; after a refused opening there is none to ask. */
     KH_DAMAGED = 3,
     /* No such certificate. It was never put in, or not synced before a crash: put it in. */
     KH_NONE = 4,

@@ -1,0 +1,125 @@
+#define _DEFAULT_SOURCE
+
+#include "flash.h"
+
+#include <errno.h>
+#include <signal.h>
+#include <string.h>
+#include <unistd.h>
+
+ssize_t __real_pwrite(int file, const void *bytes, size_t count, off_t to);
+ssize_t __wrap_pwrite(int file, const void *bytes, size_t count, off_t to);
+int __wrap_fsync(int file);
+int __wrap_fdatasync(int file);
+
+static struct {
+    Random random;
+    Broken broken;
+    uint32_t points;   /* until the process is killed */
+    uint32_t failing;  /* writes until they fail; 0 for never */
+    bool opening;
+    int file;
+    bool waits[KH_PAGES_MOST];
+    uint8_t pages[KH_PAGES_MOST][KH_PAGE_BYTES];
+} flash;
+
+void flash_start(uint64_t seed, Broken broken, uint32_t points)
+{
+    memset(&flash, 0, sizeof flash);
+    flash.random.at = seed;
+    flash.broken = broken;
+    flash.points = points;
+}
+
+void flash_point(void)
+{
+    if (flash.points > 0 && --flash.points == 0)
+        kill(getpid(), SIGKILL);
+}
+
+void flash_opening(bool opening)
+{
+    flash.opening = opening;
+}
+
+void flash_fail_after(uint32_t writes)
+{
+    flash.failing = writes + 1;
+}
+
+/* The numbers 0 to 127 in random order. */
+static void shuffle(uint8_t order[KH_PAGES_MOST])
+{
+    for (uint32_t i = 0; i < KH_PAGES_MOST; i++) {
+        uint32_t j = random_below(&flash.random, i + 1);
+        order[i] = order[j];
+        order[j] = (uint8_t)i;
+    }
+}
+
+static void put(int file, const uint8_t *bytes, size_t page)
+{
+    size_t count = KH_PAGE_BYTES;
+    if (flash.broken == BROKEN_TORN && random_once_in(&flash.random, 8))
+        count = 1 + random_below(&flash.random, KH_PAGE_BYTES - 1);
+    if (__real_pwrite(file, bytes, count, (off_t)(page * KH_PAGE_BYTES)) != (ssize_t)count)
+        _exit(3);
+    flash_point();
+}
+
+/* Sends out each page that waits, or about one in `times`. */
+static void send_out(uint32_t times)
+{
+    uint8_t order[KH_PAGES_MOST];
+    shuffle(order);
+    for (size_t i = 0; i < KH_PAGES_MOST; i++) {
+        uint8_t page = order[i];
+        if (flash.waits[page] && random_once_in(&flash.random, times)) {
+            flash.waits[page] = false;
+            put(flash.file, flash.pages[page], page);
+        }
+    }
+}
+
+void flash_working(const KhStore *store)
+{
+    uint8_t order[KH_PAGES_MOST];
+    uint32_t times = 1 + random_below(&flash.random, 4);
+    shuffle(order);
+    for (size_t i = 0; i < KH_PAGES_MOST; i++)
+        if (order[i] < store->bytes / KH_PAGE_BYTES && random_once_in(&flash.random, times))
+            put(store->file, store->working + order[i] * KH_PAGE_BYTES, order[i]);
+}
+
+/* A page is written: it waits. What is no page goes straight through. */
+ssize_t __wrap_pwrite(int file, const void *bytes, size_t count, off_t to)
+{
+    if (flash.failing > 0 && --flash.failing == 0) {
+        flash.failing = 1;
+        errno = EIO;
+        return -1;
+    }
+    if (count != KH_PAGE_BYTES)
+        return __real_pwrite(file, bytes, count, to);
+    size_t page = (size_t)to / KH_PAGE_BYTES;
+    if (flash.broken == BROKEN_OPEN && flash.opening && page == 0)
+        return (ssize_t)count;
+    flash.file = file;
+    flash.waits[page] = true;
+    memcpy(flash.pages[page], bytes, count);
+    if (random_once_in(&flash.random, 16))
+        send_out(2);
+    return (ssize_t)count;
+}
+
+int __wrap_fdatasync(int file)
+{
+    (void)file;
+    send_out(flash.broken == BROKEN_SYNC && !flash.opening ? 2 : 1);
+    return 0;
+}
+
+int __wrap_fsync(int file)
+{
+    return __wrap_fdatasync(file);
+}

@@ -1,0 +1,36 @@
+/* A disc between khstore.c and its file, linked in with --wrap: it writes late, in random order, and loses what waits.
+ *
+ * A page that khstore.c writes waits in memory. Now and then some that wait go out to the file, in random order; a flush
+ * sends all out. So where the process is killed, the file has the pages that went out, and the rest is lost. */
+#ifndef TRIAL_FLASH_H
+#define TRIAL_FLASH_H
+
+#include "random.h"
+
+#include "khstore.h"
+
+/* Drivers that break one rule of "Your flash driver" each. */
+typedef enum {
+    BROKEN_NOT,
+    BROKEN_OPEN,  /* page 0 is not written after an opening */
+    BROKEN_SYNC,  /* a flush returns while pages wait */
+    BROKEN_EARLY, /* working pages are written ahead of a sync, at moments of their own */
+    BROKEN_TORN   /* a page is not written whole */
+} Broken;
+
+/* A process starts: nothing waits. It is killed after so many points; 0 for never. */
+void flash_start(uint64_t seed, Broken broken, uint32_t points);
+
+/* Here the process may be killed. Each page that goes out is a point too. */
+void flash_point(void);
+
+/* Whether khs_open is running: the page that BROKEN_OPEN skips is written then. */
+void flash_opening(bool opening);
+
+/* Writes of khstore.c fail with EIO after so many more. */
+void flash_fail_after(uint32_t writes);
+
+/* Sends some working pages out to the file, in random order. */
+void flash_working(const KhStore *store);
+
+#endif
