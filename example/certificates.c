@@ -3,24 +3,25 @@
  *     rt staticlib exports
  *     cc -std=c11 -Wall -Wextra -Werror -Iinclude example/certificates.c target/staticlib/libexports.a -o certificates
  *
- * It prints what it does, and ends with status 1 at the first answer that it does not expect. */
+ * It prints what it does, and ends with status 1 at the first answer that it does not expect. A store in a file is in
+ * shelf.c. */
 #include <stdio.h>
 #include <stdlib.h>
 #include <string.h>
 
 #include "khirpando.h"
 
-enum { PAGE = 512, PAGES = 8, BYTES = PAGE * PAGES, ROOM = 64 };
+enum { PAGES = 8, BYTES = KH_TABLE_BYTES(PAGES), ROOM = 64 };
 
 static uint8_t working[BYTES]; /* in memory: lost at a crash */
-static uint8_t stable[BYTES];  /* on a disc: written in whole pages */
+static uint8_t stable[BYTES];  /* stands for the flash: a real driver writes its pages there, see khirpando.h */
 static KhSession session;
 
 static void expect(const char *what, uint32_t answer, uint32_t expected)
 {
-    printf("%s: %u\n", what, (unsigned)answer);
+    printf("%s: %s\n", what, kh_word(answer));
     if (answer != expected) {
-        printf("expected %u\n", (unsigned)expected);
+        printf("expected: %s\n", kh_word(expected));
         exit(1);
     }
 }
@@ -57,7 +58,7 @@ static KhLooked lookup(uint32_t serial)
 static void crash(const int *pages, size_t count)
 {
     for (size_t i = 0; i < count; i++)
-        memcpy(stable + pages[i] * PAGE, working + pages[i] * PAGE, PAGE);
+        memcpy(stable + pages[i] * KH_PAGE_BYTES, working + pages[i] * KH_PAGE_BYTES, KH_PAGE_BYTES);
     memset(working, 0xEE, BYTES);
     memset(&session, 0, sizeof session);
 }
@@ -71,7 +72,7 @@ static void list_all(uint64_t expected)
     expect("list", listed.answer, KH_DONE);
     printf("%llu certificates", (unsigned long long)listed.count);
     if (listed.count > 0)
-        printf(", the last with serial %u and record %u", (unsigned)(keys[listed.count - 1] >> 16 & 0xFFFFFFFF),
+        printf(", the last with serial %u and record %u", (unsigned)kh_key_serial(keys[listed.count - 1]),
                (unsigned)records[listed.count - 1]);
     printf("\n");
     if (listed.count != expected)

@@ -54,9 +54,9 @@ extern "C" {
  *                                                                                                8"
  *
  * 1. A page is written whole: a crash leaves its 512 old bytes or its 512 new ones, and no other page changes with it
- *    (01: "one page write is atomic"). So lend memory as stable table, never flash or a file mapped into memory: there a
- *    crash would find kh_sync half-way through a page. If the flash's own unit is larger than a page, the driver sees to
- *    it that the neighbours outlast the write.
+ *    (01: "one page write is atomic"). So lend memory as stable table, never flash or a file mapped into memory, where
+ *    a crash would find kh_sync half-way through a page. If the flash's own unit is larger than a page, the driver sees
+ *    to it that the neighbours outlast the write.
  * 2. What is written is the stable table. A working page may be written between two calls, never while one runs, and
  *    only if no call that changes it comes before the next sync is on the flash: demand 3 says "of that moment". So it
  *    is for the moment when the power fails: call nothing more, and write any working pages, in any order, as many as

@@ -15,19 +15,23 @@ int __wrap_fdatasync(int file);
 static struct {
     Random random;
     Broken broken;
-    uint32_t points;   /* until the process is killed */
-    uint32_t failing;  /* writes until they fail; 0 for never */
+    uint32_t points;  /* until the process is killed; 0 for never */
+    uint32_t failing; /* 1 if writes and flushes fail, n + 1 if they do after n more; 0 for never */
     bool opening;
     int file;
     bool waits[KH_PAGES_MOST];
     uint8_t pages[KH_PAGES_MOST][KH_PAGE_BYTES];
 } flash;
 
-void flash_start(uint64_t seed, Broken broken, uint32_t points)
+void flash_start(uint64_t seed, Broken broken)
 {
     memset(&flash, 0, sizeof flash);
     flash.random.at = seed;
     flash.broken = broken;
+}
+
+void flash_kill_after(uint32_t points)
+{
     flash.points = points;
 }
 
@@ -42,9 +46,9 @@ void flash_opening(bool opening)
     flash.opening = opening;
 }
 
-void flash_fail_after(uint32_t writes)
+void flash_fail_after(uint32_t more)
 {
-    flash.failing = writes + 1;
+    flash.failing = more + 1;
 }
 
 /* The numbers 0 to 127 in random order. */
@@ -91,14 +95,23 @@ void flash_working(const KhStore *store)
             put(store->file, store->working + order[i] * KH_PAGE_BYTES, order[i]);
 }
 
+/* Once a write or a flush has failed, all fail. */
+static bool fails(void)
+{
+    if (flash.failing == 1) {
+        errno = EIO;
+        return true;
+    }
+    if (flash.failing > 1)
+        flash.failing--;
+    return false;
+}
+
 /* A page is written: it waits. What is no page goes straight through. */
 ssize_t __wrap_pwrite(int file, const void *bytes, size_t count, off_t to)
 {
-    if (flash.failing > 0 && --flash.failing == 0) {
-        flash.failing = 1;
-        errno = EIO;
+    if (fails())
         return -1;
-    }
     if (count != KH_PAGE_BYTES)
         return __real_pwrite(file, bytes, count, to);
     size_t page = (size_t)to / KH_PAGE_BYTES;
@@ -115,6 +128,8 @@ ssize_t __wrap_pwrite(int file, const void *bytes, size_t count, off_t to)
 int __wrap_fdatasync(int file)
 {
     (void)file;
+    if (fails())
+        return -1;
     send_out(flash.broken == BROKEN_SYNC && !flash.opening ? 2 : 1);
     return 0;
 }

@@ -1,7 +1,7 @@
 /* A disc between khstore.c and its file, linked in with --wrap: it writes late, in random order, and loses what waits.
  *
- * A page that khstore.c writes waits in memory. Now and then some that wait go out to the file, in random order; a flush
- * sends all out. So where the process is killed, the file has the pages that went out, and the rest is lost. */
+ * A page that khstore.c writes waits in memory. Now and then some that wait go out to the file, in random order; a
+ * flush sends all out. So where the process is killed, the file has the pages that went out, and the rest is lost. */
 #ifndef TRIAL_FLASH_H
 #define TRIAL_FLASH_H
 
@@ -18,17 +18,18 @@ typedef enum {
     BROKEN_TORN   /* a page is not written whole */
 } Broken;
 
-/* A process starts: nothing waits. It is killed after so many points; 0 for never. */
-void flash_start(uint64_t seed, Broken broken, uint32_t points);
+/* A process starts: nothing waits. */
+void flash_start(uint64_t seed, Broken broken);
 
-/* Here the process may be killed. Each page that goes out is a point too. */
+/* The process is killed after so many more points. Each page that goes out is one, and each flash_point. */
+void flash_kill_after(uint32_t points);
 void flash_point(void);
 
 /* Whether khs_open is running: the page that BROKEN_OPEN skips is written then. */
 void flash_opening(bool opening);
 
-/* Writes of khstore.c fail with EIO after so many more. */
-void flash_fail_after(uint32_t writes);
+/* Writes and flushes of khstore.c fail with EIO after so many more. */
+void flash_fail_after(uint32_t more);
 
 /* Sends some working pages out to the file, in random order. */
 void flash_working(const KhStore *store);
