@@ -6,6 +6,8 @@ pub mod Exact
 pub mod Turns
 pub mod WayLeft
 pub mod Refused
+-- What stands on a page that a call builds
+pub mod Building
 -- What an insert changes, in tables of any bytes
 pub mod Leading
 pub mod Writing
