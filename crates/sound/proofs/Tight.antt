@@ -12,8 +12,5 @@ fits-tight κs a pre z z′ l l′ p q = (p ∙ sym q, refl)
 pub fits-at-tight : Tight this.fits_at.Kinds.ps this.fits_at.Kinds.r this.fits_at.Reads.Pre this.fits_at.Reads.Post
 fits-at-tight κs a pre z z′ l l′ p q = (p ∙ sym q, refl)
 
-pub mendable-tight : Tight this.mendable.Kinds.ps this.mendable.Kinds.r this.mendable.Reads.Pre this.mendable.Reads.Post
-mendable-tight κs a pre z z′ l l′ p q = (p ∙ sym q, refl)
-
 pub mendable-at-tight : Tight this.mendable_at.Kinds.ps this.mendable_at.Kinds.r this.mendable_at.Reads.Pre this.mendable_at.Reads.Post
 mendable-at-tight κs a pre z z′ l l′ p q = (p ∙ sym q, refl)

@@ -284,18 +284,8 @@ fn covers(page: &[u8], e: Place, n: usize) -> bool
     has_key(page, head.count as usize, e.low)
 }
 
-// A lost child can be mended from this page, its previous one. If not, the place is damaged.
-pub fn mendable(page: &[u8], e: Place, n: usize) -> bool
-    requires { ⌜ pageSize ≤ length (now page) ⌝ }
-    ensures { λ r. ⌜ r ≡ mendable n e (pageIn (now (page .entry))) ⌝ }
-{
-    if !names_previous(e, n) {
-        return false;
-    }
-    covers(page, e, n)
-}
-
-// The previous page is looked at only where the place names one.
+// A lost child can be mended from its previous page. If not, the place is damaged. The page is looked at only where the
+// place names one.
 pub fn mendable_at(table: &[u8], e: Place, n: usize) -> bool
     requires { ⌜ length (now table) ≡ n * pageSize ⌝ }
     ensures { λ r. ⌜ r ≡ mendable n e (read (now (table .entry)) (e .previous)) ⌝ }
