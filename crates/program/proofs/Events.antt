@@ -14,13 +14,13 @@ use Rattle.lines.specs.declared.Line.{Line}
 use Rattle.words.specs.declared.Reply.{Reply}
 use Rattle.driver.specs.Acts.{crashed, acted}
 
--- the event that a line stands for
-unfoldable pub eventOf : Line → Option Event
-eventOf (Line.Insert model serial issue x) = some (inserts model serial issue x)
-eventOf (Line.Find model serial issue) = some (looks model serial issue)
-eventOf Line.Sync = some syncs
-eventOf (Line.Crash a b c d e) = some (crashes (a ∷ b ∷ c ∷ d ∷ e ∷ []))
-eventOf Line.Other = none
+-- the event that a line stands for; the bench lends the opening after a crash the working table that it has
+unfoldable pub eventOf : Line → List ℕ → Option Event
+eventOf (Line.Insert model serial issue x) w = some (inserts model serial issue x)
+eventOf (Line.Find model serial issue) w = some (looks model serial issue)
+eventOf Line.Sync w = some syncs
+eventOf (Line.Crash a b c d e) w = some (crashes (a ∷ b ∷ c ∷ d ∷ e ∷ []) w)
+eventOf Line.Other w = none
 
 unfoldable pub happens : Option Event → State → State
 happens none m = m
@@ -45,7 +45,7 @@ storeOf m = store (m .session) (m .working) (m .stable)
 same-store : (a b : Session) (w s t : List ℕ) → a ≡ b → s ≡ t → store a w s ≡ store b w t
 same-store a b w s t e f = rw (e, f)
 
-pub line-event : (line : Line) (m : State) → storeLeft (acted line (m .session) (m .working) (m .stable)) ≡ storeOf (happens (eventOf line) m)
+pub line-event : (line : Line) (m : State) → storeLeft (acted line (m .session) (m .working) (m .stable)) ≡ storeOf (happens (eventOf line (m .working)) m)
 unfolding acted crashed eventOf happens step afterInsert afterSync afterOpen afterReading torn
 line-event (Line.Insert model serial issue x) m = refl
 line-event (Line.Find model serial issue) m =

@@ -15,7 +15,7 @@ use Rattle.rules.specs.Table.{fit0}
 use Rattle.rules.specs.Walk.{Step, certsAt, wayOf}
 use Rattle.rules.specs.Call.{Left, lengthsFor, lookedNo}
 use Rattle.rules.specs.Lookup.{foundIn, lookupLeft, lookupKey, lookup}
-use Rattle.rules.specs.History.{Event, inserts, State, latest, recordIn, content, gains, afterInsert, step, run, start, Typed, AllTyped}
+use Rattle.rules.specs.History.{Event, inserts, State, latest, recordIn, content, gains, afterInsert, step, run, start, Proper, AllProper}
 use Rattle.rules.specs.Demand.{Serves, Demand3}
 use Rattle.rules.specs.declared.Session.{Session}
 use Rattle.rules.specs.declared.Inserted.{Inserted}
@@ -93,10 +93,10 @@ unfolding run
 run-then [] e m = refl
 run-then (x ∷ h) e m = run-then h e (step x m)
 
-pub typed-then : (h : List Event) (e : Event) → AllTyped h → Typed e → AllTyped (h ++ (e ∷ []))
-unfolding AllTyped
-typed-then [] e t y = (y, tt)
-typed-then (x ∷ h) e t y = (t .0, typed-then h e (t .1) y)
+pub proper-then : (n : ℕ) (h : List Event) (e : Event) → AllProper n h → Proper n e → AllProper n (h ++ (e ∷ []))
+unfolding AllProper
+proper-then n [] e t y = (y, tt)
+proper-then n (x ∷ h) e t y = (t .0, proper-then n h e (t .1) y)
 
 past-done : (k x : ℕ) (m : State) (r : Left Inserted) → r .answer ≡ Inserted.Done → afterInsert k x m r .past ≡ gains k x (m .past)
 unfolding afterInsert
@@ -184,11 +184,11 @@ done-pages w s h model serial issue x done =
     (wayOf (m .session .n) (m .session .c) (keyOf model serial issue) (m .working) .table) (m .stable))
 
 pub insert-adds : InsertAdds
-unfolding InsertAdds Demand3 Typed
+unfolding InsertAdds Demand3 Proper
 insert-adds n w s l h t z model serial issue x a b c d done =
     adds (run h (start w s)) model serial issue x a b c (demand3 n w s l h t .1 z)
     (subst Serves (run-then h e (start w s))
-    (demand3 n w s l (h ++ (e ∷ [])) (typed-then h e t (a, b, c, d)) .1 (done-pages w s h model serial issue x done ∙ z))) done
+    (demand3 n w s l (h ++ (e ∷ [])) (proper-then n h e t (a, b, c, d)) .1 (done-pages w s h model serial issue x done ∙ z))) done
   where
     e : Event
     e = inserts model serial issue x

@@ -14,7 +14,7 @@ use Rattle.rules.specs.Entry.{Cert, keys, find, put, rising}
 use Rattle.rules.specs.Tree.{treeOf}
 use Rattle.rules.specs.Call.{lookedNo}
 use Rattle.rules.specs.Lookup.{lookup}
-use Rattle.rules.specs.History.{inserts, State, afterInsert, step, run, start, Typed}
+use Rattle.rules.specs.History.{inserts, State, afterInsert, step, run, start, Proper}
 use Rattle.rules.specs.declared.Looked.{Looked}
 use Rattle.rules.proofs.bytes.Keys.{keyOf-parts, modelOf-bound, serialOf-bound, issueOf-bound}
 use Rattle.rules.proofs.entries.Tests.{not-both, between-above}
@@ -27,7 +27,7 @@ use Rattle.reading.proofs.FoundThen.{done-good}
 use Rattle.reading.proofs.TreeCerts.{all-ordered, all-good}
 use Rattle.reading.proofs.Agrees.{passing}
 use Rattle.reading.proofs.HistoriesAgree.{histories-agree}
-use Rattle.reading.proofs.Adds.{run-then, typed-then, insert-adds, done-pages}
+use Rattle.reading.proofs.Adds.{run-then, proper-then, insert-adds, done-pages}
 
 -- ── Lists that rise are told by what is found in them ───────────────────────────────────────────────────────────
 
@@ -183,13 +183,13 @@ module _ (m r : State) (model serial issue x : ℕ) (wide-model : model < 65536)
   puts = ext-find after (put (certOf k x) before) (B .agree .rises) (put-rising (certOf k x) before (A .agree .rises)) finds
 
 pub insert-puts : InsertPuts
-unfolding InsertPuts InsertAdds HistoriesAgree Typed step afterInsert
+unfolding InsertPuts InsertAdds HistoriesAgree Proper step afterInsert
 insert-puts n w s l h t z model serial issue x a b c d done =
     let e = inserts model serial issue x in
     let m = run h (start w s) in
     let y = insert-adds n w s l h t z model serial issue x a b c d done in
     let B : AgreeIn (step e m) =
     subst AgreeIn (run-then h e (start w s))
-    (histories-agree n w s l (h ++ (e ∷ [])) (typed-then h e t (a, b, c, d)) (done-pages w s h model serial issue x done ∙ z)) in
+    (histories-agree n w s l (h ++ (e ∷ [])) (proper-then n h e t (a, b, c, d)) (done-pages w s h model serial issue x done ∙ z)) in
     puts m (step e m) model serial issue x a b c (done-good (m .working) (m .stable) (m .session) model serial issue x done)
     (histories-agree n w s l h t z) B (y .own) (y .others)

@@ -17,7 +17,7 @@ use Rattle.rules.specs.Call.{lengthsFor}
 use Rattle.rules.specs.Lookup.{lookup}
 use Rattle.rules.specs.Newest.{newest}
 use Rattle.rules.specs.List.{ListLeft, recordsOf, list}
-use Rattle.rules.specs.History.{Event, State, run, start, AllTyped}
+use Rattle.rules.specs.History.{Event, State, run, start, AllProper}
 use Rattle.rules.specs.Demand.{Lent}
 use Rattle.rules.specs.declared.Session.{Session}
 use Rattle.rules.specs.declared.Inserted.{Inserted}
@@ -93,13 +93,13 @@ ReadersAgree = (w t : List ℕ) (s : Session) → Passes w t s → Agree w t s
 -- at every point of every history while the last opening was done
 unfoldable pub HistoriesAgree : Type 0
 HistoriesAgree =
-    (n : ℕ) (w s : List ℕ) → Lent n w s → (h : List Event) → AllTyped h → run h (start w s) .session .n ≡ n
+    (n : ℕ) (w s : List ℕ) → Lent n w s → (h : List Event) → AllProper n h → run h (start w s) .session .n ≡ n
     → AgreeIn (run h (start w s))
 
 -- and an insert that is done there puts one certificate into the tree, in key order
 unfoldable pub InsertPuts : Type 0
 InsertPuts =
-    (n : ℕ) (w s : List ℕ) → Lent n w s → (h : List Event) → AllTyped h → run h (start w s) .session .n ≡ n
+    (n : ℕ) (w s : List ℕ) → Lent n w s → (h : List Event) → AllProper n h → run h (start w s) .session .n ≡ n
     → (model serial issue x : ℕ) → model < 65536 → serial < 4294967296 → issue < 65536 → x < 4294967296
     → inserted (run h (start w s)) model serial issue x .answer ≡ Inserted.Done
     → held (inserted (run h (start w s)) model serial issue x .session) (inserted (run h (start w s)) model serial issue x .working)

@@ -13,7 +13,7 @@ use Rattle.rules.specs.Marks.{freePages}
 use Rattle.rules.specs.Call.{Left}
 use Rattle.rules.specs.Insert.{rootSplits, newPages, insert}
 use Rattle.rules.specs.Lookup.{lookup}
-use Rattle.rules.specs.History.{Event, State, run, start, AllTyped}
+use Rattle.rules.specs.History.{Event, State, run, start, AllProper}
 use Rattle.rules.specs.Demand.{Lent}
 use Rattle.rules.specs.declared.Session.{Session}
 use Rattle.rules.specs.declared.Inserted.{Inserted}
@@ -85,7 +85,7 @@ pub record Adds (m : State) (model serial issue x : ℕ) (r : Left Inserted) : T
 -- at every point of every history while the last opening was done
 unfoldable pub InsertAdds : Type 0
 InsertAdds =
-    (n : ℕ) (w s : List ℕ) → Lent n w s → (h : List Event) → AllTyped h → run h (start w s) .session .n ≡ n
+    (n : ℕ) (w s : List ℕ) → Lent n w s → (h : List Event) → AllProper n h → run h (start w s) .session .n ≡ n
     → (model serial issue x : ℕ) → model < 65536 → serial < 4294967296 → issue < 65536 → x < 4294967296
     → inserted (run h (start w s)) model serial issue x .answer ≡ Inserted.Done
     → Adds (run h (start w s)) model serial issue x (inserted (run h (start w s)) model serial issue x)

@@ -14,7 +14,7 @@ use Rattle.rules.specs.Open.{opening}
 use Rattle.rules.specs.Lookup.{lookup}
 use Rattle.rules.specs.Newest.{newest}
 use Rattle.rules.specs.List.{ListLeft, list}
-use Rattle.rules.specs.History.{Event, State, looks, asksNewest, lists, step, run, start, AllTyped, crashed, crashedInSync, content, latest, earliest}
+use Rattle.rules.specs.History.{Event, State, looks, asksNewest, lists, step, run, start, AllProper, crashed, crashedInSync, content, latest, earliest}
 use Rattle.rules.specs.declared.Opened.{Opened}
 use Rattle.rules.specs.declared.Looked.{Looked}
 use Rattle.rules.specs.declared.Newest.{Newest}
@@ -24,8 +24,8 @@ use Rattle.rules.specs.declared.Listed.{Listed}
 
 -- the stable tables that a crash of a store can leave, between two calls or inside a sync
 pub data CrashOf (m : State) : List ℕ → Type 0 where
-  between : (written : List Bool) → CrashOf m (crashed written m)
-  inSync : (written : List Bool) → CrashOf m (crashedInSync written m)
+  betweenCalls : (written : List Bool) → CrashOf m (crashed written m)
+  insideSync : (written : List Bool) → CrashOf m (crashedInSync written m)
 
 -- a state is among those that a key has had
 pub data Among (x : Option ℕ) : List (Option ℕ) → Type 0 where
@@ -48,29 +48,29 @@ pub record SameListing (a b : ListLeft) : Type 0 where
 unfoldable pub openAnswer : List ℕ → Opened
 openAnswer s = elim (leb (number0 s) lastNumber) [ true ↦ Opened.Done | false ↦ Opened.Spent ]
 
--- what is found after the opening of a stable table
-unfoldable pub after : State → List ℕ → ℕ → Option ℕ
-after m s k =
-    let r = opening (m .working) s in
+-- what is found of a key after the opening of two tables
+unfoldable pub after : List ℕ → List ℕ → ℕ → Option ℕ
+after w s k =
+    let r = opening w s in
     content (r .session) (r .working) (r .stable) k
 
 -- ── What holds ──────────────────────────────────────────────────────────────────────────────────────────────────
 
--- of a crash now, and the opening after it
-pub record Survives (m : State) : Type 0 where
-  pub opens : (s : List ℕ) → CrashOf m s → opening (m .working) s .answer ≡ openAnswer s
+-- of a crash now, and of the opening after it, which is lent the working table w
+pub record Survives (m : State) (w : List ℕ) : Type 0 where
+  pub opens : (s : List ℕ) → CrashOf m s → opening w s .answer ≡ openAnswer s
   -- every key shows one of the states it has had; one that was there at the last sync or opening is there
-  pub shows : (s : List ℕ) → CrashOf m s → opening (m .working) s .answer ≡ Opened.Done
-      → (k : ℕ) → k ≤ lastKey → Among (after m s k) (m .past k)
-  pub keeps : (s : List ℕ) → CrashOf m s → opening (m .working) s .answer ≡ Opened.Done
-      → (k x : ℕ) → k ≤ lastKey → earliest (m .past k) ≡ some x → after m s k ≡ some x
+  pub shows : (s : List ℕ) → CrashOf m s → opening w s .answer ≡ Opened.Done
+      → (k : ℕ) → k ≤ lastKey → Among (after w s k) (m .past k)
+  pub keeps : (s : List ℕ) → CrashOf m s → opening w s .answer ≡ Opened.Done
+      → (k x : ℕ) → k ≤ lastKey → earliest (m .past k) ≡ some x → after w s k ≡ some x
   -- no page written: the set of the sync or opening; all written: that of the crash
-  pub nothing-written : opening (m .working) (m .stable) .answer ≡ Opened.Done
-      → (k : ℕ) → k ≤ lastKey → after m (m .stable) k ≡ earliest (m .past k)
-  pub all-written : (s : List ℕ) → s ≡ crashed (replicate mostPages true) m → opening (m .working) s .answer ≡ Opened.Done
-      → (k : ℕ) → k ≤ lastKey → after m s k ≡ latest (m .past k)
+  pub nothing-written : opening w (m .stable) .answer ≡ Opened.Done
+      → (k : ℕ) → k ≤ lastKey → after w (m .stable) k ≡ earliest (m .past k)
+  pub all-written : (s : List ℕ) → s ≡ crashed (replicate mostPages true) m → opening w s .answer ≡ Opened.Done
+      → (k : ℕ) → k ≤ lastKey → after w s k ≡ latest (m .past k)
   pub all-written-in-sync : (s : List ℕ) → s ≡ crashedInSync (replicate mostPages true) m
-      → opening (m .working) s .answer ≡ Opened.Done → (k : ℕ) → k ≤ lastKey → after m s k ≡ latest (m .past k)
+      → opening w s .answer ≡ Opened.Done → (k : ℕ) → k ≤ lastKey → after w s k ≡ latest (m .past k)
 
 -- between crashes, while the last opening was done
 pub record Serves (m : State) : Type 0 where
@@ -98,7 +98,9 @@ pub record Lent (n : ℕ) (w s : List ℕ) : Type 0 where
   pub bytes : Bytes w
   pub bytes′ : Bytes s
 
+-- of a crash nothing is remembered but the stable table: the working table that is lent next is any of n pages
 unfoldable pub Demand3 : Type 0
 Demand3 =
-    (n : ℕ) (w s : List ℕ) → Lent n w s → (h : List Event) → AllTyped h
-    → Survives (run h (start w s)) × (((run h (start w s)) .session .n ≡ n) → Serves (run h (start w s)))
+    (n : ℕ) (w s : List ℕ) → Lent n w s → (h : List Event) → AllProper n h
+    → ((u : List ℕ) → length u ≡ n * pageSize → Survives (run h (start w s)) u)
+    × (((run h (start w s)) .session .n ≡ n) → Serves (run h (start w s)))

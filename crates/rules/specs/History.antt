@@ -3,12 +3,14 @@
 --
 -- Beside the pages a history keeps, for each key, the states it has had since the last successful sync or opening.
 -- They are folded from the calls and their answers; no page is read for them.
-use Prim.Native.Nat.{ℕ, _<_}
+use Prim.Native.Nat.{ℕ, _*_, _<_}
+use mathlib.Core.Path.{_≡_}
 use mathlib.Core.Bool.{Bool, true, false}
 use mathlib.Core.List.{List, [], _∷_}
 use mathlib.Core.Option.{Option, some, none}
 use lib.Dec.{leb, eqb}
-use Rattle.rules.specs.Layout.{lastNumber}
+use lib.ListN.{length}
+use Rattle.rules.specs.Layout.{pageSize, lastNumber}
 use Rattle.rules.specs.Key.{keyOf, modelOf, serialOf, issueOf}
 use Rattle.rules.specs.Marks.{nobody}
 use Rattle.rules.specs.Call.{Left}
@@ -28,7 +30,8 @@ use Rattle.rules.specs.declared.Synced.{Synced}
 
 -- ── What can happen ─────────────────────────────────────────────────────────────────────────────────────────────
 
--- a call with its arguments, or a crash with the pages that it writes
+-- a call with its arguments; or a crash with the pages that it writes and the working table that the opening after it is
+-- lent, which has nothing to do with the one before
 pub data Event : Type 0 where
   inserts : ℕ → ℕ → ℕ → ℕ → Event
   looks : ℕ → ℕ → ℕ → Event
@@ -36,8 +39,8 @@ pub data Event : Type 0 where
   lists : ℕ → List ℕ → List ℕ → Event
   syncs : Event
   opens : Event
-  crashes : List Bool → Event
-  crashesInSync : List Bool → Event
+  crashes : List Bool → List ℕ → Event
+  crashesInSync : List Bool → List ℕ → Event
 
 -- a store between two calls. The states of a key stand newest first.
 pub record State : Type 0 where
@@ -156,8 +159,8 @@ step (lists start ks xs) m =
     afterReading m (list (m .working) (m .stable) (m .session) start ks xs .working)
 step syncs m = afterSync m (sync (m .working) (m .stable) (m .session))
 step opens m = afterOpen m (opening (m .working) (m .stable))
-step (crashes written) m = afterOpen m (opening (m .working) (crashed written m))
-step (crashesInSync written) m = afterOpen m (opening (m .working) (crashedInSync written m))
+step (crashes written w) m = afterOpen m (opening w (crashed written m))
+step (crashesInSync written w) m = afterOpen m (opening w (crashedInSync written m))
 
 -- ── Whole histories ─────────────────────────────────────────────────────────────────────────────────────────────
 
@@ -172,18 +175,18 @@ unfoldable pub run : List Event → State → State
 run [] m = m
 run (e ∷ es) m = run es (step e m)
 
--- arguments within the width of their type
-unfoldable pub Typed : Event → Type 0
-Typed (inserts model serial issue x) =
+-- arguments within the width of their type; after a crash a working table of n pages, with any bytes
+unfoldable pub Proper : ℕ → Event → Type 0
+Proper n (inserts model serial issue x) =
     (model < 65536) × (serial < 4294967296) × (issue < 65536) × (x < 4294967296)
-Typed (looks model serial issue) = (model < 65536) × (serial < 4294967296) × (issue < 65536)
-Typed (asksNewest model serial) = (model < 65536) × (serial < 4294967296)
-Typed (lists start ks xs) = start < 18446744073709551616
-Typed syncs = Unit {0}
-Typed opens = Unit {0}
-Typed (crashes written) = Unit {0}
-Typed (crashesInSync written) = Unit {0}
+Proper n (looks model serial issue) = (model < 65536) × (serial < 4294967296) × (issue < 65536)
+Proper n (asksNewest model serial) = (model < 65536) × (serial < 4294967296)
+Proper n (lists start ks xs) = start < 18446744073709551616
+Proper n syncs = Unit {0}
+Proper n opens = Unit {0}
+Proper n (crashes written w) = length w ≡ n * pageSize
+Proper n (crashesInSync written w) = length w ≡ n * pageSize
 
-unfoldable pub AllTyped : List Event → Type 0
-AllTyped [] = Unit {0}
-AllTyped (e ∷ es) = Typed e × AllTyped es
+unfoldable pub AllProper : ℕ → List Event → Type 0
+AllProper n [] = Unit {0}
+AllProper n (e ∷ es) = Proper n e × AllProper n es

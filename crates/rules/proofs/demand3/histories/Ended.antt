@@ -1,13 +1,14 @@
 -- A store whose last opening found the number spent: every call that is given its session is refused and changes nothing, and
 -- every further opening finds the number spent.
-use Prim.Native.Nat.{ℕ}
+use Prim.Native.Nat.{ℕ, _*_}
 use native.Mathlib.Omega.{arith}
 use mathlib.Core.Path.{_≡_, sym, ap, _∙_, subst}
 use mathlib.Core.Bool.{Bool, false, _&&_}
 use mathlib.Core.List.{List}
 use lib.Dec.{eqb}
+use lib.ListN.{length}
 use borrow.Author.Tests.{eqb-true, eq-eqb, lt-leb}
-use Rattle.rules.specs.Layout.{lastNumber}
+use Rattle.rules.specs.Layout.{pageSize, lastNumber}
 use Rattle.rules.specs.Table.{pages, goodLengths, number0}
 use Rattle.rules.specs.Key.{keyOf}
 use Rattle.rules.specs.Marks.{nobody}
@@ -18,8 +19,8 @@ use Rattle.rules.specs.Lookup.{lookup, lookupLeft}
 use Rattle.rules.specs.Newest.{newest, newestLeft}
 use Rattle.rules.specs.List.{ListLeft, list, listRefused}
 use Rattle.rules.specs.Sync.{sync, syncRefused}
-use Rattle.rules.specs.History.{Event, inserts, looks, asksNewest, lists, syncs, opens, crashes, crashesInSync, State, afterInsert, afterSync, afterOpen, afterReading, crashed, crashedInSync, step}
-use Rattle.rules.specs.Demand.{CrashOf, between, inSync, openAnswer, Survives}
+use Rattle.rules.specs.History.{Event, inserts, looks, asksNewest, lists, syncs, opens, crashes, crashesInSync, State, afterInsert, afterSync, afterOpen, afterReading, crashed, crashedInSync, step, Proper}
+use Rattle.rules.specs.Demand.{CrashOf, betweenCalls, insideSync, openAnswer, Survives}
 use Rattle.rules.specs.declared.Opened.{Opened}
 use Rattle.rules.specs.declared.Inserted.{Inserted}
 use Rattle.rules.specs.declared.Looked.{Looked}
@@ -83,14 +84,14 @@ module _ {n : ℕ} {m : State} (o : Over n m) where
 
   -- ── Openings ──────────────────────────────────────────────────────────────────────────────────────────────────
 
-  opening-again : opening (m .working) (m .stable) ≡ openRefused Opened.Spent (m .working) (m .stable)
-  opening-again =
-      opening-spent n (m .working) (m .stable) (o .few) (o .most) (o .working) (o .stable) (o .good) (o .spent)
+  module _ (w : List ℕ) (h : length w ≡ n * pageSize) where
+    opening-again : opening w (m .stable) ≡ openRefused Opened.Spent w (m .stable)
+    opening-again = opening-spent n w (m .stable) (o .few) (o .most) h (o .stable) (o .good) (o .spent)
 
-  over-opens : Over n (afterOpen m (opening (m .working) (m .stable)))
-  over-opens =
-      subst (λ (r : Left Opened). Over n (afterOpen m r)) (sym opening-again)
-      (over-refused n m (m .working) (m .stable) (o .few) (o .most) (o .working) (o .stable) (o .good) (o .spent))
+    over-opens : Over n (afterOpen m (opening w (m .stable)))
+    over-opens =
+        subst (λ (r : Left Opened). Over n (afterOpen m r)) (sym opening-again)
+        (over-refused n m w (m .stable) (o .few) (o .most) h (o .stable) (o .good) (o .spent))
 
   crashed-stays : (written : List Bool) → crashed written m ≡ m .stable
   unfolding crashed
@@ -101,46 +102,47 @@ module _ {n : ℕ} {m : State} (o : Over n m) where
   in-sync-stays written = rw (eq-eqb (m .session .n) 0 no-pages, crashedInSync)
 
   crash-stays : {t : List ℕ} → CrashOf m t → t ≡ m .stable
-  crash-stays (between written) = crashed-stays written
-  crash-stays (inSync written) = in-sync-stays written
+  crash-stays (betweenCalls written) = crashed-stays written
+  crash-stays (insideSync written) = in-sync-stays written
 
-  never-done : opening (m .working) (m .stable) .answer ≡ Opened.Done → ⊥
-  unfolding openRefused openedNo
-  never-done h = omega (arith, ap openedNo (sym (ap (λ (r : Left Opened). r .answer) opening-again) ∙ h))
+  module _ (w : List ℕ) (h : length w ≡ n * pageSize) where
+    never-done : opening w (m .stable) .answer ≡ Opened.Done → ⊥
+    unfolding openRefused openedNo
+    never-done d = omega (arith, ap openedNo (sym (ap (λ (r : Left Opened). r .answer) (opening-again w h)) ∙ d))
 
-  not-done : {t : List ℕ} → t ≡ m .stable → opening (m .working) t .answer ≡ Opened.Done → ⊥
-  not-done q h = never-done (sym (ap (λ (u : List ℕ). opening (m .working) u .answer) q) ∙ h)
+    not-done : {t : List ℕ} → t ≡ m .stable → opening w t .answer ≡ Opened.Done → ⊥
+    not-done q d = never-done (sym (ap (λ (u : List ℕ). opening w u .answer) q) ∙ d)
 
-  answers : opening (m .working) (m .stable) .answer ≡ openAnswer (m .stable)
-  unfolding openAnswer openRefused
-  answers =
-      ap (λ (r : Left Opened). r .answer) opening-again ∙ sym (rw (lt-leb (number0 (m .stable)) lastNumber (o .spent), openAnswer))
+    answers : opening w (m .stable) .answer ≡ openAnswer (m .stable)
+    unfolding openAnswer openRefused
+    answers =
+        ap (λ (r : Left Opened). r .answer) (opening-again w h) ∙ sym (rw (lt-leb (number0 (m .stable)) lastNumber (o .spent), openAnswer))
 
-  pub over-survives : Survives m
-  over-survives = record {
-    opens = λ t c. subst (λ (u : List ℕ). opening (m .working) u .answer ≡ openAnswer u) (sym (crash-stays c)) answers;
-    shows = λ t c d k h. absurd (not-done (crash-stays c) d);
-    keeps = λ t c d k y h e. absurd (not-done (crash-stays c) d);
-    nothing-written = λ d k h. absurd (never-done d);
-    all-written = λ t q d k h. absurd (not-done (q ∙ crashed-stays _) d);
-    all-written-in-sync = λ t q d k h. absurd (not-done (q ∙ in-sync-stays _) d);
-  }
+    pub over-survives : Survives m w
+    over-survives = record {
+      opens = λ t c. subst (λ (u : List ℕ). opening w u .answer ≡ openAnswer u) (sym (crash-stays c)) answers;
+      shows = λ t c d k b. absurd (not-done (crash-stays c) d);
+      keeps = λ t c d k y b e. absurd (not-done (crash-stays c) d);
+      nothing-written = λ d k b. absurd (never-done d);
+      all-written = λ t q d k b. absurd (not-done (q ∙ crashed-stays _) d);
+      all-written-in-sync = λ t q d k b. absurd (not-done (q ∙ in-sync-stays _) d);
+    }
 
   -- ── Any event ─────────────────────────────────────────────────────────────────────────────────────────────────
 
-  pub over-step : (e : Event) → Over n (step e m)
-  unfolding step afterReading afterInsert afterSync insertRefused lookupLeft newestLeft listRefused syncRefused
-  over-step (inserts model serial issue x) =
+  pub over-step : (e : Event) → Proper n e → Over n (step e m)
+  unfolding Proper step afterReading afterInsert afterSync insertRefused lookupLeft newestLeft listRefused syncRefused
+  over-step (inserts model serial issue x) p =
       subst (λ (r : Left Inserted). Over n (afterInsert (keyOf model serial issue) x m r)) (sym (inserting model serial issue x)) o
-  over-step (looks model serial issue) =
+  over-step (looks model serial issue) p =
       subst (λ (r : Left Looked). Over n (afterReading m (r .working))) (sym (looking model serial issue)) o
-  over-step (asksNewest model serial) =
+  over-step (asksNewest model serial) p =
       subst (λ (r : Left Newest). Over n (afterReading m (r .working))) (sym (asking model serial)) o
-  over-step (lists start ks xs) =
+  over-step (lists start ks xs) p =
       subst (λ (r : ListLeft). Over n (afterReading m (r .working))) (sym (listing start ks xs)) o
-  over-step syncs = subst (λ (r : Left Synced). Over n (afterSync m r)) (sym syncing) o
-  over-step opens = over-opens
-  over-step (crashes written) =
-      subst (λ (t : List ℕ). Over n (afterOpen m (opening (m .working) t))) (sym (crashed-stays written)) over-opens
-  over-step (crashesInSync written) =
-      subst (λ (t : List ℕ). Over n (afterOpen m (opening (m .working) t))) (sym (in-sync-stays written)) over-opens
+  over-step syncs p = subst (λ (r : Left Synced). Over n (afterSync m r)) (sym syncing) o
+  over-step opens p = over-opens (m .working) (o .working)
+  over-step (crashes written w) p =
+      subst (λ (t : List ℕ). Over n (afterOpen m (opening w t))) (sym (crashed-stays written)) (over-opens w p)
+  over-step (crashesInSync written w) p =
+      subst (λ (t : List ℕ). Over n (afterOpen m (opening w t))) (sym (in-sync-stays written)) (over-opens w p)

@@ -1,6 +1,6 @@
 -- Histories: a store fresh from format and opening is alive, and every event leaves it alive or with its number spent. So what
 -- demand 3 says holds at every point of every history.
-use Prim.Native.Nat.{ℕ, _≤_}
+use Prim.Native.Nat.{ℕ, _*_, _≤_}
 use native.Mathlib.Omega.{arith}
 use mathlib.Core.Path.{_≡_, refl, sym, ap, _∙_, subst}
 use mathlib.Core.Logic.{inl, inr}
@@ -10,7 +10,7 @@ use mathlib.Core.Option.{Option, some}
 use lib.Dec.{eqb, leb}
 use lib.ListN.{length}
 use borrow.Author.Tests.{eqb-true, eqb-false, leb-true, leb-false}
-use Rattle.rules.specs.Layout.{fewestPages, lastKey, lastNumber}
+use Rattle.rules.specs.Layout.{pageSize, fewestPages, lastKey, lastNumber}
 use Rattle.rules.specs.Key.{keyOf, goodParts}
 use Rattle.rules.specs.Table.{pages, goodLengths}
 use Rattle.rules.specs.Marks.{turned, nobody}
@@ -22,8 +22,8 @@ use Rattle.rules.specs.Lookup.{lookup}
 use Rattle.rules.specs.Newest.{newest}
 use Rattle.rules.specs.List.{list}
 use Rattle.rules.specs.Sync.{sync, syncDone, syncRefused}
-use Rattle.rules.specs.History.{Event, inserts, looks, asksNewest, lists, syncs, opens, crashes, crashesInSync, State, latest, earliest, gains, afterInsert, afterSync, afterOpen, afterReading, crashed, crashedInSync, step, start, run, Typed, AllTyped}
-use Rattle.rules.specs.Demand.{between, inSync, Among, Reads, look, ask, listing, Survives, Serves, Lent, Demand3}
+use Rattle.rules.specs.History.{Event, inserts, looks, asksNewest, lists, syncs, opens, crashes, crashesInSync, State, latest, earliest, gains, afterInsert, afterSync, afterOpen, afterReading, crashed, crashedInSync, step, start, run, Proper, AllProper}
+use Rattle.rules.specs.Demand.{betweenCalls, insideSync, Among, Reads, look, ask, listing, Survives, Serves, Lent, Demand3}
 use Rattle.rules.specs.declared.Opened.{Opened}
 use Rattle.rules.specs.declared.Inserted.{Inserted}
 use Rattle.rules.specs.declared.Synced.{Synced}
@@ -193,9 +193,9 @@ module _ {n : ℕ} {m : State} (a : Alive n m) where
 
 -- ── Whole histories ─────────────────────────────────────────────────────────────────────────────────────────────
 
-alive-insert : {n : ℕ} {m : State} → Alive n m → (model serial issue x : ℕ) → Typed (inserts model serial issue x)
+alive-insert : {n : ℕ} {m : State} → Alive n m → (model serial issue x : ℕ) → Proper n (inserts model serial issue x)
     → Alive n (afterInsert (keyOf model serial issue) x m (insert (m .working) (m .stable) (m .session) model serial issue x))
-unfolding Typed insertedNo insertRefused
+unfolding Proper insertedNo insertRefused
 alive-insert {n} {m} a model serial issue x t = go (goodParts model serial issue) refl
   where
     k : ℕ
@@ -222,8 +222,8 @@ alive-insert {n} {m} a model serial issue x t = go (goodParts model serial issue
         (other Inserted.BadKey (omega arith)) refl
         (record { session = refl; stable = refl; safe = a .safe; steady = steady-same }))
 
-alive-step : {n : ℕ} {m : State} → Alive n m → (e : Event) → Typed e → Fate n (step e m)
-unfolding step
+alive-step : {n : ℕ} {m : State} → Alive n m → (e : Event) → Proper n e → Fate n (step e m)
+unfolding Proper step
 alive-step a (inserts model serial issue x) t = alive (alive-insert a model serial issue x t)
 alive-step {n} {m} a (looks model serial issue) t =
     alive (alive-reading (lookup (m .working) (m .stable) (m .session) model serial issue .working) a
@@ -236,15 +236,15 @@ alive-step {n} {m} a (lists from ks xs) t =
     (list-answers (a .safe) (calm (a .safe)) from ks xs .left))
 alive-step a syncs t = alive (alive-sync a)
 alive-step a opens t = fate-opens a
-alive-step {n} {m} a (crashes written) t = fate-crashes a (crashed written m) (between written)
-alive-step {n} {m} a (crashesInSync written) t = fate-crashes a (crashedInSync written m) (inSync written)
+alive-step {n} {m} a (crashes written w) t = fate-crashes a w t (crashed written m) (betweenCalls written)
+alive-step {n} {m} a (crashesInSync written w) t = fate-crashes a w t (crashedInSync written m) (insideSync written)
 
-fate-step : {n : ℕ} {m : State} → Fate n m → (e : Event) → Typed e → Fate n (step e m)
+fate-step : {n : ℕ} {m : State} → Fate n m → (e : Event) → Proper n e → Fate n (step e m)
 fate-step (alive a) e t = alive-step a e t
-fate-step (over o) e t = over (over-step o e)
+fate-step (over o) e t = over (over-step o e t)
 
-pub fate-run : {n : ℕ} (m : State) → Fate n m → (h : List Event) → AllTyped h → Fate n (run h m)
-unfolding run AllTyped
+pub fate-run : {n : ℕ} (m : State) → Fate n m → (h : List Event) → AllProper n h → Fate n (run h m)
+unfolding run AllProper
 fate-run m f [] t = f
 fate-run m f (e ∷ es) t = fate-run (step e m) (fate-step f e (t .0)) es (t .1)
 
@@ -267,9 +267,9 @@ fate-start n w s l =
         rw (lengths, format)
         (ap (λ (i : ℕ). formatted i (length s)) (pages-of s n (l .stable)) ∙ ap (formatted n) (l .stable))
 
-fate-survives : {n : ℕ} {m : State} → Fate n m → Survives m
-fate-survives (alive a) = alive-survives a
-fate-survives (over o) = over-survives o
+fate-survives : {n : ℕ} {m : State} → Fate n m → (u : List ℕ) → length u ≡ n * pageSize → Survives m u
+fate-survives (alive a) u h = alive-survives a u h
+fate-survives (over o) u h = over-survives o u h
 
 -- a session that was handed out has pages
 fate-serves : {n : ℕ} {m : State} → fewestPages ≤ n → Fate n m → m .session .n ≡ n → Serves m

@@ -16,7 +16,7 @@ use Rattle.rules.specs.Call.{Left, openedNo}
 use Rattle.rules.specs.Crash.{mix, crash, crashInSync}
 use Rattle.rules.specs.Open.{opening, openRefused}
 use Rattle.rules.specs.History.{State, latest, earliest, content, afterOpen, crashed, crashedInSync}
-use Rattle.rules.specs.Demand.{CrashOf, between, inSync, Among, openAnswer, after, Survives}
+use Rattle.rules.specs.Demand.{CrashOf, betweenCalls, insideSync, Among, openAnswer, after, Survives}
 use Rattle.rules.specs.declared.Opened.{Opened}
 use Rattle.rules.proofs.demand3.ways.Ways.{Tells}
 use Rattle.rules.proofs.demand3.ways.Invariant.{Good}
@@ -98,8 +98,8 @@ module _ {n : ℕ} {m : State} (a : Alive n m) where
   in-sync-spent pages h = rw (some-pages, crashedInSync) (rw h)
 
   crash-written : {t : List ℕ} → CrashOf m t → Written m t
-  crash-written (between pages) = subst (Written m) (sym (crashed-is pages)) (plainly pages)
-  crash-written (inSync pages) = go (leb (m .session .c) lastNumber) refl
+  crash-written (betweenCalls pages) = subst (Written m) (sym (crashed-is pages)) (plainly pages)
+  crash-written (insideSync pages) = go (leb (m .session .c) lastNumber) refl
     where
       go : (b : Bool) → leb (m .session .c) lastNumber ≡ b → Written m (crashedInSync pages m)
       go true h = subst (Written m) (sym (in-sync-is pages h)) (in-sync (leb-true (m .session .c) lastNumber h) pages)
@@ -107,25 +107,26 @@ module _ {n : ℕ} {m : State} (a : Alive n m) where
 
   -- ── The opening after it ──────────────────────────────────────────────────────────────────────────────────────
 
-  module _ {t : List ℕ} (w : Written m t) where
-    length-is : length (m .working) ≡ m .session .n * pageSize
-    length-is = x .working .length-is
+  -- it is lent any working table of that length
+  module _ (lent : List ℕ) (sized : length lent ≡ n * pageSize) {t : List ℕ} (w : Written m t) where
+    length-is : length lent ≡ m .session .n * pageSize
+    length-is = sized ∙ ap (λ (i : ℕ). i * pageSize) (sym (a .pages))
 
-    opens-done : number0 t ≤ lastNumber → opening (m .working) t ≡ done (m .session .n) t
+    opens-done : number0 t ≤ lastNumber → opening lent t ≡ done (m .session .n) t
     opens-done =
-        subst (λ (u : List ℕ). number0 u ≤ lastNumber → opening (m .working) u ≡ done (m .session .n) u) (w .left)
-        (recovery-done x (w .source) (w .alike) (w .whole) (w .above) (w .pages) (m .working) length-is)
+        subst (λ (u : List ℕ). number0 u ≤ lastNumber → opening lent u ≡ done (m .session .n) u) (w .left)
+        (recovery-done x (w .source) (w .alike) (w .whole) (w .above) (w .pages) lent length-is)
 
-    opens-spent : lastNumber < number0 t → opening (m .working) t ≡ openRefused Opened.Spent (m .working) t
+    opens-spent : lastNumber < number0 t → opening lent t ≡ openRefused Opened.Spent lent t
     opens-spent =
-        subst (λ (u : List ℕ). lastNumber < number0 u → opening (m .working) u ≡ openRefused Opened.Spent (m .working) u) (w .left)
-        (recovery-spent x (w .source) (w .alike) (w .whole) (w .above) (w .pages) (m .working) length-is)
+        subst (λ (u : List ℕ). lastNumber < number0 u → opening lent u ≡ openRefused Opened.Spent lent u) (w .left)
+        (recovery-spent x (w .source) (w .alike) (w .whole) (w .above) (w .pages) lent length-is)
 
-    opens-answer : opening (m .working) t .answer ≡ openAnswer t
+    opens-answer : opening lent t .answer ≡ openAnswer t
     unfolding openRefused
     opens-answer = go (leb (number0 t) lastNumber) refl
       where
-        go : (b : Bool) → leb (number0 t) lastNumber ≡ b → opening (m .working) t .answer ≡ openAnswer t
+        go : (b : Bool) → leb (number0 t) lastNumber ≡ b → opening lent t .answer ≡ openAnswer t
         go true h =
             let l = leb-true (number0 t) lastNumber h in
             ap (λ (r : Left Opened). r .answer) (opens-done l) ∙ sym (answer-done t l)
@@ -134,7 +135,7 @@ module _ {n : ℕ} {m : State} (a : Alive n m) where
             ap (λ (r : Left Opened). r .answer) (opens-spent l) ∙ sym (answer-spent t l)
 
     -- where it is done the number is not spent
-    low-enough : opening (m .working) t .answer ≡ Opened.Done → number0 t ≤ lastNumber
+    low-enough : opening lent t .answer ≡ Opened.Done → number0 t ≤ lastNumber
     low-enough d = go (leb (number0 t) lastNumber) refl
       where
         go : (b : Bool) → leb (number0 t) lastNumber ≡ b → number0 t ≤ lastNumber
@@ -157,21 +158,21 @@ module _ {n : ℕ} {m : State} (a : Alive n m) where
         (subst (λ (u : List ℕ). Tells (m .session .n) (raise u) k o) (sym (w .left)) y)
 
     -- what is found then is what the table tells
-    found : number0 t ≤ lastNumber → {k : ℕ} {o : Option ℕ} → k ≤ lastKey → Tells (m .session .n) (raise t) k o → after m t k ≡ o
+    found : number0 t ≤ lastNumber → {k : ℕ} {o : Option ℕ} → k ≤ lastKey → Tells (m .session .n) (raise t) k o → after lent t k ≡ o
     unfolding after opened
     found l {k} {o} h y =
         ap (λ (r : Left Opened). content (r .session) (r .working) (r .stable) k) (opens-done l)
         ∙ content-told (opened-safe l) h y
 
-    shows : opening (m .working) t .answer ≡ Opened.Done → (k : ℕ) → k ≤ lastKey → Among (after m t k) (m .past k)
+    shows : opening lent t .answer ≡ Opened.Done → (k : ℕ) → k ≤ lastKey → Among (after lent t k) (m .past k)
     unfolding opened
     shows d k h =
         let l = low-enough d in
         let y = tells (working-good (opened-safe l .inv)) k h in
         subst (λ (o : Option ℕ). Among o (m .past k)) (sym (found l h (y .1))) (opened-told (y .1))
 
-    fate-after : Fate n (afterOpen m (opening (m .working) t))
-    fate-after = subst (λ (i : ℕ). Fate i (afterOpen m (opening (m .working) t))) (a .pages) (go (leb (number0 t) lastNumber) refl)
+    fate-after : Fate n (afterOpen m (opening lent t))
+    fate-after = subst (λ (i : ℕ). Fate i (afterOpen m (opening lent t))) (a .pages) (go (leb (number0 t) lastNumber) refl)
       where
         whole : Whole (m .session .n) t
         whole =
@@ -182,7 +183,7 @@ module _ {n : ℕ} {m : State} (a : Alive n m) where
             subst (Good (m .session .n)) (w .left)
             (left-good x (w .source) (w .alike) (w .whole) (w .above) (w .pages))
 
-        go : (b : Bool) → leb (number0 t) lastNumber ≡ b → Fate (m .session .n) (afterOpen m (opening (m .working) t))
+        go : (b : Bool) → leb (number0 t) lastNumber ≡ b → Fate (m .session .n) (afterOpen m (opening lent t))
         go true h =
             let l = leb-true (number0 t) lastNumber h in
             subst (λ (r : Left Opened). Fate (m .session .n) (afterOpen m r)) (sym (opens-done l))
@@ -190,7 +191,7 @@ module _ {n : ℕ} {m : State} (a : Alive n m) where
         go false h =
             let l = leb-false (number0 t) lastNumber h in
             subst (λ (r : Left Opened). Fate (m .session .n) (afterOpen m r)) (sym (opens-spent l))
-            (over (over-refused (m .session .n) m (m .working) t (x .few) (x .most) length-is whole good l))
+            (over (over-refused (m .session .n) m lent t (x .few) (x .most) length-is whole good l))
 
   -- ── What demand 3 says ────────────────────────────────────────────────────────────────────────────────────────
 
@@ -198,57 +199,58 @@ module _ {n : ℕ} {m : State} (a : Alive n m) where
   unfolding mix
   none-written = plainly []
 
-  nothing : opening (m .working) (m .stable) .answer ≡ Opened.Done → (k : ℕ) → k ≤ lastKey → after m (m .stable) k ≡ earliest (m .past k)
-  unfolding mix
-  nothing d k h =
-      found none-written (low-enough none-written d) h
-      (recovery-none x (m .working) alike-self (x .working) (omega (arith, x .number-working)) [] (λ i p. refl) (a .then k h))
+  module _ (lent : List ℕ) (sized : length lent ≡ n * pageSize) where
+    nothing : opening lent (m .stable) .answer ≡ Opened.Done → (k : ℕ) → k ≤ lastKey → after lent (m .stable) k ≡ earliest (m .past k)
+    unfolding mix
+    nothing d k h =
+        found lent sized none-written (low-enough lent sized none-written d) h
+        (recovery-none x (m .working) alike-self (x .working) (omega (arith, x .number-working)) [] (λ i p. refl) (a .then k h))
 
-  -- every page is written from a source that reads as the working table
-  all-from : (u : List ℕ) → Alike (m .session .n) (m .working) u → Whole (m .session .n) u → m .session .c < number0 u
-      → (t : List ℕ) → t ≡ mix (replicate mostPages true) u (m .stable) → opening (m .working) t .answer ≡ Opened.Done
-      → (k : ℕ) → k ≤ lastKey → after m t k ≡ latest (m .past k)
-  all-from u same whole above t q =
-      subst
-      (λ (v : List ℕ). opening (m .working) v .answer ≡ Opened.Done → (k : ℕ) → k ≤ lastKey → after m v k ≡ latest (m .past k))
-      (sym q)
-      (λ d k h.
-      found from (low-enough from d) h
-      (recovery-all x u same whole above (replicate mostPages true)
-      (λ i p. getD-replicate mostPages i true false (omega (arith, x .most))) (a .now k h)))
-    where
-      from : Written m (mix (replicate mostPages true) u (m .stable))
-      from = record { source = u; alike = same; whole = whole; above = above; pages = replicate mostPages true; left = refl }
+    -- every page is written from a source that reads as the working table
+    all-from : (u : List ℕ) → Alike (m .session .n) (m .working) u → Whole (m .session .n) u → m .session .c < number0 u
+        → (t : List ℕ) → t ≡ mix (replicate mostPages true) u (m .stable) → opening lent t .answer ≡ Opened.Done
+        → (k : ℕ) → k ≤ lastKey → after lent t k ≡ latest (m .past k)
+    all-from u same whole above t q =
+        subst
+        (λ (v : List ℕ). opening lent v .answer ≡ Opened.Done → (k : ℕ) → k ≤ lastKey → after lent v k ≡ latest (m .past k))
+        (sym q)
+        (λ d k h.
+        found lent sized from (low-enough lent sized from d) h
+        (recovery-all x u same whole above (replicate mostPages true)
+        (λ i p. getD-replicate mostPages i true false (omega (arith, x .most))) (a .now k h)))
+      where
+        from : Written m (mix (replicate mostPages true) u (m .stable))
+        from = record { source = u; alike = same; whole = whole; above = above; pages = replicate mostPages true; left = refl }
 
-  everything : (t : List ℕ) → t ≡ mix (replicate mostPages true) (m .working) (m .stable) → opening (m .working) t .answer ≡ Opened.Done
-      → (k : ℕ) → k ≤ lastKey → after m t k ≡ latest (m .past k)
-  everything = all-from (m .working) alike-self (x .working) (omega (arith, x .number-working))
+    everything : (t : List ℕ) → t ≡ mix (replicate mostPages true) (m .working) (m .stable) → opening lent t .answer ≡ Opened.Done
+        → (k : ℕ) → k ≤ lastKey → after lent t k ≡ latest (m .past k)
+    everything = all-from (m .working) alike-self (x .working) (omega (arith, x .number-working))
 
-  everything-in-sync : (t : List ℕ) → t ≡ crashedInSync (replicate mostPages true) m → opening (m .working) t .answer ≡ Opened.Done
-      → (k : ℕ) → k ≤ lastKey → after m t k ≡ latest (m .past k)
-  everything-in-sync t q = go (leb (m .session .c) lastNumber) refl
-    where
-      go : (b : Bool) → leb (m .session .c) lastNumber ≡ b → opening (m .working) t .answer ≡ Opened.Done
-          → (k : ℕ) → k ≤ lastKey → after m t k ≡ latest (m .past k)
-      go true h =
-          let l = leb-true (m .session .c) lastNumber h in
-          all-from (setNumber (m .working) (m .session .c + 2)) (numbered-alike x) (numbered-whole x)
-          (omega (arith, numbered-number x l)) t (q ∙ in-sync-is (replicate mostPages true) h)
-      go false h = everything t (q ∙ in-sync-spent (replicate mostPages true) h)
+    everything-in-sync : (t : List ℕ) → t ≡ crashedInSync (replicate mostPages true) m → opening lent t .answer ≡ Opened.Done
+        → (k : ℕ) → k ≤ lastKey → after lent t k ≡ latest (m .past k)
+    everything-in-sync t q = go (leb (m .session .c) lastNumber) refl
+      where
+        go : (b : Bool) → leb (m .session .c) lastNumber ≡ b → opening lent t .answer ≡ Opened.Done
+            → (k : ℕ) → k ≤ lastKey → after lent t k ≡ latest (m .past k)
+        go true h =
+            let l = leb-true (m .session .c) lastNumber h in
+            all-from (setNumber (m .working) (m .session .c + 2)) (numbered-alike x) (numbered-whole x)
+            (omega (arith, numbered-number x l)) t (q ∙ in-sync-is (replicate mostPages true) h)
+        go false h = everything t (q ∙ in-sync-spent (replicate mostPages true) h)
 
-  pub alive-survives : Survives m
-  alive-survives = record {
-    opens = λ t c. opens-answer (crash-written c);
-    shows = λ t c d k h. shows (crash-written c) d k h;
-    keeps = λ t c d k y h e.
-        settled-keeps (m .past k) y (after m t k) (a .settled k) e (shows (crash-written c) d k h);
-    nothing-written = nothing;
-    all-written = λ t q. everything t (q ∙ crashed-is (replicate mostPages true));
-    all-written-in-sync = everything-in-sync;
-  }
+    pub alive-survives : Survives m lent
+    alive-survives = record {
+      opens = λ t c. opens-answer lent sized (crash-written c);
+      shows = λ t c d k h. shows lent sized (crash-written c) d k h;
+      keeps = λ t c d k y h e.
+          settled-keeps (m .past k) y (after lent t k) (a .settled k) e (shows lent sized (crash-written c) d k h);
+      nothing-written = nothing;
+      all-written = λ t q. everything t (q ∙ crashed-is (replicate mostPages true));
+      all-written-in-sync = everything-in-sync;
+    }
+
+    pub fate-crashes : (t : List ℕ) → CrashOf m t → Fate n (afterOpen m (opening lent t))
+    fate-crashes t c = fate-after lent sized (crash-written c)
 
   pub fate-opens : Fate n (afterOpen m (opening (m .working) (m .stable)))
-  fate-opens = fate-after none-written
-
-  pub fate-crashes : (t : List ℕ) → CrashOf m t → Fate n (afterOpen m (opening (m .working) t))
-  fate-crashes t c = fate-after (crash-written c)
+  fate-opens = fate-after (m .working) (x .working .length-is ∙ ap (λ (i : ℕ). i * pageSize) (a .pages)) none-written
