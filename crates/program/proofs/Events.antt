@@ -5,11 +5,9 @@ use mathlib.Core.Path.{_≡_, refl}
 use mathlib.Core.List.{List, [], _∷_}
 use mathlib.Core.Option.{Option, some, none}
 use Rattle.rules.specs.Call.{Left}
-use Rattle.rules.specs.Lookup.{lookup}
 use Rattle.rules.specs.History.{Event, inserts, looks, syncs, crashes, State, step, afterInsert, afterSync, afterOpen, afterReading}
 use Rattle.rules.specs.History.{crashed as torn}
 use Rattle.rules.specs.declared.Session.{Session}
-use Rattle.rules.proofs.demand1.Refusals.{lookup-mends}
 use Rattle.lines.specs.declared.Line.{Line}
 use Rattle.words.specs.declared.Reply.{Reply}
 use Rattle.driver.specs.Acts.{crashed, acted}
@@ -41,17 +39,10 @@ storeLeft r = store (r .session) (r .working) (r .stable)
 abbrev pub storeOf : State → Store
 storeOf m = store (m .session) (m .working) (m .stable)
 
--- a reading call hands session and stable table back as they came
-same-store : (a b : Session) (w s t : List ℕ) → a ≡ b → s ≡ t → store a w s ≡ store b w t
-same-store a b w s t e f = rw (e, f)
-
 pub line-event : (line : Line) (m : State) → storeLeft (acted line (m .session) (m .working) (m .stable)) ≡ storeOf (happens (eventOf line (m .working)) m)
 unfolding acted crashed eventOf happens step afterInsert afterSync afterOpen afterReading torn
 line-event (Line.Insert model serial issue x) m = refl
-line-event (Line.Find model serial issue) m =
-    let r = lookup (m .working) (m .stable) (m .session) model serial issue in
-    let only = lookup-mends (m .working) (m .stable) (m .session) model serial issue in
-    same-store (r .session) (m .session) (r .working) (r .stable) (m .stable) (only .session) (only .stable)
+line-event (Line.Find model serial issue) m = refl
 line-event Line.Sync m = refl
 line-event (Line.Crash a b c d e) m = refl
 line-event Line.Other m = refl

@@ -81,10 +81,10 @@ pub record Serves (m : State) : Type 0 where
   pub newest-whole : (model serial : ℕ) → newest (m .working) (m .stable) (m .session) model serial .answer ≡ Newest.Damaged → ⊥
   pub list-whole : (from : ℕ) (ks xs : List ℕ) → list (m .working) (m .stable) (m .session) from ks xs .answer ≡ Listed.Damaged → ⊥
   pub newest-stays : (e : Event) → Reads e → (model serial : ℕ)
-      → newest (step e m .working) (m .stable) (m .session) model serial .answer
+      → newest (step e m .working) (step e m .stable) (step e m .session) model serial .answer
       ≡ newest (m .working) (m .stable) (m .session) model serial .answer
   pub list-stays : (e : Event) → Reads e → (from : ℕ) (ks xs : List ℕ)
-      → SameListing (list (step e m .working) (m .stable) (m .session) from ks xs)
+      → SameListing (list (step e m .working) (step e m .stable) (step e m .session) from ks xs)
       (list (m .working) (m .stable) (m .session) from ks xs)
 
 -- ── The demand ──────────────────────────────────────────────────────────────────────────────────────────────────

@@ -124,9 +124,9 @@ afterOpen m r = record {
       ];
 }
 
--- a call that only reads may mend
-unfoldable pub afterReading : State → List ℕ → State
-afterReading m w = record { session = m .session; working = w; stable = m .stable; past = m .past }
+-- a call that only reads adds no state; what it hands back goes on, like that of any other call
+unfoldable pub afterReading : State → Session → List ℕ → List ℕ → State
+afterReading m s w t = record { session = s; working = w; stable = t; past = m .past }
 
 -- ── Crashes ─────────────────────────────────────────────────────────────────────────────────────────────────────
 
@@ -152,11 +152,14 @@ unfoldable pub step : Event → State → State
 step (inserts model serial issue x) m =
     afterInsert (keyOf model serial issue) x m (insert (m .working) (m .stable) (m .session) model serial issue x)
 step (looks model serial issue) m =
-    afterReading m (lookup (m .working) (m .stable) (m .session) model serial issue .working)
+    let r = lookup (m .working) (m .stable) (m .session) model serial issue in
+    afterReading m (r .session) (r .working) (r .stable)
 step (asksNewest model serial) m =
-    afterReading m (newest (m .working) (m .stable) (m .session) model serial .working)
+    let r = newest (m .working) (m .stable) (m .session) model serial in
+    afterReading m (r .session) (r .working) (r .stable)
 step (lists start ks xs) m =
-    afterReading m (list (m .working) (m .stable) (m .session) start ks xs .working)
+    let r = list (m .working) (m .stable) (m .session) start ks xs in
+    afterReading m (r .session) (r .working) (r .stable)
 step syncs m = afterSync m (sync (m .working) (m .stable) (m .session))
 step opens m = afterOpen m (opening (m .working) (m .stable))
 step (crashes written w) m = afterOpen m (opening w (crashed written m))

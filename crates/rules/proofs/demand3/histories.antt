@@ -3,4 +3,5 @@ pub mod Pasts
 pub mod Fates
 pub mod Survivals
 pub mod Ended
+pub mod Servings
 pub mod Histories

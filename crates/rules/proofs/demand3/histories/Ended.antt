@@ -53,10 +53,6 @@ module _ {n : ℕ} {m : State} (o : Over n m) where
             (and-right (goodLengths (m .working) (m .stable)) (eqb (m .session .n) (pages (m .working))) h),
       ))
 
-  stays : Over n (afterReading m (m .working))
-  unfolding afterReading
-  stays = o
-
   inserting : (model serial issue x : ℕ)
       → insert (m .working) (m .stable) (m .session) model serial issue x
       ≡ insertRefused Inserted.Length (m .session) (m .working) (m .stable)
@@ -135,11 +131,11 @@ module _ {n : ℕ} {m : State} (o : Over n m) where
   over-step (inserts model serial issue x) p =
       subst (λ (r : Left Inserted). Over n (afterInsert (keyOf model serial issue) x m r)) (sym (inserting model serial issue x)) o
   over-step (looks model serial issue) p =
-      subst (λ (r : Left Looked). Over n (afterReading m (r .working))) (sym (looking model serial issue)) o
+      subst (λ (r : Left Looked). Over n (afterReading m (r .session) (r .working) (r .stable))) (sym (looking model serial issue)) o
   over-step (asksNewest model serial) p =
-      subst (λ (r : Left Newest). Over n (afterReading m (r .working))) (sym (asking model serial)) o
+      subst (λ (r : Left Newest). Over n (afterReading m (r .session) (r .working) (r .stable))) (sym (asking model serial)) o
   over-step (lists start ks xs) p =
-      subst (λ (r : ListLeft). Over n (afterReading m (r .working))) (sym (listing start ks xs)) o
+      subst (λ (r : ListLeft). Over n (afterReading m (r .session) (r .working) (r .stable))) (sym (listing start ks xs)) o
   over-step syncs p = subst (λ (r : Left Synced). Over n (afterSync m r)) (sym syncing) o
   over-step opens p = over-opens (m .working) (o .working)
   over-step (crashes written w) p =

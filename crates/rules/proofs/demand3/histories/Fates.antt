@@ -109,7 +109,7 @@ over-refused n m w t f l h x g s = record {
 -- ── A call that only reads ──────────────────────────────────────────────────────────────────────────────────────
 
 pub alive-reading : {n : ℕ} {m : State} (w : List ℕ) → Alive n m
-    → Calm (m .session) (m .working) (m .stable) (λ k o. Among o (m .past k)) w → Alive n (afterReading m w)
+    → Calm (m .session) (m .working) (m .stable) (λ k o. Among o (m .past k)) w → Alive n (afterReading m (m .session) w (m .stable))
 unfolding afterReading
 alive-reading {n} {m} w a c = record {
   pages = a .pages;

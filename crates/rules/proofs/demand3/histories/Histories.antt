@@ -18,9 +18,6 @@ use Rattle.rules.specs.Call.{Left, insertedNo}
 use Rattle.rules.specs.Format.{formatted, format}
 use Rattle.rules.specs.Open.{opening}
 use Rattle.rules.specs.Insert.{insertRefused, insert}
-use Rattle.rules.specs.Lookup.{lookup}
-use Rattle.rules.specs.Newest.{newest}
-use Rattle.rules.specs.List.{list}
 use Rattle.rules.specs.Sync.{sync, syncDone, syncRefused}
 use Rattle.rules.specs.History.{Event, inserts, looks, asksNewest, lists, syncs, opens, crashes, crashesInSync, State, latest, earliest, gains, afterInsert, afterSync, afterOpen, afterReading, crashed, crashedInSync, step, start, run, Proper, AllProper}
 use Rattle.rules.specs.Demand.{betweenCalls, insideSync, Among, Reads, look, ask, listing, Survives, Serves, Lent, Demand3}
@@ -38,13 +35,11 @@ use Rattle.rules.proofs.demand3.epochs.Formats.{fresh-table, first-open
 use Rattle.rules.proofs.demand3.steps.Mended.{steady-same}
 use Rattle.rules.proofs.demand3.steps.PutIn.{Also}
 use Rattle.rules.proofs.demand3.steps.Inserts.{Stays, Added, Inserts, present, sync-first, no-room, added, insert-inserts, insert-bad-key}
-use Rattle.rules.proofs.demand3.reads.Enters.{Calm, calm}
-use Rattle.rules.proofs.demand3.reads.Looks.{lookup-calm, never-lost, content-told}
-use Rattle.rules.proofs.demand3.reads.Lists.{newest-answers, list-answers, never-damaged, never-refused, newest-same, list-same}
 use Rattle.rules.proofs.demand3.histories.Pasts.{Settled, settled-gains, settled-earliest, gains-here, gains-other, gains-more, gains-new}
 use Rattle.rules.proofs.demand3.histories.Fates.{Alive, Fate, alive, over, safe-widen, tells-bound, alive-anew, alive-done, alive-reading}
 use Rattle.rules.proofs.demand3.histories.Survivals.{alive-survives, fate-opens, fate-crashes}
 use Rattle.rules.proofs.demand3.histories.Ended.{no-pages, over-survives, over-step}
+use Rattle.rules.proofs.demand3.histories.Servings.{alive-reads, alive-serves}
 
 -- ── Insert ──────────────────────────────────────────────────────────────────────────────────────────────────────
 
@@ -68,7 +63,7 @@ unfolding afterReading
 alive-refused {n} {m} k x a r answer d h y =
     subst (Alive n) (sym is) (alive-reading (r .working) a (record { safe = y .safe; steady = y .steady }))
   where
-    is : afterInsert k x m r ≡ afterReading m (r .working)
+    is : afterInsert k x m r ≡ afterReading m (m .session) (r .working) (m .stable)
     is =
         ap
         (λ (b : Inserted). afterInsert k x m (record { answer = b; session = r .session; working = r .working; stable = r .stable }))
@@ -169,28 +164,6 @@ alive-sync {n} {m} a = go (leb (m .session .c) lastNumber) refl
     go false h =
         subst (λ (r : Left Synced). Alive n (afterSync m r)) (sym (sync-spent (a .safe) (leb-false (m .session .c) lastNumber h))) a
 
--- ── What demand 3 says between crashes ──────────────────────────────────────────────────────────────────────────
-
-module _ {n : ℕ} {m : State} (a : Alive n m) where
-  abbrev CalmNow : List ℕ → Type 0
-  CalmNow w = Calm (m .session) (m .working) (m .stable) (λ k o. Among o (m .past k)) w
-
-  reads-calm : (e : Event) → Reads e → CalmNow (step e m .working)
-  unfolding step afterReading
-  reads-calm (looks model serial issue) look = lookup-calm (calm (a .safe)) model serial issue
-  reads-calm (asksNewest model serial) ask = newest-answers (a .safe) (calm (a .safe)) model serial .left
-  reads-calm (lists from ks xs) listing = list-answers (a .safe) (calm (a .safe)) from ks xs .left
-
-  alive-serves : Serves m
-  alive-serves = record {
-    looks-up = λ k h. content-told (a .safe) h (a .now k h);
-    lookup-whole = never-lost (calm (a .safe));
-    newest-whole = never-damaged (a .safe);
-    list-whole = never-refused (a .safe);
-    newest-stays = λ e r model serial. newest-same (a .safe) (reads-calm e r) model serial;
-    list-stays = λ e r from ks xs. list-same (a .safe) (reads-calm e r) from ks xs;
-  }
-
 -- ── Whole histories ─────────────────────────────────────────────────────────────────────────────────────────────
 
 alive-insert : {n : ℕ} {m : State} → Alive n m → (model serial issue x : ℕ) → Proper n (inserts model serial issue x)
@@ -225,15 +198,9 @@ alive-insert {n} {m} a model serial issue x t = go (goodParts model serial issue
 alive-step : {n : ℕ} {m : State} → Alive n m → (e : Event) → Proper n e → Fate n (step e m)
 unfolding Proper step
 alive-step a (inserts model serial issue x) t = alive (alive-insert a model serial issue x t)
-alive-step {n} {m} a (looks model serial issue) t =
-    alive (alive-reading (lookup (m .working) (m .stable) (m .session) model serial issue .working) a
-    (lookup-calm (calm (a .safe)) model serial issue))
-alive-step {n} {m} a (asksNewest model serial) t =
-    alive (alive-reading (newest (m .working) (m .stable) (m .session) model serial .working) a
-    (newest-answers (a .safe) (calm (a .safe)) model serial .left))
-alive-step {n} {m} a (lists from ks xs) t =
-    alive (alive-reading (list (m .working) (m .stable) (m .session) from ks xs .working) a
-    (list-answers (a .safe) (calm (a .safe)) from ks xs .left))
+alive-step a (looks model serial issue) t = alive (alive-reads a (looks model serial issue) look)
+alive-step a (asksNewest model serial) t = alive (alive-reads a (asksNewest model serial) ask)
+alive-step a (lists from ks xs) t = alive (alive-reads a (lists from ks xs) listing)
 alive-step a syncs t = alive (alive-sync a)
 alive-step a opens t = fate-opens a
 alive-step {n} {m} a (crashes written w) t = fate-crashes a w t (crashed written m) (betweenCalls written)
