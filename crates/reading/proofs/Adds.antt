@@ -16,12 +16,12 @@ use Rattle.rules.specs.Walk.{Step, certsAt, wayOf}
 use Rattle.rules.specs.Call.{Left, lengthsFor, lookedNo}
 use Rattle.rules.specs.Lookup.{foundIn, lookupLeft, lookupKey, lookup}
 use Rattle.rules.specs.History.{Event, inserts, State, latest, recordIn, content, gains, afterInsert, step, run, start, Proper, AllProper}
-use Rattle.rules.specs.Demand.{Serves, Demand3}
+use Rattle.rules.specs.Demand.{Serves, Demand3, OpenedTold}
 use Rattle.rules.specs.declared.Session.{Session}
 use Rattle.rules.specs.declared.Inserted.{Inserted}
 use Rattle.rules.specs.declared.Looked.{Looked}
 use Rattle.rules.proofs.bytes.Keys.{modelOf-keyOf, serialOf-keyOf, issueOf-keyOf, keyOf-bound}
-use Rattle.rules.proofs.demand3.histories.Histories.{demand3}
+use Rattle.rules.proofs.demand3.histories.Histories.{demand3, session-tells}
 use Rattle.reading.specs.Inserting.{inserted, Adds, InsertAdds}
 use Rattle.reading.specs.Agreeing.{answerFor}
 use Rattle.reading.proofs.Marking.{done-n}
@@ -184,11 +184,14 @@ done-pages w s h model serial issue x done =
     (wayOf (m .session .n) (m .session .c) (keyOf model serial issue) (m .working) .table) (m .stable))
 
 pub insert-adds : InsertAdds
-unfolding InsertAdds Demand3 Proper
+unfolding InsertAdds Demand3 OpenedTold Proper
 insert-adds n w s l h t z model serial issue x a b c d done =
-    adds (run h (start w s)) model serial issue x a b c (demand3 n w s l h t .1 z)
+    adds (run h (start w s)) model serial issue x a b c (demand3 n w s l h t .1 (session-tells n w s l h t .done z))
     (subst Serves (run-then h e (start w s))
-    (demand3 n w s l (h ++ (e ∷ [])) (proper-then n h e t (a, b, c, d)) .1 (done-pages w s h model serial issue x done ∙ z))) done
+    (demand3 n w s l (h ++ (e ∷ [])) more .1 (session-tells n w s l (h ++ (e ∷ [])) more .done (done-pages w s h model serial issue x done ∙ z)))) done
   where
     e : Event
     e = inserts model serial issue x
+
+    more : AllProper n (h ++ (e ∷ []))
+    more = proper-then n h e t (a, b, c, d)

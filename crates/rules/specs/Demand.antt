@@ -103,4 +103,15 @@ unfoldable pub Demand3 : Type 0
 Demand3 =
     (n : ℕ) (w s : List ℕ) → Lent n w s → (h : List Event) → AllProper n h
     → ((u : List ℕ) → length u ≡ n * pageSize → Survives (run h (start w s)) u)
-    × (((run h (start w s)) .session .n ≡ n) → Serves (run h (start w s)))
+    × (run h (start w s) .opened ≡ Opened.Done → Serves (run h (start w s)))
+
+-- ── The last opening ────────────────────────────────────────────────────────────────────────────────────────────
+
+-- the session tells whether the last opening was done: it has the tables' n pages then, and else none
+pub record SessionTells (n : ℕ) (m : State) : Type 0 where
+  pub pages : m .opened ≡ Opened.Done → m .session .n ≡ n
+  pub done : m .session .n ≡ n → m .opened ≡ Opened.Done
+  pub refused : (m .opened ≡ Opened.Done → ⊥) → m .session .n ≡ 0
+
+unfoldable pub OpenedTold : Type 0
+OpenedTold = (n : ℕ) (w s : List ℕ) → Lent n w s → (h : List Event) → AllProper n h → SessionTells n (run h (start w s))

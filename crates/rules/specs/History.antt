@@ -12,7 +12,6 @@ use lib.Dec.{leb, eqb}
 use lib.ListN.{length}
 use Rattle.rules.specs.Layout.{pageSize, lastNumber}
 use Rattle.rules.specs.Key.{keyOf, modelOf, serialOf, issueOf}
-use Rattle.rules.specs.Marks.{nobody}
 use Rattle.rules.specs.Call.{Left}
 use Rattle.rules.specs.Format.{format}
 use Rattle.rules.specs.Open.{opening}
@@ -42,11 +41,12 @@ pub data Event : Type 0 where
   crashes : List Bool → List ℕ → Event
   crashesInSync : List Bool → List ℕ → Event
 
--- a store between two calls. The states of a key stand newest first.
+-- a store between two calls, what the last opening answered, and the states of each key, newest first
 pub record State : Type 0 where
   pub session : Session
   pub working : List ℕ
   pub stable : List ℕ
+  pub opened : Opened
   pub past : ℕ → List (Option ℕ)
 
 -- ── The states of a key ─────────────────────────────────────────────────────────────────────────────────────────
@@ -84,6 +84,7 @@ afterInsert k x m r = record {
   session = r .session;
   working = r .working;
   stable = r .stable;
+  opened = m .opened;
   past =
       elim (r .answer) [
         | Inserted.Done ↦ gains k x (m .past)
@@ -101,6 +102,7 @@ afterSync m r = record {
   session = r .session;
   working = r .working;
   stable = r .stable;
+  opened = m .opened;
   past =
       elim (r .answer) [
         | Synced.Done ↦ λ k. latest (m .past k) ∷ []
@@ -110,23 +112,24 @@ afterSync m r = record {
 }
 
 -- a successful opening starts the states of every key anew, with what a lookup now answers
-unfoldable pub afterOpen : State → Left Opened → State
-afterOpen m r = record {
+unfoldable pub afterOpen : (ℕ → List (Option ℕ)) → Left Opened → State
+afterOpen past r = record {
   session = r .session;
   working = r .working;
   stable = r .stable;
+  opened = r .answer;
   past =
       elim (r .answer) [
         | Opened.Done ↦ λ k. content (r .session) (r .working) (r .stable) k ∷ []
-        | Opened.Length ↦ m .past
-        | Opened.Damaged ↦ m .past
-        | Opened.Spent ↦ m .past
+        | Opened.Length ↦ past
+        | Opened.Damaged ↦ past
+        | Opened.Spent ↦ past
       ];
 }
 
 -- a call that only reads adds no state; what it hands back goes on, like that of any other call
 unfoldable pub afterReading : State → Session → List ℕ → List ℕ → State
-afterReading m s w t = record { session = s; working = w; stable = t; past = m .past }
+afterReading m s w t = record { session = s; working = w; stable = t; opened = m .opened; past = m .past }
 
 -- ── Crashes ─────────────────────────────────────────────────────────────────────────────────────────────────────
 
@@ -161,17 +164,15 @@ step (lists start ks xs) m =
     let r = list (m .working) (m .stable) (m .session) start ks xs in
     afterReading m (r .session) (r .working) (r .stable)
 step syncs m = afterSync m (sync (m .working) (m .stable) (m .session))
-step opens m = afterOpen m (opening (m .working) (m .stable))
-step (crashes written w) m = afterOpen m (opening w (crashed written m))
-step (crashesInSync written w) m = afterOpen m (opening w (crashedInSync written m))
+step opens m = afterOpen (m .past) (opening (m .working) (m .stable))
+step (crashes written w) m = afterOpen (m .past) (opening w (crashed written m))
+step (crashesInSync written w) m = afterOpen (m .past) (opening w (crashedInSync written m))
 
 -- ── Whole histories ─────────────────────────────────────────────────────────────────────────────────────────────
 
 -- a store fresh from format and open, of two tables of any bytes
 unfoldable pub start : List ℕ → List ℕ → State
-start w s =
-    afterOpen (record { session = nobody; working = w; stable = s; past = λ k. [] })
-    (opening w (format w s .stable))
+start w s = afterOpen (λ k. []) (opening w (format w s .stable))
 
 -- events in the order in which they happened
 unfoldable pub run : List Event → State → State

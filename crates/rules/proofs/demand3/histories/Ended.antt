@@ -38,6 +38,10 @@ module _ {n : ℕ} {m : State} (o : Over n m) where
   unfolding nobody
   no-pages = ap (λ (s : Session). s .n) (o .nobody)
 
+  pub over-closed : m .opened ≡ Opened.Done → ⊥
+  unfolding openedNo
+  over-closed d = omega (arith, ap openedNo (sym (o .opened) ∙ d))
+
   -- ── Calls ─────────────────────────────────────────────────────────────────────────────────────────────────────
 
   refused : lengthsFor (m .session) (m .working) (m .stable) ≡ false
@@ -84,10 +88,10 @@ module _ {n : ℕ} {m : State} (o : Over n m) where
     opening-again : opening w (m .stable) ≡ openRefused Opened.Spent w (m .stable)
     opening-again = opening-spent n w (m .stable) (o .few) (o .most) h (o .stable) (o .good) (o .spent)
 
-    over-opens : Over n (afterOpen m (opening w (m .stable)))
+    over-opens : Over n (afterOpen (m .past) (opening w (m .stable)))
     over-opens =
-        subst (λ (r : Left Opened). Over n (afterOpen m r)) (sym opening-again)
-        (over-refused n m w (m .stable) (o .few) (o .most) h (o .stable) (o .good) (o .spent))
+        subst (λ (r : Left Opened). Over n (afterOpen (m .past) r)) (sym opening-again)
+        (over-refused n (m .past) w (m .stable) (o .few) (o .most) h (o .stable) (o .good) (o .spent))
 
   crashed-stays : (written : List Bool) → crashed written m ≡ m .stable
   unfolding crashed
@@ -139,6 +143,6 @@ module _ {n : ℕ} {m : State} (o : Over n m) where
   over-step syncs p = subst (λ (r : Left Synced). Over n (afterSync m r)) (sym syncing) o
   over-step opens p = over-opens (m .working) (o .working)
   over-step (crashes written w) p =
-      subst (λ (t : List ℕ). Over n (afterOpen m (opening w t))) (sym (crashed-stays written)) (over-opens w p)
+      subst (λ (t : List ℕ). Over n (afterOpen (m .past) (opening w t))) (sym (crashed-stays written)) (over-opens w p)
   over-step (crashesInSync written w) p =
-      subst (λ (t : List ℕ). Over n (afterOpen m (opening w t))) (sym (in-sync-stays written)) (over-opens w p)
+      subst (λ (t : List ℕ). Over n (afterOpen (m .past) (opening w t))) (sym (in-sync-stays written)) (over-opens w p)

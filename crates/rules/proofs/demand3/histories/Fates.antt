@@ -28,6 +28,7 @@ use Rattle.rules.proofs.demand3.histories.Pasts.{among-one, Settled, on
 
 pub record Alive (n : ℕ) (m : State) : Type 0 where
   pub pages : m .session .n ≡ n
+  pub opened : m .opened ≡ Opened.Done
   pub safe : Safe (m .session) (m .working) (m .stable) (λ k o. Among o (m .past k))
   pub then : (k : ℕ) → k ≤ lastKey → Tells (m .session .n) (m .stable) k (earliest (m .past k))
   pub now : (k : ℕ) → k ≤ lastKey → Tells (m .session .n) (m .working) k (latest (m .past k))
@@ -35,6 +36,7 @@ pub record Alive (n : ℕ) (m : State) : Type 0 where
 
 pub record Over (n : ℕ) (m : State) : Type 0 where
   pub nobody : m .session ≡ nobody
+  pub opened : m .opened ≡ Opened.Spent
   pub few : fewestPages ≤ n
   pub most : n ≤ mostPages
   pub working : length (m .working) ≡ n * pageSize
@@ -70,12 +72,13 @@ tells-bound x = omega (arith, node-range (x .node) .1, node-last (x .node))
 -- ── A new epoch ─────────────────────────────────────────────────────────────────────────────────────────────────
 
 -- each key has had one state, which the table tells
-pub alive-anew : (s : Session) (t : List ℕ) (state : ℕ → Option ℕ) → Safe s t t (Tells (s .n) t)
+pub alive-anew : (s : Session) (t : List ℕ) (last : Opened) (state : ℕ → Option ℕ) → last ≡ Opened.Done → Safe s t t (Tells (s .n) t)
     → ((k : ℕ) (o : Option ℕ) → Tells (s .n) t k o → o ≡ state k)
-    → Alive (s .n) (record { session = s; working = t; stable = t; past = λ k. state k ∷ [] })
+    → Alive (s .n) (record { session = s; working = t; stable = t; opened = last; past = λ k. state k ∷ [] })
 unfolding latest earliest
-alive-anew s t state x f = record {
+alive-anew s t last state d x f = record {
   pages = refl;
+  opened = d;
   safe = safe-widen (λ k o. Among o (state k ∷ [])) (λ k o y. among-one (f k o y)) x;
   then = told;
   now = told;
@@ -85,19 +88,20 @@ alive-anew s t state x f = record {
     told : (k : ℕ) → k ≤ lastKey → Tells (s .n) t k (state k)
     told k h = let y = tells (working-good (x .inv)) k h in subst (Tells (s .n) t k) (f k (y .0) (y .1)) (y .1)
 
-pub alive-done : (n : ℕ) (m : State) (t : List ℕ)
-    → Safe (opened n (number0 t) (treeOf n t)) (raise t) (raise t) (Tells n (raise t)) → Alive n (afterOpen m (done n t))
+pub alive-done : (n : ℕ) (past : ℕ → List (Option ℕ)) (t : List ℕ)
+    → Safe (opened n (number0 t) (treeOf n t)) (raise t) (raise t) (Tells n (raise t)) → Alive n (afterOpen past (done n t))
 unfolding afterOpen opened
-alive-done n m t x =
-    alive-anew (opened n (number0 t) (treeOf n t)) (raise t)
-    (content (opened n (number0 t) (treeOf n t)) (raise t) (raise t)) x
+alive-done n past t x =
+    alive-anew (opened n (number0 t) (treeOf n t)) (raise t) Opened.Done
+    (content (opened n (number0 t) (treeOf n t)) (raise t) (raise t)) refl x
     (λ k o y. sym (content-told x (tells-bound y) y))
 
-pub over-refused : (n : ℕ) (m : State) (w t : List ℕ) → fewestPages ≤ n → n ≤ mostPages → length w ≡ n * pageSize → Whole n t → Good n t
-    → lastNumber < number0 t → Over n (afterOpen m (openRefused Opened.Spent w t))
+pub over-refused : (n : ℕ) (past : ℕ → List (Option ℕ)) (w t : List ℕ) → fewestPages ≤ n → n ≤ mostPages → length w ≡ n * pageSize → Whole n t → Good n t
+    → lastNumber < number0 t → Over n (afterOpen past (openRefused Opened.Spent w t))
 unfolding afterOpen openRefused
-over-refused n m w t f l h x g s = record {
+over-refused n past w t f l h x g s = record {
   nobody = refl;
+  opened = refl;
   few = f;
   most = l;
   working = h;
@@ -113,6 +117,7 @@ pub alive-reading : {n : ℕ} {m : State} (w : List ℕ) → Alive n m
 unfolding afterReading
 alive-reading {n} {m} w a c = record {
   pages = a .pages;
+  opened = a .opened;
   safe = c .safe;
   then = a .then;
   now = λ k h. steady-tells (c .steady) (a .now k h);

@@ -20,7 +20,7 @@ use Rattle.rules.specs.Open.{opening}
 use Rattle.rules.specs.Insert.{insertRefused, insert}
 use Rattle.rules.specs.Sync.{sync, syncDone, syncRefused}
 use Rattle.rules.specs.History.{Event, inserts, looks, asksNewest, lists, syncs, opens, crashes, crashesInSync, State, latest, earliest, gains, afterInsert, afterSync, afterOpen, afterReading, crashed, crashedInSync, step, start, run, Proper, AllProper}
-use Rattle.rules.specs.Demand.{betweenCalls, insideSync, Among, Reads, look, ask, listing, Survives, Serves, Lent, Demand3}
+use Rattle.rules.specs.Demand.{betweenCalls, insideSync, Among, Reads, look, ask, listing, Survives, Serves, Lent, Demand3, SessionTells, OpenedTold}
 use Rattle.rules.specs.declared.Opened.{Opened}
 use Rattle.rules.specs.declared.Inserted.{Inserted}
 use Rattle.rules.specs.declared.Synced.{Synced}
@@ -38,7 +38,7 @@ use Rattle.rules.proofs.demand3.steps.Inserts.{Stays, Added, Inserts, p
 use Rattle.rules.proofs.demand3.histories.Pasts.{Settled, settled-gains, settled-earliest, gains-here, gains-other, gains-more, gains-new}
 use Rattle.rules.proofs.demand3.histories.Fates.{Alive, Fate, alive, over, safe-widen, tells-bound, alive-anew, alive-done, alive-reading}
 use Rattle.rules.proofs.demand3.histories.Survivals.{alive-survives, fate-opens, fate-crashes}
-use Rattle.rules.proofs.demand3.histories.Ended.{no-pages, over-survives, over-step}
+use Rattle.rules.proofs.demand3.histories.Ended.{no-pages, over-closed, over-survives, over-step}
 use Rattle.rules.proofs.demand3.histories.Servings.{alive-reads, alive-serves}
 
 -- ── Insert ──────────────────────────────────────────────────────────────────────────────────────────────────────
@@ -46,7 +46,7 @@ use Rattle.rules.proofs.demand3.histories.Servings.{alive-reads, alive-
 -- a refusal leaves a key's states as they were
 refused-past : (k x : ℕ) (m : State) (answer : Inserted) → (answer ≡ Inserted.Done → ⊥) → (s : Session) (w t : List ℕ)
     → afterInsert k x m (record { answer = answer; session = s; working = w; stable = t })
-    ≡ record { session = s; working = w; stable = t; past = m .past }
+    ≡ record { session = s; working = w; stable = t; opened = m .opened; past = m .past }
 unfolding afterInsert
 refused-past k x m Inserted.Done h s w t = absurd (h refl)
 refused-past k x m Inserted.Length h s w t = refl
@@ -70,17 +70,17 @@ alive-refused {n} {m} k x a r answer d h y =
         h
         ∙ (refused-past k x m answer d (r .session) (r .working) (r .stable)
         ∙ (ap
-        (λ (s : Session). record { session = s; working = r .working; stable = r .stable; past = m .past })
+        (λ (s : Session). record { session = s; working = r .working; stable = r .stable; opened = m .opened; past = m .past })
         (y .session)
         ∙ ap
-        (λ (t : List ℕ). record { session = m .session; working = r .working; stable = t; past = m .past })
+        (λ (t : List ℕ). record { session = m .session; working = r .working; stable = t; opened = m .opened; past = m .past })
         (y .stable)))
 
 -- the key was absent and has its record, every other key is as it was
 module _ {n : ℕ} {m : State} (a : Alive n m) (k x : ℕ) (bound : k ≤ lastKey) (r : Left Inserted)
     (i : Added (m .session) (m .working) (m .stable) (λ j o. Among o (m .past j)) k x r) where
   abbrev inserted : State
-  inserted = record { session = r .session; working = r .working; stable = r .stable; past = gains k x (m .past) }
+  inserted = record { session = r .session; working = r .working; stable = r .stable; opened = m .opened; past = gains k x (m .past) }
 
   inserted-is : afterInsert k x m r ≡ inserted
   unfolding afterInsert
@@ -133,6 +133,7 @@ module _ {n : ℕ} {m : State} (a : Alive n m) (k x : ℕ) (bound : k ≤ lastKe
       subst (Alive n) (sym inserted-is)
       (record {
         pages = i .pages ∙ a .pages;
+        opened = a .opened;
         safe =
             subst (λ (t : List ℕ). Safe (r .session) (r .working) t (λ j o. Among o (gains k x (m .past) j))) (sym (i .stable))
             (safe-widen (λ j o. Among o (gains k x (m .past) j)) gained (i .safe));
@@ -153,7 +154,7 @@ alive-sync {n} {m} a = go (leb (m .session .c) lastNumber) refl
   where
     new : m .session .c ≤ lastNumber → Alive (m .session .n) (afterSync m (syncDone (m .session) (m .working)))
     new l =
-        alive-anew (turned (m .session)) (numbered (a .safe)) (λ k. latest (m .past k)) (sync-safe (a .safe) l)
+        alive-anew (turned (m .session)) (numbered (a .safe)) (m .opened) (λ k. latest (m .past k)) (a .opened) (sync-safe (a .safe) l)
         (λ k o y. tells-one y (sync-told (a .safe) (a .now k (tells-bound y))))
 
     go : (b : Bool) → leb (m .session .c) lastNumber ≡ b → Alive n (afterSync m (sync (m .working) (m .stable) (m .session)))
@@ -219,13 +220,10 @@ fate-run m f (e ∷ es) t = fate-run (step e m) (fate-step f e (t .0)) es (t .1)
 pub fate-start : (n : ℕ) (w s : List ℕ) → Lent n w s → Fate n (start w s)
 unfolding start format
 fate-start n w s l =
-    alive (subst (λ (t : List ℕ). Alive n (afterOpen before (opening w t))) (sym formats)
-    (subst (λ (r : Left Opened). Alive n (afterOpen before r)) (sym (first-opening n (l .few) (l .most) w (l .working)))
-    (alive-done n before (fresh-table n (l .few) (l .most)) (first-safe n (l .few) (l .most)))))
+    alive (subst (λ (t : List ℕ). Alive n (afterOpen (λ k. []) (opening w t))) (sym formats)
+    (subst (λ (r : Left Opened). Alive n (afterOpen (λ k. []) r)) (sym (first-opening n (l .few) (l .most) w (l .working)))
+    (alive-done n (λ k. []) (fresh-table n (l .few) (l .most)) (first-safe n (l .few) (l .most)))))
   where
-    before : State
-    before = record { session = nobody; working = w; stable = s; past = λ k. [] }
-
     lengths : goodLengths w s ≡ true
     lengths = tables-good (record { least = l .few; most = l .most; working = l .working; stable = l .stable })
 
@@ -238,10 +236,18 @@ fate-survives : {n : ℕ} {m : State} → Fate n m → (u : List ℕ) → length
 fate-survives (alive a) u h = alive-survives a u h
 fate-survives (over o) u h = over-survives o u h
 
+fate-serves : {n : ℕ} {m : State} → Fate n m → m .opened ≡ Opened.Done → Serves m
+fate-serves (alive a) d = alive-serves a
+fate-serves (over o) d = absurd (over-closed o d)
+
 -- a session that was handed out has pages
-fate-serves : {n : ℕ} {m : State} → fewestPages ≤ n → Fate n m → m .session .n ≡ n → Serves m
-fate-serves f (alive a) h = alive-serves a
-fate-serves f (over o) h = absurd (omega (arith, no-pages o, h))
+fate-session : {n : ℕ} {m : State} → fewestPages ≤ n → Fate n m → SessionTells n m
+fate-session f (alive a) = record { pages = λ d. a .pages; done = λ h. a .opened; refused = λ d. absurd (d (a .opened)) }
+fate-session f (over o) = record {
+  pages = λ d. absurd (over-closed o d);
+  done = λ h. absurd (omega (arith, no-pages o, h));
+  refused = λ d. no-pages o;
+}
 
 -- ── The theorem ─────────────────────────────────────────────────────────────────────────────────────────────────
 
@@ -249,4 +255,8 @@ pub demand3 : Demand3
 unfolding Demand3
 demand3 n w s l h t =
     let f = fate-run (start w s) (fate-start n w s l) h t in
-    (fate-survives f, fate-serves (l .few) f)
+    (fate-survives f, fate-serves f)
+
+pub session-tells : OpenedTold
+unfolding OpenedTold
+session-tells n w s l h t = fate-session (l .few) (fate-run (start w s) (fate-start n w s l) h t)

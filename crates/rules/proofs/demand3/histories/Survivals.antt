@@ -171,8 +171,8 @@ module _ {n : ℕ} {m : State} (a : Alive n m) where
         let y = tells (working-good (opened-safe l .inv)) k h in
         subst (λ (o : Option ℕ). Among o (m .past k)) (sym (found l h (y .1))) (opened-told (y .1))
 
-    fate-after : Fate n (afterOpen m (opening lent t))
-    fate-after = subst (λ (i : ℕ). Fate i (afterOpen m (opening lent t))) (a .pages) (go (leb (number0 t) lastNumber) refl)
+    fate-after : Fate n (afterOpen (m .past) (opening lent t))
+    fate-after = subst (λ (i : ℕ). Fate i (afterOpen (m .past) (opening lent t))) (a .pages) (go (leb (number0 t) lastNumber) refl)
       where
         whole : Whole (m .session .n) t
         whole =
@@ -183,15 +183,15 @@ module _ {n : ℕ} {m : State} (a : Alive n m) where
             subst (Good (m .session .n)) (w .left)
             (left-good x (w .source) (w .alike) (w .whole) (w .above) (w .pages))
 
-        go : (b : Bool) → leb (number0 t) lastNumber ≡ b → Fate (m .session .n) (afterOpen m (opening lent t))
+        go : (b : Bool) → leb (number0 t) lastNumber ≡ b → Fate (m .session .n) (afterOpen (m .past) (opening lent t))
         go true h =
             let l = leb-true (number0 t) lastNumber h in
-            subst (λ (r : Left Opened). Fate (m .session .n) (afterOpen m r)) (sym (opens-done l))
-            (alive (alive-done (m .session .n) m t (opened-safe l)))
+            subst (λ (r : Left Opened). Fate (m .session .n) (afterOpen (m .past) r)) (sym (opens-done l))
+            (alive (alive-done (m .session .n) (m .past) t (opened-safe l)))
         go false h =
             let l = leb-false (number0 t) lastNumber h in
-            subst (λ (r : Left Opened). Fate (m .session .n) (afterOpen m r)) (sym (opens-spent l))
-            (over (over-refused (m .session .n) m lent t (x .few) (x .most) length-is whole good l))
+            subst (λ (r : Left Opened). Fate (m .session .n) (afterOpen (m .past) r)) (sym (opens-spent l))
+            (over (over-refused (m .session .n) (m .past) lent t (x .few) (x .most) length-is whole good l))
 
   -- ── What demand 3 says ────────────────────────────────────────────────────────────────────────────────────────
 
@@ -249,8 +249,8 @@ module _ {n : ℕ} {m : State} (a : Alive n m) where
       all-written-in-sync = everything-in-sync;
     }
 
-    pub fate-crashes : (t : List ℕ) → CrashOf m t → Fate n (afterOpen m (opening lent t))
+    pub fate-crashes : (t : List ℕ) → CrashOf m t → Fate n (afterOpen (m .past) (opening lent t))
     fate-crashes t c = fate-after lent sized (crash-written c)
 
-  pub fate-opens : Fate n (afterOpen m (opening (m .working) (m .stable)))
+  pub fate-opens : Fate n (afterOpen (m .past) (opening (m .working) (m .stable)))
   fate-opens = fate-after (m .working) (x .working .length-is ∙ ap (λ (i : ℕ). i * pageSize) (a .pages)) none-written
