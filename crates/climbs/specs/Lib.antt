@@ -1,0 +1,4 @@
+pub mod Rest
+pub mod After
+pub mod Ground
+pub mod Leaves
