@@ -27,9 +27,11 @@ use Rattle.enter.specs.Entering as enters
 use Rattle.enter.specs.declared.Entered.{Entered}
 use Rattle.enter.specs.declared.Above.{Above}
 use Rattle.enter.proofs.Told.{enter-same, told-table, told-page, told-damaged}
-use Rattle.way.specs.Ways.{Leads, Holds, stepOf, wayFor, thenOf, aboveIn, walking, wayOr, told}
+use Rattle.way.specs.Ways.{innerIn, placesBelow, Leads, Holds, stepOf, wayFor, thenOf, aboveIn, walking, wayOr, told}
 use Rattle.way.specs.declared.Step.{Step}
 use Rattle.way.specs.declared.Way.{Way}
+use Rattle.way.specs.declared.Inner.{Inner}
+use Rattle.way.proofs.Below.{places-kids}
 use Rattle.way.proofs.Stood.{Ready, ready-root, ready-next, Stood, stood-here}
 
 -- ── The numbers above, as the code keeps them ───────────────────────────────────────────────────────────────────
@@ -68,11 +70,14 @@ begins n c k t e w l f b g v m h = record {
 }
 
 -- below the last level, where nothing can stand
-pub runs-out : {n c k : ℕ} {t₀ t : List ℕ} {w : Way} {e : Place} {level : ℕ} → Descent n c k t₀ t w e level → level ≡ 0
-    → walking t (wayFor []) ≡ told (rules.wayOf n c k t₀)
-unfolding rules.descend told wayOr
-runs-out {n} {c} {k} {t = t} {e = e} d z =
-    sym (ap told (d .rest ∙ ap (λ (l : ℕ). rules.descend l n c k (d .above) t e) z))
+module _ {n c k : ℕ} {t₀ t : List ℕ} {w : Way} {e : Place} {level : ℕ} (d : Descent n c k t₀ t w e level) (z : level ≡ 0) where
+  pub out-way : rules.wayOf n c k t₀ ≡ rules.noWay t
+  unfolding rules.descend
+  out-way = d .rest ∙ ap (λ (l : ℕ). rules.descend l n c k (d .above) t e) z
+
+  pub runs-out : walking t (wayFor []) ≡ told (rules.wayOf n c k t₀)
+  unfolding told wayOr
+  runs-out = sym (ap told out-way)
 
 -- ── One turn of the loop ────────────────────────────────────────────────────────────────────────────────────────
 
@@ -87,14 +92,17 @@ module _ {n c k : ℕ} {t₀ t : List ℕ} {w : Way} {e : Place} {level : ℕ} (
   one-level : rules.descend level n c k (d .above) t e ≡ rules.descend (suc (level - 1)) n c k (d .above) t e
   one-level = let q : level ≡ suc (level - 1) = omega arith in ap (λ (l : ℕ). rules.descend l n c k (d .above) t e) q
 
-  pub damaged : (u : List ℕ) → enters.entering u Entered.Damaged ≡ enters.told (entry.enter n c (enters.aboveOf a) t e)
-      → walking u (wayFor []) ≡ told (rules.wayOf n c k t₀)
-  unfolding told wayOr
-  damaged u h =
-      let y = entry.enter n c (rules.numbers (d .above)) t e in
-      let i = h ∙ ap enters.told as-rules in
-      ap (λ (x : List ℕ). walking x (wayFor [])) (told-table y i)
-      ∙ sym (ap told (d .rest ∙ (one-level ∙ descend-damaged (level - 1) n c k (d .above) t e (told-damaged y i))))
+  module _ (u : List ℕ) (h : enters.entering u Entered.Damaged ≡ enters.told (entry.enter n c (enters.aboveOf a) t e)) where
+    pub damaged-way : rules.wayOf n c k t₀ ≡ rules.noWay u
+    damaged-way =
+        let y = entry.enter n c (rules.numbers (d .above)) t e in
+        let i = h ∙ ap enters.told as-rules in
+        d .rest
+        ∙ (one-level ∙ (descend-damaged (level - 1) n c k (d .above) t e (told-damaged y i) ∙ ap rules.noWay (sym (told-table y i))))
+
+    pub damaged : walking u (wayFor []) ≡ told (rules.wayOf n c k t₀)
+    unfolding told wayOr
+    damaged = sym (ap told damaged-way)
 
   module _ (u : List ℕ) (h : Head) (f : enters.entering u (Entered.Page h) ≡ enters.told (entry.enter n c (enters.aboveOf a) t e)) where
     page : (p : Page) × (entry.enter n c (rules.numbers (d .above)) t e .page ≡ some p) × (h ≡ headOf p)
@@ -117,22 +125,28 @@ module _ {n c k : ℕ} {t₀ t : List ℕ} {w : Way} {e : Place} {level : ℕ} (
     unfolding headOf
     kind-here = ap (λ (x : Head). x .kind) (page .2)
 
-    then-here : thenOf w (record { place = e; head = h }) ≡ wayFor (record { place = e; page = page .0 } ∷ d .above)
+    then-here : thenOf w (record { place = e; head = h }) ≡ wayFor (record { place = e; page = read u (e .child) } ∷ d .above)
     then-here =
         ap (λ (x : Way). thenOf x (record { place = e; head = h })) (d .way)
-        ∙ (ap (λ (x : Head). thenOf (wayFor (d .above)) (record { place = e; head = x })) (page .2)
-        ∙ then-for (d .above) (record { place = e; page = page .0 }))
+        ∙ (ap (λ (x : Head). thenOf (wayFor (d .above)) (record { place = e; head = x })) head-here
+        ∙ then-for (d .above) (record { place = e; page = read u (e .child) }))
 
     -- a leaf ends the way
-    pub ends : h .kind ≡ leafKind → walking u (thenOf w (record { place = e; head = h })) ≡ told (rules.wayOf n c k t₀)
-    unfolding told wayOr
-    ends q =
+    pub leaf-way : h .kind ≡ leafKind
+        → rules.wayOf n c k t₀ ≡ record { table = u; steps = some (record { place = e; page = read u (e .child) } ∷ d .above) }
+    leaf-way q =
         let v = page .0 .view in
         let s = subst (λ (x : Page). Shaped (x .view)) here (shaped-read u (e .child)) in
         let o = pick-leaf k e v s (leaf-of-kind v (sym kind-here ∙ q)) in
-        ap (λ (x : List ℕ). walking x (thenOf w (record { place = e; head = h }))) table
-        ∙ (ap (walking (entry.enter n c (rules.numbers (d .above)) t e .table)) then-here
-        ∙ sym (ap told (d .rest ∙ (one-level ∙ descend-ends (level - 1) n c k (d .above) t e (page .0) (page .1) o))))
+        d .rest
+        ∙ (one-level
+        ∙ (descend-ends (level - 1) n c k (d .above) t e (page .0) (page .1) o
+        ∙ (ap (λ (x : List ℕ). record { table = x; steps = some (record { place = e; page = page .0 } ∷ d .above) }) (sym table)
+        ∙ ap (λ (x : Page). record { table = u; steps = some (record { place = e; page = x } ∷ d .above) }) (sym here))))
+
+    pub ends : h .kind ≡ leafKind → walking u (thenOf w (record { place = e; head = h })) ≡ told (rules.wayOf n c k t₀)
+    unfolding told wayOr
+    ends q = ap (walking u) then-here ∙ sym (ap told (leaf-way q))
 
     pub holds : h .kind ≡ leafKind → Holds (read u (e .child) .view)
     holds q =
@@ -148,30 +162,45 @@ module _ {n c k : ℕ} {t₀ t : List ℕ} {w : Way} {e : Place} {level : ℕ} (
       inner-here : isLeaf (page .0 .view) ≡ false
       inner-here = inner-of-kind (page .0 .view) (λ r. q (kind-here ∙ r))
 
-      -- an inner page leads on
-      pub leads : Leads k e (read u (e .child) .view)
-      leads =
+      leads-here : Leads k (innerIn e h) (page .0 .view)
+      unfolding headOf
+      leads-here =
           let s = stood .fits .sound in
-          let l : Leads k e (page .0 .view) = record {
+          record {
             inner = inner-here;
-            kind = s .kind-from;
+            kind = kind-here;
+            from = s .kind-from;
+            count = ap (λ (x : Head). x .count) (page .2);
             room = s .children-room;
             rise = s .children-rise;
             starts = s .starts inner-here;
             low = d .ready .low;
             high = d .ready .high;
-          } in
-          subst (λ (x : Page). Leads k e (x .view)) (sym here) l
+          }
 
-      pub goes-on : (b : Place) → pick k (kids e (read u (e .child) .view)) ≡ some b
+      -- an inner page leads on
+      pub leads : (i : Inner) → i ≡ innerIn e h → Leads k i (read u (i .child) .view)
+      leads i q =
+          subst (λ (x : Inner). Leads k x (read u (x .child) .view)) (sym q)
+          (subst (λ (x : Page). Leads k (innerIn e h) (x .view)) (sym here) leads-here)
+
+      pub goes-on : (i : Inner) → i ≡ innerIn e h → (b : Place) → pick k (placesBelow i (read u (i .child) .view)) ≡ some b
           → Descent n c k t₀ u (thenOf w (record { place = e; head = h })) b (level - 1)
-      goes-on b r =
-          let q′ : pick k (kids e (page .0 .view)) ≡ some b = ap (λ (x : Page). pick k (kids e (x .view))) (sym here) ∙ r in
+      goes-on i g b r =
+          let q′ : pick k (kids e (page .0 .view)) ≡ some b = ap (λ (x : Page). pick k (kids e (x .view))) (sym here) ∙ (ap (pick k) (sym (places-kids e h (read u (e .child) .view)))
+          ∙ (ap (λ (x : Inner). pick k (placesBelow x (read u (x .child) .view))) (sym g) ∙ r)) in
           record {
-            above = record { place = e; page = page .0 } ∷ d .above;
+            above = record { place = e; page = read u (e .child) } ∷ d .above;
             way = then-here;
             rest = d .rest ∙ (one-level ∙ (descend-below (level - 1) n c k (d .above) t e (page .0) (page .1) b q′
-                ∙ ap (λ (x : List ℕ). rules.descend (level - 1) n c k (record { place = e; page = page .0 } ∷ d .above) x b) (sym table)));
+                ∙ (ap (λ (x : List ℕ). rules.descend (level - 1) n c k (record { place = e; page = page .0 } ∷ d .above) x b) (sym table)
+                ∙ ap (λ (x : Page). rules.descend (level - 1) n c k (record { place = e; page = x } ∷ d .above) u b) (sym here))));
             deep = omega (arith, d .deep);
             ready = subst (λ (x : List ℕ). Ready n c k x b) (sym table) (ready-next (d .ready) (rules.numbers (d .above)) (page .0) (page .1) b q′);
           }
+
+      -- by the page that was entered
+      pub goes-above : (i : Inner) (g : i ≡ innerIn e h) (b : Place) (r : pick k (placesBelow i (read u (i .child) .view)) ≡ some b)
+          → goes-on i g b r .above ≡ record { place = e; page = read u (e .child) } ∷ d .above
+      unfolding goes-on
+      goes-above i g b r = refl

@@ -1,4 +1,5 @@
-pub mod Inner
+pub mod Ahead
+pub mod Below
 pub mod Leaf
 pub mod Stood
 pub mod Linked

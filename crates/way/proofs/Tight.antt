@@ -1,5 +1,6 @@
 -- No second outcome satisfies a contract of this crate. Assumes nothing.
-use mathlib.Core.Path.{sym, _∙_}
+use mathlib.Core.Path.{refl, sym, _∙_}
+use mathlib.Core.Option.{Option·some-injective}
 use Rattle.tight.specs.Tight.{Tight}
 use Rattle.way.proofs as this
 
@@ -12,3 +13,12 @@ pub leaf-of-tight : Tight this.leaf_of.Kinds.ps this.leaf_of.Kinds.r this.leaf_o
 leaf-of-tight κs a pre z z′ l l′ p q =
     let e = p ∙ sym q in
     ((λ i. e i .end), (λ i. (e i .table, l .1)))
+
+pub inner-of-tight : Tight this.inner_of.Kinds.ps this.inner_of.Kinds.r this.inner_of.Reads.Pre this.inner_of.Reads.Post
+inner-of-tight κs a pre z z′ l l′ p q = (p ∙ sym q, refl)
+
+pub look-ahead-tight : Tight this.look_ahead.Kinds.ps this.look_ahead.Kinds.r this.look_ahead.Reads.Pre this.look_ahead.Reads.Post
+look-ahead-tight κs a pre z z′ l l′ p q = (p ∙ sym q, refl)
+
+pub place-below-tight : Tight this.place_below.Kinds.ps this.place_below.Kinds.r this.place_below.Reads.Pre this.place_below.Reads.Post
+place-below-tight κs a pre z z′ l l′ p q = (Option·some-injective z z′ (sym p ∙ q), refl)

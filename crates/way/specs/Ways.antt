@@ -1,5 +1,5 @@
 -- The rules' way as the code hands it back: each step by its place and its page's header, at most three.
-use Prim.Native.Nat.{ℕ, _+_, _≤_}
+use Prim.Native.Nat.{ℕ, _+_, _-_, _≤_}
 use mathlib.Core.Path.{_≡_}
 use mathlib.Core.Bool.{true, false}
 use mathlib.Core.List.{List, [], _∷_}
@@ -7,17 +7,20 @@ use mathlib.Core.Option.{Option, some, none}
 use lib.ListN.{length}
 use Rattle.rules.specs.Layout.{certSize, leafRoom, innerRoom}
 use Rattle.rules.specs.Entry.{keys, rising}
-use Rattle.rules.specs.Page.{View, isLeaf}
+use Rattle.rules.specs.Page.{View, isLeaf, count}
 use Rattle.rules.specs.Sound.{startsAt}
 use Rattle.rules.specs.Table.{pageAt}
+use Rattle.rules.specs.Place.{placesIn}
 use Rattle.rules.specs.Walk as rules
 use Rattle.rules.specs.declared.Place.{Place}
+use Rattle.head.specs.declared.Head.{Head}
 use Rattle.head.proofs.Headers.{headOf}
 use Rattle.entries.specs.Spot.{keysIn, spotOf}
 use Rattle.enter.specs.declared.Above.{Above}
 use Rattle.way.specs.declared.Step.{Step}
 use Rattle.way.specs.declared.Way.{Way}
 use Rattle.way.specs.declared.End.{End}
+use Rattle.way.specs.declared.Inner.{Inner}
 
 abbrev pub noStep : Step
 noStep = record {
@@ -94,12 +97,22 @@ pub record Holds (v : View) : Type 0 where
 
 -- ── An inner page that leads on ─────────────────────────────────────────────────────────────────────────────────
 
--- what a page entered at a place must be for a key of its range to lead further down
-pub record Leads (k : ℕ) (e : Place) (v : View) : Type 0 where
+-- a page entered at a place, by its header
+abbrev pub innerIn : Place → Head → Inner
+innerIn e h = record { child = e .child; kind = h .kind; count = h .count; low = e .low; high = e .high }
+
+-- the places that its entries ask for
+unfoldable pub placesBelow : Inner → View → List Place
+placesBelow p v = placesIn (v .kind - 1) (p .high) (v .children)
+
+-- what it must be for a key of its range to lead further down
+pub record Leads (k : ℕ) (p : Inner) (v : View) : Type 0 where
   pub inner : isLeaf v ≡ false
-  pub kind : 1 ≤ v .kind
+  pub kind : p .kind ≡ v .kind
+  pub from : 1 ≤ v .kind
+  pub count : p .count ≡ count v
   pub room : length (v .children) ≤ innerRoom
   pub rise : rising (keys (v .children)) ≡ true
-  pub starts : startsAt (e .low) (v .children) ≡ true
-  pub low : e .low ≤ k
-  pub high : k ≤ e .high
+  pub starts : startsAt (p .low) (v .children) ≡ true
+  pub low : p .low ≤ k
+  pub high : k ≤ p .high

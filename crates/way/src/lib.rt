@@ -30,12 +30,13 @@ ghost use lib.ListN.{length, drop};
 ghost use Rattle.rules.specs.Layout.{pageSize, headerSize, childSize};
 ghost use Rattle.rules.specs.Entry.{keys, rising};
 ghost use Rattle.rules.specs.Page.{readEach, childIn};
-ghost use Rattle.rules.specs.Table.{read, fit0};
-ghost use Rattle.rules.specs.Place.{placesIn, kids, pick};
+ghost use Rattle.rules.specs.Table.{pageAt, read, fit0};
+ghost use Rattle.rules.specs.Place.{placesIn, pick};
 ghost use Rattle.rules.specs.Walk.{wayOf};
 ghost use Rattle.entries.specs.Spot.{keysIn, spotOf};
 ghost use Rattle.head.proofs.Headers.{headOf};
-ghost use Rattle.way.specs.Ways.{Leads, Holds, noStep, wayFor, thenOf, aboveIn, walking, told, noEnd, spotAt, ending, endIn};
+ghost use Rattle.way.specs.Ahead.{aheadOf};
+ghost use Rattle.way.specs.Ways.{innerIn, placesBelow, Leads, Holds, noStep, wayFor, thenOf, aboveIn, walking, told, noEnd, spotAt, ending, endIn};
 
 // A page entered: the place that asked for it, and its header.
 pub struct Step {
@@ -50,6 +51,15 @@ pub struct Way {
     pub leaf: Step,
     pub parent: Step,
     pub top: Step,
+}
+
+// An inner page as the way below it needs it: its number, kind and count, and the range of the place that asked for it.
+pub struct Inner {
+    pub child: u16,
+    pub kind: u16,
+    pub count: u16,
+    pub low: u64,
+    pub high: u64,
 }
 
 // The end of a way: its leaf, how many pages were entered, and how many of the leaf's keys are not above the one sought;
@@ -122,17 +132,31 @@ fn above(way: Way) -> Above
     }
 }
 
-// Where a key may stand on a page that nobody has tested. No contract says more than that the answer comes: a page that
-// is not sound may give any number, and every use of the number begins with its confirmation.
-fn look_in(page: &[u8], key: u64) -> usize
+// What an inner page that was entered leaves to the way below it.
+pub fn inner_of(e: Place, head: Head) -> Inner
+    ensures { λ r. ⌜ r ≡ innerIn e head ⌝ }
+{
+    Inner {
+        child: e.child,
+        kind: head.kind,
+        count: head.count,
+        low: e.low,
+        high: e.high,
+    }
+}
+
+// Where halving ends on a page that nobody has tested: in an inner page for the key of the way, in a leaf for the last
+// key wanted there. A page that is not sound may give any number, so every use of it begins with its confirmation.
+fn look_in(page: &[u8], key: u64, upto: u64) -> usize
     requires { ⌜ length (now page) ≡ pageSize ⌝ }
+    ensures { λ r. ⌜ r ≡ aheadOf key upto (now (page .entry)) ⌝ }
 {
     let count = fields::get16(page, AT_COUNT);
     if fields::get16(page, AT_KIND) == LEAF {
         if count > LEAF_ROOM {
             return 0;
         }
-        return seek::guess(page, CERT, count as usize, key);
+        return seek::guess(page, CERT, count as usize, upto);
     }
     if count > INNER_ROOM {
         return 0;
@@ -141,12 +165,13 @@ fn look_in(page: &[u8], key: u64) -> usize
 }
 
 // The same on page i of a table.
-fn look_ahead(table: &[u8], i: u16, key: u64) -> usize
+pub fn look_ahead(table: &[u8], i: u16, key: u64, upto: u64) -> usize
     requires { ⌜ (i + 1) * pageSize ≤ length (now table) ⌝ }
+    ensures { λ r. ⌜ r ≡ aheadOf key upto (pageAt (now (table .entry)) i) ⌝ }
 {
     let from = i as usize * PAGE;
     let to = from + PAGE;
-    look_in(&table[from..to], key)
+    look_in(&table[from..to], key, upto)
 }
 
 // The place that an inner page's entries ask for at a key.
@@ -162,18 +187,17 @@ fn place_in(page: &[u8], kind: u16, count: usize, high: u64, key: u64, guess: us
 }
 
 // The same below a page that was entered.
-fn place_below(table: &[u8], e: Place, head: Head, key: u64, guess: usize) -> Place
-    requires { ⌜ ((e .child + 1) * pageSize ≤ length (now table)) × (head ≡ headOf (read (now table) (e .child)))
-        × (Leads key e (read (now table) (e .child) .view)) ⌝ }
-    ensures { λ r. ⌜ pick key (kids e (read (now (table .entry)) (e .child) .view)) ≡ some r ⌝ }
+pub fn place_below(table: &[u8], page: Inner, key: u64, guess: usize) -> Place
+    requires { ⌜ ((page .child + 1) * pageSize ≤ length (now table)) × Leads key page (read (now table) (page .child) .view) ⌝ }
+    ensures { λ r. ⌜ pick key (placesBelow page (read (now (table .entry)) (page .child) .view)) ≡ some r ⌝ }
 {
-    let from = e.child as usize * PAGE;
+    let from = page.child as usize * PAGE;
     let to = from + PAGE;
     place_in(
         &table[from..to],
-        head.kind,
-        head.count as usize,
-        e.high,
+        page.kind,
+        page.count as usize,
+        page.high,
         key,
         guess,
     )
@@ -198,7 +222,7 @@ pub fn way_of(t: &mut [u8], n: usize, c: u32, key: u64) -> Way
     let mut e = head::root_place(t);
     let mut level = LEVELS;
     while 0 < level {
-        let guess = look_ahead(t, e.child, key);
+        let guess = look_ahead(t, e.child, key, key);
         let Entered::Page(head) = enter::enter(t, n, c, above(way), e) else {
             return no_way();
         };
@@ -206,7 +230,7 @@ pub fn way_of(t: &mut [u8], n: usize, c: u32, key: u64) -> Way
         if head.kind == LEAF {
             return way;
         }
-        e = place_below(t, e, head, key, guess);
+        e = place_below(t, inner_of(e, head), key, guess);
         level -= 1;
     }
     no_way()
@@ -234,7 +258,7 @@ pub fn leaf_of(t: &mut [u8], n: usize, c: u32, key: u64) -> End
     let mut e = head::root_place(t);
     let mut level = LEVELS;
     while 0 < level {
-        let guess = look_ahead(t, e.child, key);
+        let guess = look_ahead(t, e.child, key, key);
         let Entered::Page(page) = enter::enter(t, n, c, above, e) else {
             return no_end();
         };
@@ -252,7 +276,7 @@ pub fn leaf_of(t: &mut [u8], n: usize, c: u32, key: u64) -> End
             parent: e.child,
             top,
         };
-        e = place_below(t, e, page, key, guess);
+        e = place_below(t, inner_of(e, page), key, guess);
         level -= 1;
     }
     no_end()

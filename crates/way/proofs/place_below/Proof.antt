@@ -6,7 +6,7 @@ use Rattle.rules.specs.Place.{pick}
 use Rattle.rules.specs.Table.{pageAt, read}
 use Rattle.rules.proofs.bytes.Tables.{length-pageAt}
 use Rattle.entries.proofs.Part.{page-part}
-use Rattle.way.proofs.Inner.{leads-kind, leads-room, leads-rise, leads-spot, leads-kids}
+use Rattle.way.proofs.Below.{leads-kind, leads-room, leads-rise, leads-spot, leads-places}
 use native.Mathlib.Omega.{arith}
 use borrow.Author.Needs.{needs}
 use Rattle.way.proofs.place_below.Statement.{statement}
@@ -38,21 +38,20 @@ unfolding read pageIn
 place-in-requires c κs =
     let args = c .before .before .before .before .args in
     let pre = c .before .before .before .before .pre in
-    let b = pageAt (args .table .now) (args .e .child) in
-    let l = length-pageAt (args .table .now) (args .e .child) (omega arith) in
-    let f = pre .1 in
-    let g = pre .2 in
-    rw (page-part (args .table .now) (args .e .child))
-    (leads-kind b (args .head) (args .key) (args .e) f g, omega (arith, l, leads-room b (args .head) (args .key) (args .e) f g), omega (arith, l), leads-rise b (args .head) (args .key) (args .e) f g, g .high, leads-spot b (args .head) (args .key) (args .e) f g)
+    let b = pageAt (args .table .now) (args .page .child) in
+    let l = length-pageAt (args .table .now) (args .page .child) (omega arith) in
+    let g = pre .1 in
+    rw (page-part (args .table .now) (args .page .child))
+    (leads-kind b (args .page) (args .key) g, omega (arith, l, leads-room b (args .page) (args .key) g), omega (arith, l), leads-rise b (args .page) (args .key) g, g .high, leads-spot b (args .page) (args .key) g)
 
 returns : tie.Need-returns
 unfolding read pageIn
 returns c =
     let args = c .before .before .before .before .before .args in
     let pre = c .before .before .before .before .before .pre in
-    let b = pageAt (args .table .now) (args .e .child) in
-    ap (pick (args .key)) (leads-kids b (args .head) (args .key) (args .e) (pre .1) (pre .2))
-    ∙ rw (page-part (args .table .now) (args .e .child)) at (c .place-in .ensures)
+    let b = pageAt (args .table .now) (args .page .child) in
+    ap (pick (args .key)) (leads-places b (args .page) (args .key) (pre .1))
+    ∙ rw (page-part (args .table .now) (args .page .child)) at (c .place-in .ensures)
 
 pub place-below-spec : {M : Type 1} → statement M
 place-below-spec =
