@@ -4,14 +4,14 @@ use Prim.Native.Nat.{ℕ, zero, suc, _*_, _≤_}
 use native.Mathlib.Omega.{arith}
 use mathlib.Core.Path.{_≡_, refl, sym, ap, _∙_, subst}
 use mathlib.Core.Logic.{_⊎_, inl, inr}
-use mathlib.Core.Bool.{true, false}
+use mathlib.Core.Bool.{Bool, true, false}
 use mathlib.Core.List.{List, [], _∷_}
 use mathlib.Core.Option.{Option, some, none}
 use lib.ListN.{length}
 use Rattle.fields.specs.Field.{Bytes}
 use Rattle.rules.specs.Layout.{pageSize, lastKey, topKind}
 use Rattle.rules.specs.Test.{mem}
-use Rattle.rules.specs.Page.{Page, pageIn}
+use Rattle.rules.specs.Page.{Page, isLeaf, pageIn}
 use Rattle.rules.specs.Table.{pageAt, read}
 use Rattle.rules.specs.Place.{rootPlace, kids, pick, mended}
 use Rattle.rules.specs.Enter as entry
@@ -67,7 +67,7 @@ module _ {n c k : ℕ} {t : List ℕ} {e : Place} (r : Ready n c k t e) (above :
       (room-mended n c t e (r .bytes) (r .narrow) q) j (other a j (mem-cases j 0 above m))
   enter-same x (stops g) j m = ap (λ (y : entry.Entered). pageAt (y .table) j) g
 
-  enter-stays : Stays n above t (entry.enter n c above t e .table)
+  pub enter-stays : Stays n above t (entry.enter n c above t e .table)
   enter-stays = record {
     long = ready-long r above;
     bytes = ready-bytes r above;
@@ -105,6 +105,10 @@ descend-stays (suc level) n c k above t e r =
     found none f ih = rw (descend-damaged level n c k above t e f) here
     found (some p) f ih = below p f (pick k (kids e (p .view))) refl ih
 
+firstLeaf : List Step → Bool
+firstLeaf [] = true
+firstLeaf (s ∷ ss) = isLeaf (s .page .view)
+
 -- ── From the root ───────────────────────────────────────────────────────────────────────────────────────────────
 
 module _ {n c : ℕ} {t : List ℕ} (g : Ground n c t) (k : ℕ) (h : k ≤ lastKey) where
@@ -140,6 +144,10 @@ module _ {n c : ℕ} {t : List ℕ} (g : Ground n c t) (k : ℕ) (h : k ≤ last
 
     pub leaf-stood : Stood n k (wayOf n c k t .table) leaf
     leaf-stood = all-head (stands .all)
+
+    pub leaf-ends : isLeaf (leaf .page .view) ≡ true
+    unfolding firstLeaf
+    leaf-ends = ap (λ (ss : List Step). firstLeaf ss) (stands .are) ∙ stands .ends
 
     pub leaf-range : (leaf .place .low ≤ k) × (k ≤ leaf .place .high) × (leaf .place .high ≤ lastKey)
     leaf-range =

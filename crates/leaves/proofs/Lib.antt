@@ -1,0 +1,6 @@
+pub mod Resume
+pub mod Begins
+pub mod Climbing
+pub mod Keeps
+pub mod Loops
+pub mod Tight
