@@ -1,8 +1,8 @@
 -- What the dry walk of a table whose page 0 is fit tells of the rules' walk over the same table, from the root on.
 use Prim.Native.Nat.{ℕ, _*_, _-_, _^_, _≤_, _<_}
 use native.Mathlib.Omega.{arith}
-use mathlib.Core.Path.{_≡_, sym}
-use mathlib.Core.Bool.{true}
+use mathlib.Core.Path.{_≡_, sym, ap}
+use mathlib.Core.Bool.{true, false}
 use mathlib.Core.List.{List}
 use lib.ListN.{length}
 use Rattle.fields.specs.Field.{Bytes}
@@ -12,8 +12,8 @@ use Rattle.rules.specs.Table.{fit0, root0}
 use Rattle.rules.specs.Walk.{walkOf}
 use Rattle.rules.specs.declared.Asked.{Asked}
 use Rattle.rules.proofs.entries.Tests.{every-true, between-low, between-high}
-use Rattle.dry.specs.Walk.{dryOf}
-use Rattle.dry.proofs.Decides.{dry-decides}
+use Rattle.dry.specs.Walk.{marked, counted, dryOver, dryOf}
+use Rattle.dry.proofs.Decides.{Twin, dry-decides}
 
 module _ (n : ℕ) (t : List ℕ) (fit : fit0 n t ≡ true) where
   fit-root : between 1 (n - 1) (root0 t) ≡ true
@@ -28,8 +28,20 @@ module _ (n : ℕ) (t : List ℕ) (fit : fit0 n t ≡ true) where
 
   module _ (long : length t ≡ n * pageSize) where
     module _ (c : ℕ) (a : Asked) (most : n ≤ mostPages) (bytes : Bytes t) (narrow : c < 256 ^ 4) where
+      twin : Twin n t (walkOf n c a t) (dryOver n a t)
+      twin = dry-decides n c a t most narrow long bytes root-from root-below
+
       pub dry-whole : dryOf n a t .whole ≡ walkOf n c a t .whole
-      dry-whole = sym (dry-decides n c a t most narrow long bytes root-from root-below .0)
+      unfolding dryOf counted
+      dry-whole = sym (twin .whole)
+
+      pub dry-found : dryOver n a t .found ≡ walkOf n c a t .found
+      dry-found = sym (twin .found)
 
       pub dry-count : dryOf n a t .count ≡ length (walkOf n c a t .found)
-      dry-count = sym (dry-decides n c a t most narrow long bytes root-from root-below .1)
+      unfolding dryOf counted
+      dry-count = ap length dry-found
+
+      -- a walk that would mend nothing leaves the table as it is
+      pub dry-still : ((i : ℕ) → marked (dryOver n a t .mended) i ≡ false) → walkOf n c a t .table ≡ t
+      dry-still none = twin .kept .still none

@@ -1,4 +1,4 @@
--- The dry walk decides: it is whole exactly if the rules' walk is, and counts what that walk finds.
+-- The dry walk decides: it is whole exactly if the rules' walk is, and sees what that walk finds.
 --
 -- Walks go in key order. So a page mended on the way is of a higher kind than the page now asked for, or it ends before
 -- the range now asked for (`Passed`); this one fact is carried through both walks, side by side.
@@ -7,14 +7,14 @@ use native.Mathlib.Omega.{arith}
 use mathlib.Core.Path.{_≡_, refl, sym, ap, _∙_}
 use mathlib.Core.Logic.{_⊎_, inl, inr, _≢_}
 use mathlib.Core.Bool.{Bool, true, false, _||_}
-use mathlib.Core.List.{List, [], _∷_}
+use mathlib.Core.List.{List, [], _∷_, _++_}
 use lib.Dec.{eqb, lit<}
 use borrow.Author.Tests.{ne-eqb}
-use lib.ListN.{length, length-append, length-replicate}
+use lib.ListN.{length, take, length-replicate}
 use Rattle.fields.specs.Field.{Bytes}
 use Rattle.rules.specs.Layout.{pageSize, topKind, mostPages}
 use Rattle.rules.specs.Test.{mem}
-use Rattle.rules.specs.Entry.{Child}
+use Rattle.rules.specs.Entry.{Cert, Child, cut}
 use Rattle.rules.specs.Page.{View, isLeaf}
 use Rattle.rules.specs.Place.{rootPlace, highBefore, placeOf, placesIn, kids}
 use Rattle.rules.specs.Walk.{Walked, enters, finds, stops, walkEach, walk, walkOf}
@@ -25,33 +25,32 @@ use Rattle.rules.specs.Table.{root0, birth0}
 use Rattle.rules.proofs.entries.Tests.{not-both}
 use Rattle.rules.proofs.entries.Views.{inner-kind}
 use Rattle.seen.proofs.Members.{none-at}
-use Rattle.dry.specs.Walk.{marked, meetsWith, meets, counts, breaks, dryEach, dry, untouched, dryOf}
-use Rattle.dry.specs.declared.Dry.{Dry}
+use Rattle.dry.specs.Walk.{marked, Sighted, meets, asks, takes, breaks, dryEach, dry, untouched, dryOver}
 use Rattle.dry.proofs.Chains.{Chain, link, chain-sound}
 use Rattle.dry.proofs.Passed.{Asks, Kept, Passed, passed-on}
 use Rattle.dry.proofs.Sights.{Shows, Met, neither, both, met}
 
 -- ── Two walks side by side ──────────────────────────────────────────────────────────────────────────────────────
 
-pub record Twin (n : ℕ) (t : List ℕ) (w : Walked) (d : Dry) : Type 0 where
+pub record Twin (n : ℕ) (t : List ℕ) (w : Walked) (d : Sighted) : Type 0 where
   pub kept : Kept n t (w .table) (d .mended)
   pub whole : w .whole ≡ d .whole
-  pub count : length (w .found) ≡ d .count
+  pub found : w .found ≡ d .found
 
 -- and after another place, whose range ends at high
-pub record After (n : ℕ) (t : List ℕ) (w : Walked) (d : Dry) (high : ℕ) (w′ : Walked) (d′ : Dry) : Type 0 where
+pub record After (n : ℕ) (t : List ℕ) (w : Walked) (d : Sighted) (high : ℕ) (w′ : Walked) (d′ : Sighted) : Type 0 where
   pub twin : Twin n t w′ d′
   pub later : (k l : ℕ) → high < l → Passed (w .table) (d .mended) k l → Passed (w′ .table) (d′ .mended) k l
 
 -- what two walks do at each place that asks for a kind up to top
-abbrev Steps : ℕ → List ℕ → ℕ → (Place → Walked → Walked) → (Place → Dry → Dry) → Type 0
+abbrev Steps : ℕ → List ℕ → ℕ → (Place → Walked → Walked) → (Place → Sighted → Sighted) → Type 0
 Steps n t top f g =
-    (e : Place) (w : Walked) (d : Dry) → Asks n top e → Twin n t w d → Passed (w .table) (d .mended) top (e .low)
+    (e : Place) (w : Walked) (d : Sighted) → Asks n top e → Twin n t w d → Passed (w .table) (d .mended) top (e .low)
     → After n t w d (e .high) (f e w) (g e d)
 
-enters-meets : (n : ℕ) (t : List ℕ) (a : Asked) (e : Place) (w : Walked) (d : Dry) → Twin n t w d → enters a e w ≡ meets a e d
-unfolding enters meetsWith
-enters-meets n t a e w d x = rw (x .whole, x .count)
+enters-meets : (n : ℕ) (t : List ℕ) (a : Asked) (e : Place) (w : Walked) (d : Sighted) → Twin n t w d → enters a e w ≡ meets a e d
+unfolding enters meets
+enters-meets n t a e w d x = rw (x .whole, x .found)
 
 -- ── The pages above ─────────────────────────────────────────────────────────────────────────────────────────────
 
@@ -95,9 +94,9 @@ asks-child {want = want} x h o r b u i y = record { range = r; from = u; child =
     go k (inl z) = absurd (omega (arith, z))
     go k (inr z) = omega (arith, z)
 
-module _ (n : ℕ) (t : List ℕ) (want high : ℕ) (o : 1 ≤ want) (b : high < 256 ^ 8) (f : Place → Walked → Walked) (g : Place → Dry → Dry)
+module _ (n : ℕ) (t : List ℕ) (want high : ℕ) (o : 1 ≤ want) (b : high < 256 ^ 8) (f : Place → Walked → Walked) (g : Place → Sighted → Sighted)
     (step : Steps n t want f g) where
-  twin-each : (low : ℕ) (xs : List Child) → Chain n high low xs → (w : Walked) (d : Dry) → Twin n t w d
+  twin-each : (low : ℕ) (xs : List Child) → Chain n high low xs → (w : Walked) (d : Sighted) → Twin n t w d
       → Passed (w .table) (d .mended) want low
       → After n t w d high (walkEach f (placesIn want high xs) w) (dryEach g (placesIn want high xs) d)
   unfolding walkEach dryEach placesIn placeOf
@@ -114,49 +113,53 @@ module _ (n : ℕ) (t : List ℕ) (want high : ℕ) (o : 1 ≤ want) (b : high <
 
 module _ (n c : ℕ) (a : Asked) (t : List ℕ) (hn : n ≤ mostPages) (hc : c < 256 ^ 4) where
   -- both stop
-  twin-stops : (w : Walked) (d : Dry) (high : ℕ) → Twin n t w d → After n t w d high (stops w (w .table)) (breaks d)
+  twin-stops : (w : Walked) (d : Sighted) (high : ℕ) → Twin n t w d → After n t w d high (stops w (w .table)) (breaks d)
   unfolding stops breaks
   twin-stops w d high x = record {
-    twin = record { kept = x .kept; whole = refl; count = x .count };
+    twin = record { kept = x .kept; whole = refl; found = x .found };
     later = λ k l h old. old;
   }
 
   -- both take what the page shows
-  twin-finds : (w : Walked) (d : Dry) (e : Place) (v : View) (u′ : List ℕ) (m′ : List Bool) → Twin n t w d
-      → Shows n t (w .table) (d .mended) e u′ m′ v → After n t w d (e .high) (finds a v w u′) (counts a v d m′)
-  unfolding finds counts
+  twin-finds : (w : Walked) (d : Sighted) (e : Place) (v : View) (u′ : List ℕ) (m′ : List Bool) → Twin n t w d
+      → Shows n t (w .table) (d .mended) e u′ m′ v → After n t w d (e .high) (finds a v w u′) (takes a v d m′)
+  unfolding finds takes asks
   twin-finds w d e v u′ m′ x s = record {
-    twin = record { kept = s .kept; whole = refl; count = rw (length-append, x .count) };
+    twin = record {
+      kept = s .kept;
+      whole = refl;
+      found = ap (λ (xs : List Cert). xs ++ take (a .room - length xs) (cut (a .low) (a .high) (v .certs))) (x .found);
+    };
     later = s .later;
   }
 
   -- and go on to its kids
   module _ (level : ℕ) (above : List ℕ) (parent up : ℕ) (e : Place) (high : e .high < 256 ^ 8)
       (step : (top : ℕ) → Steps n t top (walk level n c a (e .child ∷ above)) (dry level n a (e .child) parent t)) where
-    twin-kids : (w : Walked) (d : Dry) (v : View) (u′ : List ℕ) (m′ : List Bool) → Twin n t w d
+    twin-kids : (w : Walked) (d : Sighted) (v : View) (u′ : List ℕ) (m′ : List Bool) → Twin n t w d
         → Shows n t (w .table) (d .mended) e u′ m′ v
         → After n t w d (e .high) (walkEach (walk level n c a (e .child ∷ above)) (kids e v) (finds a v w u′))
-        (dryEach (dry level n a (e .child) parent t) (kids e v) (counts a v d m′))
-    unfolding kids walkEach dryEach finds counts placesIn
+        (dryEach (dry level n a (e .child) parent t) (kids e v) (takes a v d m′))
+    unfolding kids walkEach dryEach finds takes asks placesIn
     twin-kids w d v u′ m′ x s = go (isLeaf v) refl
       where
-        first : After n t w d (e .high) (finds a v w u′) (counts a v d m′)
+        first : After n t w d (e .high) (finds a v w u′) (takes a v d m′)
         first = twin-finds w d e v u′ m′ x s
 
         go : (b : Bool) → isLeaf v ≡ b
             → After n t w d (e .high) (walkEach (walk level n c a (e .child ∷ above)) (kids e v) (finds a v w u′))
-            (dryEach (dry level n a (e .child) parent t) (kids e v) (counts a v d m′))
+            (dryEach (dry level n a (e .child) parent t) (kids e v) (takes a v d m′))
         go true q = rw (s .wide .shaped .leaf q) first
         go false q =
             let all = twin-each n t (v .kind - 1) (e .high) (one q) high (walk level n c a (e .child ∷ above))
             (dry level n a (e .child) parent t) (step (v .kind - 1)) (e .low) (v .children) (chain-sound (s .sound) (s .wide))
-            (finds a v w u′) (counts a v d m′) (first .twin) (s .below) in
+            (finds a v w u′) (takes a v d m′) (first .twin) (s .below) in
             record { twin = all .twin; later = λ k l h old. all .later k l h (first .later k l h old) }
           where
             one : isLeaf v ≡ false → 1 ≤ v .kind - 1
             one r = let y : v .kind ≢ 1 = inner-kind v r in omega (arith, s .sound .kind-from)
 
-    twin-page : (top : ℕ) → mem (e .child) above ≡ mem (e .child) (parent ∷ up ∷ []) → (w : Walked) (d : Dry) → Asks n top e → Twin n t w d → Passed (w .table) (d .mended) top (e .low)
+    twin-page : (top : ℕ) → mem (e .child) above ≡ mem (e .child) (parent ∷ up ∷ []) → (w : Walked) (d : Sighted) → Asks n top e → Twin n t w d → Passed (w .table) (d .mended) top (e .low)
         → After n t w d (e .high) (walk (suc level) n c a above e w) (dry (suc level) n a parent up t e d)
     unfolding walk dry
     twin-page top o w d y x p = go (enters a e w) refl (met n c top t (w .table) (d .mended) e hn hc y p (x .kept) above (parent ∷ up ∷ []) o)
@@ -202,14 +205,13 @@ module _ (n c : ℕ) (a : Asked) (t : List ℕ) (hn : n ≤ mostPages) (hc : c <
   start : Twin n t (record { table = t; whole = true; found = [] }) untouched
   unfolding untouched
   start = record {
-    kept = record { size = size; bytes = bytes; marks = length-replicate mostPages false; same = λ i h. refl };
+    kept = record { size = size; bytes = bytes; marks = length-replicate mostPages false; same = λ i h. refl; still = λ none. refl };
     whole = refl;
-    count = refl;
+    found = refl;
   }
 
-  pub dry-decides : (walkOf n c a t .whole ≡ dryOf n a t .whole) × (length (walkOf n c a t .found) ≡ dryOf n a t .count)
-  unfolding walkOf dryOf
+  pub dry-decides : Twin n t (walkOf n c a t) (dryOver n a t)
+  unfolding walkOf dryOver
   dry-decides =
-      let both = twin-walk n c a t hn hc topKind [] 0 0 near-root topKind (rootPlace t) (record { table = t; whole = true; found = [] }) untouched
-      asks-root start (record { at = λ i h. absurd (not-both h (none-marked i)) }) .twin in
-      (both .whole, both .count)
+      twin-walk n c a t hn hc topKind [] 0 0 near-root topKind (rootPlace t) (record { table = t; whole = true; found = [] }) untouched
+      asks-root start (record { at = λ i h. absurd (not-both h (none-marked i)) }) .twin

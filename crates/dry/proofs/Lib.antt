@@ -10,4 +10,8 @@ pub mod Meets
 pub mod Tallies
 pub mod Steps
 pub mod Goes
+pub mod Turns
+pub mod Ways
+pub mod Leads
+pub mod Going
 pub mod Tight

@@ -31,6 +31,7 @@ pub record Kept (n : ℕ) (t u : List ℕ) (m : List Bool) : Type 0 where
   pub bytes : Bytes u
   pub marks : length m ≡ mostPages
   pub same : (i : ℕ) → marked m i ≡ false → read u i ≡ read t i
+  pub still : ((i : ℕ) → marked m i ≡ false) → u ≡ t
 
 -- each marked page is above kind k, or ends below l
 pub record Passed (u : List ℕ) (m : List Bool) (k l : ℕ) : Type 0 where

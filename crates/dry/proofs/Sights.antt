@@ -108,6 +108,7 @@ module _ (n c top : ℕ) (t u : List ℕ) (m : List Bool) (e : Place) (hn : n �
       bytes = bytes-after;
       marks = length-marks;
       same = λ i h. go i h (eqb i (e .child)) refl;
+      still = λ none. absurd (not-both marked-here (none (e .child)));
     }
       where
         go : (i : ℕ) → marked marks i ≡ false → (b : Bool) → eqb i (e .child) ≡ b → read after i ≡ read t i

@@ -21,7 +21,7 @@ use Rattle.rules.proofs.bytes.Each.{length-readEach}
 use Rattle.rules.proofs.entries.Entries.{cut-nil, cut-in, cut-out, cut-all, cut-wider}
 use Rattle.head.specs.Head.{certAt, headIn}
 use Rattle.head.specs.declared.Head.{Head}
-use Rattle.head.proofs.Headers.{headOf, headIn-page, certs-leaf, certs-inner}
+use Rattle.head.proofs.Headers.{headOf, headIn-page, certs-leaf}
 use Rattle.head.proofs.Left.{left, left-all, left-more, left-none}
 use Rattle.dry.specs.Count.{larger, smaller, tallied, tally, tallyAll, liesIn, Within, tallyAt}
 
@@ -237,14 +237,6 @@ module _ (t : List ℕ) (page : ℕ) (h : Head) (f : h ≡ headIn (pageAt t page
   head-high = ap (λ (x : Head). x .high) f
 
   module _ (a : Asked) (e : Place) (count : ℕ) where
-    pub tally-inner : (h .kind ≡ leafKind → ⊥) → count ≡ tallyAt t page a e count
-    unfolding tallyAt cutView
-    tally-inner k =
-        sym
-        (ap (λ (xs : List Cert). tally (a .low) (a .high) (a .room) (cut (e .low) (e .high) xs) count) (certs-inner t page h as-read k)
-        ∙ ap (λ (xs : List Cert). tally (a .low) (a .high) (a .room) xs count) (cut-nil (e .low) (e .high))
-        ∙ tally-nil (a .low) (a .high) (a .room) count)
-
     pub tally-leaf : (low high : ℕ) → h .kind ≡ leafKind → low ≡ larger (a .low) (e .low) → high ≡ smaller (a .high) (e .high)
         → tally low high (a .room) (readEach certIn certSize (h .count) (drop headerSize (pageAt t page))) count
         ≡ tallyAt t page a e count

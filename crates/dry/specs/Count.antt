@@ -1,4 +1,4 @@
--- How many certificates a dry walk has counted, page by page, and what it has come to.
+-- How many certificates a dry walk has counted, page by page.
 use Prim.Native.Nat.{ℕ, _+_, _*_, _-_, _≤_}
 use mathlib.Core.Path.{_≡_}
 use mathlib.Core.Bool.{Bool, true, false, _&&_}
@@ -15,7 +15,6 @@ use Rattle.rules.specs.declared.Asked.{Asked}
 use Rattle.rules.specs.declared.Place.{Place}
 use Rattle.head.specs.Head.{headIn}
 use Rattle.head.specs.declared.Head.{Head}
-use Rattle.dry.specs.declared.Dry.{Dry}
 
 unfoldable pub larger : ℕ → ℕ → ℕ
 larger x y = elim (leb x y) [ true ↦ y | false ↦ x ]
@@ -54,7 +53,3 @@ pub record Leaf (t : List ℕ) (page : ℕ) (h : Head) : Type 0 where
 unfoldable pub tallyAt : List ℕ → ℕ → Asked → Place → ℕ → ℕ
 tallyAt t page a e count =
     tally (a .low) (a .high) (a .room) (cutView (e .low) (e .high) (read t page .view) .certs) count
-
--- what a walk has come to, with the count and the marks that are lent to it
-abbrev pub sofar : Bool → ℕ → List Bool → Dry
-sofar whole count marks = record { whole = whole; count = count; mended = marks }

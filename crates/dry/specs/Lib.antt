@@ -1,3 +1,4 @@
 pub mod Walk
 pub mod Source
 pub mod Count
+pub mod Cursor

@@ -5,9 +5,9 @@
 // stands as it lies. So one mark for each page does instead of a copy of the table. proofs/Decides says it of the rules:
 // the dry walk is whole exactly if the walk is, and counts what the walk finds.
 //
-// `dry_of` answers the rules' walk so told. The page walk and the entry walk call each other: each entry of an inner page
-// is walked as a page one level lower. The level falls, and within a level the entries left. The count and the marks are
-// lent down the walk; they are all that it keeps. The first damaged place ends it.
+// The walk is one loop over `next`, which goes on by one place of the way: the way keeps the entries left of the root and
+// of the page under it, so no place is entered twice. A step passes a place, goes on to its entries, or comes to a leaf:
+// the page that shows it and the place that asks for it. The first damaged place ends the walk.
 //
 // Below stand `seen`, which finds the entries of a page that lie in a range, `sound`, which tests a page against a
 // place, `head`, which reads headers and entries, and `rules`.
@@ -16,8 +16,8 @@ use head::cert_key_at;
 use head::head_at;
 use head::root_place;
 use rules::Asked;
+use rules::LAST_KEY;
 use rules::LEAF;
-use rules::LEVELS;
 use rules::MOST;
 use rules::Place;
 use seen::Run;
@@ -30,17 +30,18 @@ use sound::fits_at;
 use sound::mendable_at;
 ghost use mathlib.Core.Path.{_≡_};
 ghost use mathlib.Core.Bool.{true};
-ghost use Prim.Native.Nat.{_+_, _*_, _≤_};
+ghost use Prim.Native.Nat.{_+_, _*_, _≤_, _<_};
 ghost use lib.ListN.{length, drop};
 ghost use mathlib.Core.List.{[], _∷_};
 ghost use Rattle.rules.specs.Layout.{pageSize, headerSize, certSize, leafRoom};
 ghost use Rattle.rules.specs.Test.{mem};
 ghost use Rattle.rules.specs.Page.{readEach, certIn};
 ghost use Rattle.rules.specs.Table.{pageAt, fit0};
-ghost use Rattle.seen.specs.Run.{places, Lies};
-ghost use Rattle.dry.specs.Walk.{keeps, helps, meetsWith, dry, dryEach, dryOf};
+ghost use Rattle.seen.specs.Run.{Lies};
+ghost use Rattle.dry.specs.Walk.{keeps, helps, dryOf};
 ghost use Rattle.dry.specs.Source.{source, markedBy};
-ghost use Rattle.dry.specs.Count.{larger, smaller, tallied, tally, tallyAll, liesIn, Leaf, tallyAt, sofar};
+ghost use Rattle.dry.specs.Count.{larger, smaller, tallied, tally, tallyAll, liesIn, Leaf, tallyAt};
+ghost use Rattle.dry.specs.Cursor.{inReach, meeting, meetOf, noRun, atRoot, underRoot, withLower, dueLower, dueUpper, dueRoot, dueOf, underOf, settleOf, stepping, stepOf, Leads};
 
 // What a dry walk has found so far: whether it met no damaged place, how many certificates there are, and which numbers
 // it would have mended.
@@ -53,6 +54,54 @@ pub struct Dry {
 // The page that shows a place: the child, or the previous page that it would be mended from. Or the place is damaged.
 pub enum Source {
     Page(u16),
+    Damaged,
+}
+
+// What a place comes to: it is passed, it shows a leaf or entries, or it is damaged.
+pub enum Met {
+    Passed,
+    Leaf(u16),
+    Entries(Run),
+    Damaged,
+}
+
+// The way of a walk: the entries left of the root and of the page under it that was entered last, the numbers of the
+// two, and where the lower one's range ends; the root's is every key. Before the first step the root itself is left.
+pub struct Cursor {
+    pub fresh: bool,
+    pub root: u16,
+    pub upper: Run,
+    pub parent: u16,
+    pub lower: Run,
+    pub high: u64,
+}
+
+// A leaf that a walk has come to: the page that shows it, the place that asks for it, and the way behind it.
+pub struct LeafAt {
+    pub page: u16,
+    pub place: Place,
+    pub after: Cursor,
+}
+
+// A place that is next: its level, the pages above it, and the way behind it.
+pub struct Spot {
+    pub level: usize,
+    pub parent: u16,
+    pub top: u16,
+    pub place: Place,
+    pub rest: Cursor,
+}
+
+pub enum Due {
+    At(Spot),
+    None,
+}
+
+// What a step comes to: the way goes on, it has come to a leaf, it is at its end, or it met a damaged place.
+pub enum Step {
+    On(Cursor),
+    Leaf(LeafAt),
+    End,
     Damaged,
 }
 
@@ -105,13 +154,10 @@ fn source_at(table: &[u8], n: usize, parent: u16, top: u16, marks: &[bool], e: P
     Source::Damaged
 }
 
-// Whether a place is entered while nothing was damaged: there is room, and its range meets the asked one.
-fn meets_place(a: Asked, e: Place, count: usize) -> bool
-    ensures { λ r. ⌜ r ≡ meetsWith a e true count ⌝ }
+// Whether a place's range meets the asked one.
+fn in_reach(a: Asked, e: Place) -> bool
+    ensures { λ r. ⌜ r ≡ inReach a e ⌝ }
 {
-    if count >= a.room {
-        return false;
-    }
     if e.low > a.high {
         return false;
     }
@@ -223,68 +269,185 @@ fn tally_leaf(table: &[u8], page: usize, head: Head, a: Asked, e: Place, count: 
     tally_each(table, page, entries, low, high, a.room, count)
 }
 
-// The page walk: the certificates of a leaf are counted, and an inner page's entries walked one level lower. The answer
-// is whether no place was damaged; damage ends the walk.
-fn walk_page(
+// One place: it is passed, it shows a leaf or entries, or it is damaged.
+fn meet(
     table: &[u8],
     n: usize,
-    level: usize,
     a: Asked,
     parent: u16,
     top: u16,
     e: Place,
-    count: &mut usize,
     marks: &mut [bool],
-) -> bool
+) -> Met
     requires { ⌜ length (now table) ≡ n * pageSize ⌝ }
-    ensures { λ r. ⌜ sofar r (now (count .exit)) (now (marks .exit)) ≡ dry level n a parent top (now (table .entry)) e (sofar true (now (count .entry)) (now (marks .entry))) ⌝ }
+    ensures { λ r. ⌜ meeting r (now (marks .exit)) ≡ meetOf n a (parent ∷ top ∷ []) (now (table .entry)) (now (marks .entry)) e ⌝ }
 {
-    if level == 0 {
-        return false;
-    }
-    if !meets_place(a, e, *count) {
-        return true;
+    if !in_reach(a, e) {
+        return Met::Passed;
     }
     let Source::Page(page) = source_at(table, n, parent, top, marks, e) else {
-        return false;
+        return Met::Damaged;
     };
     mark_by(marks, page, e);
     let i = page as usize;
     let head = head_at(table, i);
     if head.kind == LEAF {
-        *count = tally_leaf(table, i, head, a, e, *count);
-        return true;
+        return Met::Leaf(page);
     }
-    let r = run_in(table, i, e.low, e.high);
-    let below = level - 1;
-    walk_entries(table, n, below, a, e.child, parent, r, e.high, count, marks)
+    Met::Entries(run_in(table, i, e.low, e.high))
 }
 
-// The entry walk: the first entry's page, then the entries behind it.
-fn walk_entries(
-    table: &[u8],
-    n: usize,
-    level: usize,
-    a: Asked,
-    parent: u16,
-    top: u16,
-    r: Run,
-    high: u64,
-    count: &mut usize,
-    marks: &mut [bool],
-) -> bool
-    requires { ⌜ (length (now table) ≡ n * pageSize) × Lies n r ⌝ }
-    ensures { λ x. ⌜ sofar x (now (count .exit)) (now (marks .exit)) ≡ dryEach (dry level n a parent top (now (table .entry))) (places (now (table .entry)) high r) (sofar true (now (count .entry)) (now (marks .entry))) ⌝ }
+fn no_run() -> Run
+    ensures { λ r. ⌜ r ≡ noRun ⌝ }
 {
-    if r.left == 0 {
-        return true;
+    Run {
+        page: 0,
+        first: 0,
+        left: 0,
+        want: 0,
     }
-    let e = place_in(table, r, high);
-    if !walk_page(table, n, level, a, parent, top, e, count, marks) {
-        return false;
+}
+
+// Before the first step the root is left.
+pub fn at_root() -> Cursor
+    ensures { λ r. ⌜ r ≡ atRoot ⌝ }
+{
+    Cursor {
+        fresh: true,
+        root: 0,
+        upper: no_run(),
+        parent: 0,
+        lower: no_run(),
+        high: 0,
     }
-    let rest = rest_of(r);
-    walk_entries(table, n, level, a, parent, top, rest, high, count, marks)
+}
+
+// The way to the entries of the root.
+fn under_root(root: u16, run: Run) -> Cursor
+    ensures { λ r. ⌜ r ≡ underRoot root run ⌝ }
+{
+    Cursor {
+        fresh: false,
+        root,
+        upper: run,
+        parent: 0,
+        lower: no_run(),
+        high: 0,
+    }
+}
+
+// The way to the entries of a page under the root.
+fn under_upper(mut c: Cursor, parent: u16, run: Run, high: u64) -> Cursor
+    ensures { λ r. ⌜ r ≡ withLower c parent run high ⌝ }
+{
+    c.parent = parent;
+    c.lower = run;
+    c.high = high;
+    c
+}
+
+fn due_lower(table: &[u8], n: usize, c: Cursor) -> Spot
+    requires { ⌜ (length (now table) ≡ n * pageSize) × Lies n (c .lower) × (0 < c .lower .left) ⌝ }
+    ensures { λ r. ⌜ r ≡ dueLower (now (table .entry)) c ⌝ }
+{
+    let run = c.lower;
+    let mut rest = c;
+    rest.lower = rest_of(run);
+    Spot {
+        level: 1,
+        parent: c.parent,
+        top: c.root,
+        place: place_in(table, run, c.high),
+        rest,
+    }
+}
+
+fn due_upper(table: &[u8], n: usize, c: Cursor) -> Spot
+    requires { ⌜ (length (now table) ≡ n * pageSize) × Lies n (c .upper) × (0 < c .upper .left) ⌝ }
+    ensures { λ r. ⌜ r ≡ dueUpper (now (table .entry)) c ⌝ }
+{
+    let run = c.upper;
+    let mut rest = c;
+    rest.upper = rest_of(run);
+    Spot {
+        level: 2,
+        parent: c.root,
+        top: 0,
+        place: place_in(table, run, LAST_KEY),
+        rest,
+    }
+}
+
+fn due_root(table: &[u8]) -> Spot
+    requires { ⌜ pageSize ≤ length (now table) ⌝ }
+    ensures { λ r. ⌜ r ≡ dueRoot (now (table .entry)) ⌝ }
+{
+    Spot {
+        level: 3,
+        parent: 0,
+        top: 0,
+        place: root_place(table),
+        rest: under_root(0, no_run()),
+    }
+}
+
+// The place that is next on a way: of the lowest page that has entries left.
+fn next_spot(table: &[u8], n: usize, c: Cursor) -> Due
+    requires { ⌜ (length (now table) ≡ n * pageSize) × (0 < n) × Leads n c ⌝ }
+    ensures { λ r. ⌜ r ≡ dueOf (now (table .entry)) c ⌝ }
+{
+    if c.lower.left != 0 {
+        return Due::At(due_lower(table, n, c));
+    }
+    if c.upper.left != 0 {
+        return Due::At(due_upper(table, n, c));
+    }
+    if c.fresh {
+        return Due::At(due_root(table));
+    }
+    Due::None
+}
+
+// Entries of a page that was entered are the next of the way. No page stands below the third.
+fn under(s: Spot, run: Run) -> Step
+    ensures { λ r. ⌜ r ≡ underOf s run ⌝ }
+{
+    if s.level == 3 {
+        return Step::On(under_root(s.place.child, run));
+    }
+    let rest = s.rest;
+    if s.level == 2 {
+        return Step::On(under_upper(rest, s.place.child, run, s.place.high));
+    }
+    if run.left == 0 {
+        return Step::On(rest);
+    }
+    Step::Damaged
+}
+
+fn settle(s: Spot, met: Met) -> Step
+    ensures { λ r. ⌜ r ≡ settleOf s met ⌝ }
+{
+    let place = s.place;
+    let after = s.rest;
+    match met {
+        Met::Passed => Step::On(after),
+        Met::Leaf(page) => Step::Leaf(LeafAt { page, place, after }),
+        Met::Entries(run) => under(s, run),
+        Met::Damaged => Step::Damaged,
+    }
+}
+
+// One step: the next place of the way.
+pub fn next(table: &[u8], n: usize, a: Asked, c: Cursor, marks: &mut [bool]) -> Step
+    requires { ⌜ (length (now table) ≡ n * pageSize) × (0 < n) × Leads n c ⌝ }
+    ensures { λ r. ⌜ stepping r (now (marks .exit)) ≡ stepOf n a (now (table .entry)) c (now (marks .entry)) ⌝ }
+{
+    let Due::At(s) = next_spot(table, n, c) else {
+        return Step::End;
+    };
+    let met = meet(table, n, a, s.parent, s.top, s.place, marks);
+    settle(s, met)
 }
 
 // The whole walk, from the root on.
@@ -292,12 +455,38 @@ pub fn dry_of(table: &[u8], n: usize, a: Asked) -> Dry
     requires { ⌜ (length (now table) ≡ n * pageSize) × (fit0 n (now table) ≡ true) ⌝ }
     ensures { λ r. ⌜ r ≡ dryOf n a (now (table .entry)) ⌝ }
 {
-    let root = root_place(table);
+    let mut c = at_root();
     let mut count = 0;
     let mut mended = [false; MOST];
-    let whole = walk_page(table, n, LEVELS, a, 0, 0, root, &mut count, &mut mended);
+    while count < a.room {
+        let s = next(table, n, a, c, &mut mended);
+        match s {
+            Step::On(way) => {
+                c = way;
+            }
+            Step::Leaf(leaf) => {
+                let i = leaf.page as usize;
+                count = tally_leaf(table, i, head_at(table, i), a, leaf.place, count);
+                c = leaf.after;
+            }
+            Step::End => {
+                return Dry {
+                    whole: true,
+                    count,
+                    mended,
+                };
+            }
+            Step::Damaged => {
+                return Dry {
+                    whole: false,
+                    count,
+                    mended,
+                };
+            }
+        }
+    }
     Dry {
-        whole,
+        whole: true,
         count,
         mended,
     }
