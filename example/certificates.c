@@ -1,7 +1,7 @@
 /* A store in C: certificates are put in and kept, the power fails, and what was kept is found again.
  *
- *     rt staticlib exports
- *     cc -std=c11 -Wall -Wextra -Werror -Iinclude example/certificates.c target/staticlib/libexports.a -o certificates
+ *     ./build
+ *     cc -std=c11 -Wall -Wextra -Werror -Idist example/certificates.c -Ldist -lkhirpando -o certificates
  *
  * It prints what it does, and ends with status 1 at the first answer that it does not expect. A store in a file is in
  * shelf.c. */

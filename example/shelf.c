@@ -8,8 +8,8 @@
  * The file is created at its first use. `put` returns only when the certificate is on the disc. Prints the answer's
  * word, and ends with status 0 only if that is `done`.
  *
- *     rt staticlib exports
- *     cc -std=c11 -Iinclude -Ihost example/shelf.c host/khstore.c target/staticlib/libexports.a -o shelf */
+ *     ./build
+ *     cc -std=c11 -Idist example/shelf.c dist/khstore.c -Ldist -lkhirpando -o shelf */
 #include <stdio.h>
 #include <stdlib.h>
 #include <string.h>

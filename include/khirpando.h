@@ -3,10 +3,10 @@
  * A certificate has a model (1 to 65,535), a serial (1 to 4,294,967,295) and an issue (1 to 65,535); the store keeps a
  * record, any 32-bit number, for each. The tables are 512 * n bytes each, 4 <= n <= 128: the working table, in memory,
  * and the stable table, the image of what is on the flash. The caller hands the session in with each call and keeps the
- * one it gets back. Link target/staticlib/libexports.a, which `rt staticlib exports` writes; example/certificates.c
- * shows each call at work.
+ * one it gets back. Link libkhirpando.a, which `./build` leaves in dist/ with this header; example/certificates.c shows
+ * each call at work.
  *
- * On a machine with files use host/khstore.h rather than these calls: it keeps tables, session and file together, and
+ * On a machine with files use khstore.h rather than these calls: it keeps tables, session and file together, and
  * does all that "Your flash driver" below asks for.
  *
  * Any bytes, lengths, keys and sessions get an answer. C's own duties stay the caller's: each pointer is to as many
