@@ -14,7 +14,11 @@ fn a_change_in_one_store_is_told_of() {
 }
 
 /// Where the second program breaks a rule, it is the proved store that differs from it.
-#[cfg(all(store, feature = "broken", not(any(feature = "caps4", feature = "caps2"))))]
+#[cfg(all(
+    store,
+    feature = "broken",
+    not(any(feature = "caps4", feature = "caps2"))
+))]
 #[test]
 fn each_broken_rule_is_told_of() {
     use second::broken::{break_rule, RULES};

@@ -70,13 +70,9 @@ impl Subject for FromC {
         assert!((self.calls.clear)());
     }
 
-    fn fill(&mut self, entries: &[(u64, u32)]) {
-        let (keys, records): (Vec<u64>, Vec<u32>) = entries.iter().copied().unzip();
-        assert!((self.calls.fill)(
-            keys.as_ptr(),
-            records.as_ptr(),
-            keys.len()
-        ));
+    fn fill(&mut self, keys: &[u64], records: &[u32]) {
+        let count = keys.len().min(records.len());
+        assert!((self.calls.fill)(keys.as_ptr(), records.as_ptr(), count));
     }
 
     fn lookup(&mut self, key: u64) -> Option<u32> {
@@ -86,7 +82,7 @@ impl Subject for FromC {
 
     fn newest(&mut self, model: u16, serial: u32) -> Option<u32> {
         let mut record = [0];
-        (self.newests(&[(model, serial)], &mut record) == 1).then_some(record[0])
+        (self.newests(&[key(model, serial, 0)], &mut record) == 1).then_some(record[0])
     }
 
     fn lookups(&mut self, keys: &[u64], records: &mut [u32]) -> usize {
@@ -94,10 +90,8 @@ impl Subject for FromC {
         (self.calls.lookups)(keys.as_ptr(), records.as_mut_ptr(), count)
     }
 
-    fn newests(&mut self, meters: &[(u16, u32)], records: &mut [u32]) -> usize {
+    fn newests(&mut self, meters: &[u64], records: &mut [u32]) -> usize {
         let count = meters.len().min(records.len());
-        let meters = meters.iter().map(|(model, serial)| key(*model, *serial, 0));
-        let meters: Vec<u64> = meters.collect();
         (self.calls.newests)(meters.as_ptr(), records.as_mut_ptr(), count)
     }
 

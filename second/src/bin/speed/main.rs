@@ -18,9 +18,11 @@ use table::Table;
 /// Certificates in each store.
 const COUNT: usize = 1500;
 
-/// What is put in, and as many keys that are not.
+/// What is put in, the meters that it is of, and as many keys that are not put in.
 pub struct Certificates {
-    pub present: Vec<(u64, u32)>,
+    pub keys: Vec<u64>,
+    pub records: Vec<u32>,
+    pub meters: Vec<u64>,
     pub absent: Vec<u64>,
 }
 
@@ -31,11 +33,11 @@ fn random_key(rng: &Rng) -> u64 {
 
 fn certificates(rng: &Rng) -> Certificates {
     let mut all = BTreeMap::new();
-    let mut present = Vec::new();
-    while present.len() < COUNT {
+    let mut keys = Vec::new();
+    while keys.len() < COUNT {
         let (key, record) = (random_key(rng), rng.next() as u32);
         if all.insert(key, record).is_none() {
-            present.push((key, record));
+            keys.push(key);
         }
     }
     let mut absent = Vec::new();
@@ -45,7 +47,18 @@ fn certificates(rng: &Rng) -> Certificates {
             absent.push(key);
         }
     }
-    Certificates { present, absent }
+    Certificates {
+        records: keys.iter().map(|key| all[key]).collect(),
+        meters: keys.iter().map(|key| meter(*key)).collect(),
+        keys,
+        absent,
+    }
+}
+
+/// The key of its meter's issue 0.
+fn meter(of: u64) -> u64 {
+    let (model, serial, _) = parts(of);
+    key(model, serial, 0)
 }
 
 // Which there are is a matter of what could be linked, so they are pushed one by one.
@@ -84,8 +97,6 @@ fn main() {
         std::process::exit(2);
     };
     let certificates = certificates(&Rng::new(1991));
-    let meters = certificates.present.iter().map(|(key, _)| parts(*key));
-    let meters: Vec<(u16, u32)> = meters.map(|(model, serial, _)| (model, serial)).collect();
     println!("{COUNT} certificates, best of {rounds} rounds, ns");
     for (caller, subjects) in [("Rust", subjects()), ("C, gcc -O2", from_c())] {
         if subjects.is_empty() {
@@ -93,7 +104,7 @@ fn main() {
         }
         let mut table = Table::new(subjects);
         for _ in 0..rounds {
-            table.round(&certificates, &meters);
+            table.round(&certificates);
         }
         println!("\ncalled from {caller}\n{table}");
     }

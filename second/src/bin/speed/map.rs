@@ -21,8 +21,8 @@ impl Subject for Map {
         self.0.clear();
     }
 
-    fn fill(&mut self, entries: &[(u64, u32)]) {
-        for (key, record) in entries {
+    fn fill(&mut self, keys: &[u64], records: &[u32]) {
+        for (key, record) in keys.iter().zip(records) {
             self.put(*key, *record);
         }
     }

@@ -86,8 +86,8 @@ impl Subject for Sqlite {
         self.run(c"delete from certs");
     }
 
-    fn fill(&mut self, entries: &[(u64, u32)]) {
-        for (key, record) in entries {
+    fn fill(&mut self, keys: &[u64], records: &[u32]) {
+        for (key, record) in keys.iter().zip(records) {
             self.put(*key, *record);
         }
         self.sync();

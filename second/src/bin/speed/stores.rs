@@ -38,8 +38,8 @@ macro_rules! subject {
                 self.store = $new;
             }
 
-            fn fill(&mut self, entries: &[(u64, u32)]) {
-                for (key, record) in entries {
+            fn fill(&mut self, keys: &[u64], records: &[u32]) {
+                for (key, record) in keys.iter().zip(records) {
                     if self.store.insert(*key, *record) != DONE {
                         assert_eq!(self.store.sync(), DONE);
                         assert_eq!(self.store.insert(*key, *record), DONE);

@@ -1,5 +1,7 @@
 //! What is measured of each store.
 
+use second::key::parts;
+
 /// A store of certificates under the clock. Each answer is checked, so that no work is left out.
 pub trait Subject {
     fn name(&self) -> &'static str;
@@ -8,7 +10,7 @@ pub trait Subject {
     fn clear(&mut self);
 
     /// Puts these in, with whatever that needs to be kept.
-    fn fill(&mut self, entries: &[(u64, u32)]);
+    fn fill(&mut self, keys: &[u64], records: &[u32]);
 
     fn lookup(&mut self, key: u64) -> Option<u32>;
 
@@ -27,11 +29,12 @@ pub trait Subject {
         found
     }
 
-    /// The newest of each meter, likewise.
-    fn newests(&mut self, meters: &[(u16, u32)], records: &mut [u32]) -> usize {
+    /// The newest of each meter, likewise; a meter is the key of its issue 0.
+    fn newests(&mut self, meters: &[u64], records: &mut [u32]) -> usize {
         let mut found = 0;
-        for ((model, serial), place) in meters.iter().zip(records) {
-            if let Some(record) = self.newest(*model, *serial) {
+        for (meter, place) in meters.iter().zip(records) {
+            let (model, serial, _) = parts(*meter);
+            if let Some(record) = self.newest(model, serial) {
                 *place = record;
                 found += 1;
             }

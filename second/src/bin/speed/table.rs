@@ -39,9 +39,9 @@ impl Table {
     }
 
     /// Every row once, for each subject in turn.
-    pub fn round(&mut self, all: &Certificates, meters: &[(u16, u32)]) {
+    pub fn round(&mut self, all: &Certificates) {
         for (subject, best) in self.subjects.iter_mut().zip(&mut self.best) {
-            for (best, time) in best.iter_mut().zip(round(subject.as_mut(), all, meters)) {
+            for (best, time) in best.iter_mut().zip(round(subject.as_mut(), all)) {
                 *best = match (*best, time) {
                     (Some(best), Some(time)) => Some(best.min(time)),
                     (_, time) => time,
@@ -51,25 +51,20 @@ impl Table {
     }
 }
 
-fn round(
-    subject: &mut dyn Subject,
-    all: &Certificates,
-    meters: &[(u16, u32)],
-) -> [Option<f64>; ROWS.len()] {
-    let count = all.present.len();
-    let (keys, given): (Vec<u64>, Vec<u32>) = all.present.iter().copied().unzip();
+fn round(subject: &mut dyn Subject, all: &Certificates) -> [Option<f64>; ROWS.len()] {
+    let count = all.keys.len();
     let mut records = vec![0; count];
     subject.clear();
-    let insert = each(count, || subject.fill(&all.present));
+    let insert = each(count, || subject.fill(&all.keys, &all.records));
     let present = each(count, || {
-        assert_eq!(subject.lookups(&keys, &mut records), count);
+        assert_eq!(subject.lookups(&all.keys, &mut records), count);
     });
-    assert_eq!(records, given);
+    assert_eq!(records, all.records);
     let absent = each(count, || {
         assert_eq!(subject.lookups(&all.absent, &mut records), 0);
     });
     let newest = each(count, || {
-        assert_eq!(subject.newests(meters, &mut records), count);
+        assert_eq!(subject.newests(&all.meters, &mut records), count);
     });
     let list = each(count * LISTS, || {
         for _ in 0..LISTS {
