@@ -21,7 +21,8 @@
  * khs_close.
  *
  * One KhStore is used by one thread at a time. The file is locked while it is open: neither another process nor another
- * KhStore gets it. The store takes no memory from the heap; what it needs is in the KhStore. */
+ * KhStore gets it. Nothing is taken from the heap; all that is needed is in the KhStore. What a disc has to do for this
+ * is assumed: that it writes 512 bytes whole, and that what it says is written is. */
 #ifndef KHSTORE_H
 #define KHSTORE_H
 

@@ -8,7 +8,9 @@
 #include <unistd.h>
 
 ssize_t __real_pwrite(int file, const void *bytes, size_t count, off_t to);
+ssize_t __real_pread(int file, void *bytes, size_t count, off_t from);
 ssize_t __wrap_pwrite(int file, const void *bytes, size_t count, off_t to);
+ssize_t __wrap_pread(int file, void *bytes, size_t count, off_t from);
 int __wrap_fsync(int file);
 int __wrap_fdatasync(int file);
 
@@ -17,9 +19,11 @@ static struct {
     Broken broken;
     uint32_t points;  /* until the process is killed; 0 for never */
     uint32_t failing; /* 1 if writes and flushes fail, n + 1 if they do after n more; 0 for never */
+    uint32_t flushes; /* one flush in so many fails; 0 for none */
     bool opening;
     int file;
-    bool waits[KH_PAGES_MOST];
+    bool waits[KH_PAGES_MOST]; /* to go out */
+    bool held[KH_PAGES_MOST];  /* not in the file, and read back from here */
     uint8_t pages[KH_PAGES_MOST][KH_PAGE_BYTES];
 } flash;
 
@@ -51,6 +55,11 @@ void flash_fail_after(uint32_t more)
     flash.failing = more + 1;
 }
 
+void flash_fail_flushes(uint32_t times)
+{
+    flash.flushes = times;
+}
+
 /* The numbers 0 to 127 in random order. */
 static void shuffle(uint8_t order[KH_PAGES_MOST])
 {
@@ -80,6 +89,7 @@ static void send_out(uint32_t times)
         uint8_t page = order[i];
         if (flash.waits[page] && random_once_in(&flash.random, times)) {
             flash.waits[page] = false;
+            flash.held[page] = false;
             put(flash.file, flash.pages[page], page);
         }
     }
@@ -115,14 +125,26 @@ ssize_t __wrap_pwrite(int file, const void *bytes, size_t count, off_t to)
     if (count != KH_PAGE_BYTES)
         return __real_pwrite(file, bytes, count, to);
     size_t page = (size_t)to / KH_PAGE_BYTES;
-    if (flash.broken == BROKEN_OPEN && flash.opening && page == 0)
+    if (flash.opening && flash.broken == (page == 0 ? BROKEN_OPEN : BROKEN_CACHE))
         return (ssize_t)count;
     flash.file = file;
     flash.waits[page] = true;
+    flash.held[page] = true;
     memcpy(flash.pages[page], bytes, count);
     if (random_once_in(&flash.random, 16))
         send_out(2);
     return (ssize_t)count;
+}
+
+/* What khstore.c reads as a whole table comes from here where it is held. */
+ssize_t __wrap_pread(int file, void *bytes, size_t count, off_t from)
+{
+    ssize_t got = __real_pread(file, bytes, count, from);
+    if (from == 0 && got > 0)
+        for (size_t page = 0; page < (size_t)got / KH_PAGE_BYTES; page++)
+            if (flash.held[page])
+                memcpy((uint8_t *)bytes + page * KH_PAGE_BYTES, flash.pages[page], KH_PAGE_BYTES);
+    return got;
 }
 
 int __wrap_fdatasync(int file)
@@ -130,6 +152,12 @@ int __wrap_fdatasync(int file)
     (void)file;
     if (fails())
         return -1;
+    if (flash.flushes > 0 && random_once_in(&flash.random, flash.flushes)) {
+        send_out(2);
+        memset(flash.waits, false, sizeof flash.waits);
+        errno = EIO;
+        return -1;
+    }
     send_out(flash.broken == BROKEN_SYNC && !flash.opening ? 2 : 1);
     return 0;
 }

@@ -34,8 +34,9 @@ typedef struct {
     _Atomic Doing doing;
     uint64_t kills[DOINGS];
     uint64_t syncs;
-    uint64_t through; /* of the certificates put in since, those that were found after a kill */
-    uint64_t lost;    /* and those that were not */
+    uint64_t failures; /* of syncs, by a flush that failed */
+    uint64_t through;  /* of the certificates put in since, those that were found after a kill */
+    uint64_t lost;     /* and those that were not */
     char wrong[200];
 } Told;
 
