@@ -14,10 +14,6 @@
 /* Both tables as every call takes them. */
 #define TABLES(store) (store)->working, (store)->bytes, (store)->stable, (store)->bytes
 
-/* Behind the pages of a file whose creation has not ended. */
-static const char TAIL[] = "khirpando: unfinished\n";
-enum { TAIL_BYTES = sizeof TAIL - 1 };
-
 /* ---- What a call tells ---- */
 
 static KhTold answered(uint32_t answer)
@@ -55,10 +51,11 @@ const char *khs_word(KhTold told)
 
 /* ---- Bytes of the file. Each tells KH_DONE, or the system's error. ---- */
 
-static KhTold read_bytes(int file, uint8_t *to, size_t bytes, off_t from)
+static KhTold read_bytes(int file, uint8_t *to, size_t count)
 {
-    while (bytes > 0) {
-        ssize_t got = pread(file, to, bytes, from);
+    off_t from = 0;
+    while (count > 0) {
+        ssize_t got = pread(file, to, count, from);
         if (got == 0)
             return in_trouble(KHS_NOSTORE); /* cut short since it was measured */
         if (got < 0 && errno != EINTR)
@@ -66,23 +63,22 @@ static KhTold read_bytes(int file, uint8_t *to, size_t bytes, off_t from)
         if (got > 0) {
             to += got;
             from += got;
-            bytes -= (size_t)got;
+            count -= (size_t)got;
         }
     }
     return answered(KH_DONE);
 }
 
-static KhTold write_bytes(int file, const void *bytes, size_t count, off_t to)
+static KhTold write_bytes(int file, const uint8_t *bytes, size_t count, off_t to)
 {
-    const uint8_t *next = bytes;
     while (count > 0) {
-        ssize_t put = pwrite(file, next, count, to);
+        ssize_t put = pwrite(file, bytes, count, to);
         if (put == 0)
             return refused_by_system(EIO);
         if (put < 0 && errno != EINTR)
             return refused_by_system(errno);
         if (put > 0) {
-            next += put;
+            bytes += put;
             to += put;
             count -= (size_t)put;
         }
@@ -90,42 +86,38 @@ static KhTold write_bytes(int file, const void *bytes, size_t count, off_t to)
     return answered(KH_DONE);
 }
 
-/* Wait until all that was written is on the disc: with the file's length, or where that has not changed. */
+/* Waits until all that was written is on the disc. */
 static KhTold flush(int file)
-{
-    return fsync(file) == 0 ? answered(KH_DONE) : refused_by_system(errno);
-}
-
-static KhTold flush_pages(int file)
 {
     return fdatasync(file) == 0 ? answered(KH_DONE) : refused_by_system(errno);
 }
 
 /* ---- Pages ---- */
 
-static off_t place_of(size_t page)
+static size_t pages_of(const KhStore *store)
 {
-    return (off_t)(page * KH_PAGE_BYTES);
+    return store->bytes / KH_PAGE_BYTES;
+}
+
+/* The page is handed to the system in one piece of memory that is there: it takes all of it or nothing, even if the
+ * process is killed meanwhile. */
+static KhTold write_page(const KhStore *store, size_t page)
+{
+    _Alignas(KH_PAGE_BYTES) uint8_t bytes[KH_PAGE_BYTES];
+    size_t at = page * KH_PAGE_BYTES;
+    memcpy(bytes, store->stable + at, KH_PAGE_BYTES);
+    return write_bytes(store->file, bytes, KH_PAGE_BYTES, (off_t)at);
 }
 
 /* Puts the marked stable pages on the disc and waits for them. Their order is free. */
 static KhTold keep_pages(const KhStore *store, const bool marked[KH_PAGES_MOST])
 {
-    for (size_t page = 0; page < store->bytes / KH_PAGE_BYTES; page++) {
-        if (!marked[page])
-            continue;
-        KhTold told = write_bytes(store->file, store->stable + place_of(page), KH_PAGE_BYTES, place_of(page));
+    for (size_t page = 0; page < pages_of(store); page++) {
+        KhTold told = marked[page] ? write_page(store, page) : answered(KH_DONE);
         if (!fine(told))
             return told;
     }
-    return flush_pages(store->file);
-}
-
-static KhTold keep_all_pages(const KhStore *store)
-{
-    bool all[KH_PAGES_MOST];
-    memset(all, true, sizeof all);
-    return keep_pages(store, all);
+    return flush(store->file);
 }
 
 /* The pages that a sync is going to change: those that differ, and page 0, which gets a number. */
@@ -133,7 +125,7 @@ static void mark_changed(const KhStore *store, bool changed[KH_PAGES_MOST])
 {
     memset(changed, false, KH_PAGES_MOST * sizeof *changed);
     changed[0] = true;
-    for (size_t page = 1; page < store->bytes / KH_PAGE_BYTES; page++) {
+    for (size_t page = 1; page < pages_of(store); page++) {
         size_t at = page * KH_PAGE_BYTES;
         changed[page] = memcmp(store->working + at, store->stable + at, KH_PAGE_BYTES) != 0;
     }
@@ -171,56 +163,62 @@ static KhTold take_file(KhStore *store, const char *path, int flags)
     return answered(KH_DONE);
 }
 
-static bool is_table(off_t bytes)
+static bool is_zero(const uint8_t *page)
 {
-    return bytes % KH_PAGE_BYTES == 0 && bytes >= place_of(KH_PAGES_LEAST) && bytes <= place_of(KH_PAGES_MOST);
+    static const uint8_t zero[KH_PAGE_BYTES];
+    return memcmp(page, zero, KH_PAGE_BYTES) == 0;
 }
 
-/* Whether a file of so many bytes ends with the tail. */
-static bool has_tail(int file, off_t bytes)
+/* Whether the table that was read is what a creation leaves that did not end: page 0, which it writes last, is zero,
+ * and any other page zero or as format makes it. So there is no certificate in it. */
+static bool is_unfinished(KhStore *store)
 {
-    uint8_t tail[TAIL_BYTES];
-    return bytes >= TAIL_BYTES && is_table(bytes - TAIL_BYTES) &&
-           fine(read_bytes(file, tail, TAIL_BYTES, bytes - TAIL_BYTES)) && memcmp(tail, TAIL, TAIL_BYTES) == 0;
+    if (!is_zero(store->stable) || kh_format(store->stable, store->bytes, store->working, store->bytes) != KH_DONE)
+        return false;
+    for (size_t page = 1; page < pages_of(store); page++) {
+        const uint8_t *is = store->stable + page * KH_PAGE_BYTES;
+        const uint8_t *formatted = store->working + page * KH_PAGE_BYTES;
+        if (!is_zero(is) && memcmp(is, formatted, KH_PAGE_BYTES) != 0)
+            return false;
+    }
+    return true;
 }
 
-/* Measures the file: a table, or unfinished, or no store. */
-static KhTold measure(KhStore *store)
+/* Measures the file and reads it: a table, or unfinished, or no store. */
+static KhTold read_table(KhStore *store)
 {
     struct stat found;
     if (fstat(store->file, &found) != 0)
         return refused_by_system(errno);
-    if (!S_ISREG(found.st_mode))
-        return in_trouble(KHS_NOSTORE);
-    if (found.st_size == 0 || has_tail(store->file, found.st_size))
-        return in_trouble(KHS_UNFINISHED);
-    if (!is_table(found.st_size))
+    if (!S_ISREG(found.st_mode) || found.st_size > (off_t)sizeof store->stable)
         return in_trouble(KHS_NOSTORE);
     store->bytes = (size_t)found.st_size;
-    return answered(KH_DONE);
+    if (store->bytes == 0)
+        return in_trouble(KHS_UNFINISHED);
+    if (store->bytes % KH_PAGE_BYTES != 0 || pages_of(store) < KH_PAGES_LEAST)
+        return in_trouble(KHS_NOSTORE);
+    KhTold told = read_bytes(store->file, store->stable, store->bytes);
+    return fine(told) && is_unfinished(store) ? in_trouble(KHS_UNFINISHED) : told;
 }
 
 /* Opens the stable table that was read or formatted. Page 0 must be on the disc before any page of a later call. The
  * others are written with the bytes they have: after a flush that failed, what was read may be in a cache alone. */
 static KhTold begin(KhStore *store)
 {
+    bool all[KH_PAGES_MOST];
+    memset(all, true, sizeof all);
     KhAnswered opened = kh_open(TABLES(store));
     store->session = opened.session;
-    return opened.answer == KH_DONE ? keep_all_pages(store) : answered(opened.answer);
-}
-
-static KhTold read_and_begin(KhStore *store)
-{
-    KhTold told = measure(store);
-    if (fine(told))
-        told = read_bytes(store->file, store->stable, store->bytes, 0);
-    return fine(told) ? begin(store) : told;
+    return opened.answer == KH_DONE ? keep_pages(store, all) : answered(opened.answer);
 }
 
 KhTold khs_open(KhStore *store, const char *path)
 {
     KhTold told = take_file(store, path, 0);
-    return fine(told) ? closed_unless_done(store, read_and_begin(store)) : told;
+    if (!fine(told))
+        return told;
+    told = read_table(store);
+    return closed_unless_done(store, fine(told) ? begin(store) : told);
 }
 
 /* ---- Creating ---- */
@@ -238,39 +236,38 @@ static KhTold flush_folder(const char *path)
     int file = open(folder, O_RDONLY | O_DIRECTORY | O_CLOEXEC);
     if (file < 0)
         return refused_by_system(errno);
-    KhTold told = flush(file);
+    KhTold told = fsync(file) == 0 ? answered(KH_DONE) : refused_by_system(errno);
     close(file);
     return told;
 }
 
-/* The tail comes first and goes last, each on the disc before the next step: with it the file is unfinished, without it
- * the table is whole. */
-static KhTold write_new(const KhStore *store)
+/* Writes the formatted table into an empty file. Page 0 comes last, when all others are on the disc. */
+static KhTold write_new(const KhStore *store, const char *path)
 {
-    KhTold told = write_bytes(store->file, TAIL, TAIL_BYTES, (off_t)store->bytes);
-    if (fine(told))
-        told = flush(store->file);
-    if (fine(told))
-        told = keep_all_pages(store);
-    if (fine(told) && ftruncate(store->file, (off_t)store->bytes) != 0)
-        told = refused_by_system(errno);
-    return fine(told) ? flush(store->file) : told;
+    bool marked[KH_PAGES_MOST];
+    memset(marked, true, sizeof marked);
+    marked[0] = false;
+    if (ftruncate(store->file, 0) != 0 || ftruncate(store->file, (off_t)store->bytes) != 0)
+        return refused_by_system(errno);
+    KhTold told = keep_pages(store, marked);
+    if (!fine(told))
+        return told;
+    memset(marked, false, sizeof marked);
+    marked[0] = true;
+    told = keep_pages(store, marked);
+    return fine(told) ? flush_folder(path) : told;
 }
 
 /* The file is taken: makes it a store if nothing is in it. */
 static KhTold fill_new(KhStore *store, const char *path, size_t bytes)
 {
-    KhTold told = measure(store);
+    KhTold told = read_table(store);
     if (told.trouble != KHS_UNFINISHED)
         return told.trouble == KHS_SYSTEM ? told : in_trouble(KHS_EXISTS);
-    if (ftruncate(store->file, 0) != 0)
-        return refused_by_system(errno);
     store->bytes = bytes;
     told = answered(kh_format(TABLES(store)));
     if (told.answer == KH_DONE)
-        told = write_new(store);
-    if (told.answer == KH_DONE)
-        told = flush_folder(path);
+        told = write_new(store, path);
     return told.answer == KH_DONE ? begin(store) : told;
 }
 

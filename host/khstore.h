@@ -50,7 +50,7 @@ typedef enum {
     KHS_CLOSED,     /* no file is open in this KhStore, or a write failed since: open it */
     KHS_LOCKED,     /* someone has the file open, or this KhStore has one open: close that first */
     KHS_NOSTORE,    /* not a file of 512 * n bytes, 4 <= n <= 128: cut short, or no store at all; it is left as it is */
-    KHS_UNFINISHED, /* an empty file, or one whose khs_create never ended: khs_create takes it */
+    KHS_UNFINISHED, /* an empty file, or one whose khs_create never ended: khs_create makes a store of it */
     KHS_EXISTS,     /* khs_create alone: there is something in the file, and it is left as it is */
     KHS_SYSTEM      /* the system refused: `error` is its errno */
 } KhTrouble;

@@ -24,7 +24,7 @@ static struct {
     int file;
     bool waits[KH_PAGES_MOST]; /* to go out */
     bool held[KH_PAGES_MOST];  /* not in the file, and read back from here */
-    uint8_t pages[KH_PAGES_MOST][KH_PAGE_BYTES];
+    _Alignas(KH_PAGE_BYTES) uint8_t pages[KH_PAGES_MOST][KH_PAGE_BYTES];
 } flash;
 
 void flash_start(uint64_t seed, Broken broken)

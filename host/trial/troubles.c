@@ -146,8 +146,25 @@ static void other_files(void)
     troubled(khs_open(&store, path), KHS_UNFINISHED, "an empty file");
     done(khs_create(&store, path, PAGES), "creation in an empty file");
     khs_close(&store);
+    make_file(KH_TABLE_BYTES(PAGES + 1), 0);
+    troubled(khs_open(&store, path), KHS_UNFINISHED, "a table of zeros");
+    done(khs_create(&store, path, PAGES), "creation over zeros");
+    must(size_of_file() == BYTES, "of the length asked for");
+    khs_close(&store);
     refused(khs_open(&store, "/"), EISDIR, "a folder");
     troubled(khs_open(&store, "/dev/null"), KHS_NOSTORE, "a device");
+}
+
+/* A store whose page 0 is spoilt is not taken for an unfinished one. */
+static void no_page_0(void)
+{
+    fill();
+    khs_close(&store);
+    static const uint8_t zero[KH_PAGE_BYTES];
+    FILE *file = fopen(path, "rb+");
+    must(file && fwrite(zero, 1, sizeof zero, file) == sizeof zero && fclose(file) == 0, "page 0 is zeroed");
+    told_is(khs_open(&store, path), KH_DAMAGED, KHS_FINE, 0, "a store without page 0");
+    troubled(khs_create(&store, path, PAGES), KHS_EXISTS, "creation over it");
 }
 
 static void locked(void)
@@ -195,12 +212,12 @@ static void failed_syncs(void)
     }
 }
 
-/* Writes and flushes of a creation: the tail, its flush, each page, their flush; then the tail is cut off, with a flush
- * of the file and one of the folder, and the store is opened, which writes each page again, with a flush. */
+/* Writes and flushes of a creation: each page but 0, a flush, page 0, a flush, the folder's flush; then the store is
+ * opened, which writes each page again, with a flush. */
 static void failed_creations(void)
 {
-    const uint32_t unfinished = 1 + 1 + PAGES + 1;
-    const uint32_t all = unfinished + 1 + 1 + PAGES + 1;
+    const uint32_t unfinished = PAGES - 1 + 1 + 1 + 1;
+    const uint32_t all = unfinished + 1 + PAGES + 1;
     for (uint32_t before = 0; before < all; before++) {
         unlink(path);
         flash_fail_after(before);
@@ -233,6 +250,7 @@ int main(int argc, char **argv)
     creating();
     closed();
     other_files();
+    no_page_0();
     locked();
     read_only();
     failed_syncs();
