@@ -24,7 +24,7 @@ static struct {
     int file;
     bool waits[KH_PAGES_MOST]; /* to go out */
     bool held[KH_PAGES_MOST];  /* not in the file, and read back from here */
-    _Alignas(KH_PAGE_BYTES) uint8_t pages[KH_PAGES_MOST][KH_PAGE_BYTES];
+    uint8_t pages[KH_PAGES_MOST][KH_PAGE_BYTES];
 } flash;
 
 void flash_start(uint64_t seed, Broken broken)
@@ -72,10 +72,12 @@ static void shuffle(uint8_t order[KH_PAGES_MOST])
 
 static void put(int file, const uint8_t *bytes, size_t page)
 {
+    _Alignas(KH_PAGE_BYTES) uint8_t page_bytes[KH_PAGE_BYTES]; /* in one piece, as khstore.c has it */
     size_t count = KH_PAGE_BYTES;
+    memcpy(page_bytes, bytes, count);
     if (flash.broken == BROKEN_TORN && random_once_in(&flash.random, 8))
         count = 1 + random_below(&flash.random, KH_PAGE_BYTES - 1);
-    if (__real_pwrite(file, bytes, count, (off_t)(page * KH_PAGE_BYTES)) != (ssize_t)count)
+    if (__real_pwrite(file, page_bytes, count, (off_t)(page * KH_PAGE_BYTES)) != (ssize_t)count)
         _exit(3);
     flash_point();
 }
