@@ -13,7 +13,7 @@
  *         puts(khs_word(told));
  *     khs_close(&store);
  *
- * Compile host/khstore.c with the program and link the library. example/shelf.c is a whole program.
+ * Compile khstore.c with the program and link the library. example/shelf.c is a whole program.
  *
  * The file is the stable table: page p lies at byte 512 * p. It is written in khs_create, khs_open and khs_sync alone,
  * and each of them returns only when what it wrote is on the disc; khirpando.h says why, at "Your flash driver". From
