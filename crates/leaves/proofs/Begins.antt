@@ -1,44 +1,32 @@
 -- Where a step begins: the pages that a cursor keeps for a key, the place that they lead to, and how many levels lie
 -- below. Assumes nothing.
-use Prim.Native.Nat.{ℕ, _+_, _-_, _*_, _≤_, _<_}
+use Prim.Native.Nat.{ℕ, _-_, _≤_, _<_}
 use native.Mathlib.Omega.{arith}
 use mathlib.Core.Path.{_≡_, refl, sym, ap, _∙_, subst}
 use mathlib.Core.Bool.{Bool, true, false}
 use mathlib.Core.List.{List, [], _∷_}
-use mathlib.Core.Option.{some, Option·some-injective}
 use lib.ListN.{length}
-use lib.Dec.{leb}
-use borrow.Author.Tests.{ne-eqb, le-leb}
-use Rattle.rules.specs.Layout.{pageSize, topKind, lastKey}
+use borrow.Author.Tests.{ne-eqb}
+use Rattle.rules.specs.Layout.{lastKey}
 use Rattle.rules.specs.Test.{between}
 use Rattle.rules.specs.Page.{Page}
+use Rattle.rules.specs.Sound.{startsAt}
 use Rattle.rules.specs.Table.{read}
-use Rattle.rules.specs.Place.{rootPlace, kids, pick}
+use Rattle.rules.specs.Place.{rootPlace}
 use Rattle.rules.specs.Enter as entry
 use Rattle.rules.specs.Walk as rules
 use Rattle.rules.specs.declared.Place.{Place}
-use Rattle.rules.proofs.entries.Tests.{between-low, between-high, between-of, between-below}
+use Rattle.rules.proofs.entries.Tests.{between-low, between-high, between-of}
 use Rattle.rules.proofs.entries.Places.{fits-true}
+use Rattle.rules.proofs.entries.Asks.{kids-pick, kids-names}
 use Rattle.head.proofs.Headers.{headOf}
-use Rattle.way.specs.Ways.{innerIn, placesBelow, Leads, wayFor}
-use Rattle.way.proofs.Below.{places-kids}
+use Rattle.way.specs.Ways.{Leads}
 use Rattle.way.proofs.Stood.{Ready, ready-next}
 use Rattle.climbs.specs.Ground.{Ground}
 use Rattle.climbs.proofs.Ground.{root-ready}
-use Rattle.way.proofs.Descent as way
-use Rattle.leaves.specs.Kept.{KeptStep, KeptSteps, holding, resume}
-use Rattle.leaves.specs.Cursors.{noInner, cursorOf, holdingIn, levelsIn, placeIn, LeadsOn, Kept}
-use Rattle.leaves.specs.declared.Cursor.{Cursor}
-use Rattle.leaves.proofs.Resume.{enter-kept, range-above, leads-here, resumed}
-
--- ── A range ─────────────────────────────────────────────────────────────────────────────────────────────────────
-
-pub holds-below : (low high k : ℕ) → k < low → false ≡ between low high k
-holds-below low high k h = sym (between-below low high k h)
-
-pub holds-from : (low high k : ℕ) → low ≤ k → leb k high ≡ between low high k
-unfolding between
-holds-from low high k h = rw (le-leb low k h)
+use Rattle.leaves.specs.Kept.{KeptSteps, holding}
+use Rattle.leaves.specs.Cursors.{cursorOf, holdingIn, Lies, LeadsOn}
+use Rattle.leaves.proofs.Resume.{enter-kept, range-above, leads-here}
 
 -- ── Which pages are kept for a key ──────────────────────────────────────────────────────────────────────────────
 
@@ -74,22 +62,49 @@ unfolding rootPlace
 root-holds n k t s x h =
     ap (λ (e : Place). between (e .low) (e .high) k) (x .0 .asked) ∙ between-of 0 lastKey k (omega arith) h
 
--- at most two pages: the root is never passed over, so one test is enough
-pub held-cursor : (n k : ℕ) (t : List ℕ) (ss : List rules.Step) → KeptSteps n t ss → length ss ≤ 2 → k ≤ lastKey
-    → holdingIn k (cursorOf ss) ≡ cursorOf (holding k ss)
-unfolding holdingIn holding
-held-cursor n k t [] x l h = none (between 1 0 k) refl
-  where
-    none : (b : Bool) → between 1 0 k ≡ b → holdingIn k (cursorOf []) ≡ cursorOf []
-    none true f = absurd (omega (arith, between-low 1 0 k f, between-high 1 0 k f))
-    none false f = rw (f, holdingIn)
-held-cursor n k t (s ∷ []) x l h = rw (root-holds n k t s x h, holdingIn, holding)
-held-cursor n k t (s ∷ (u ∷ [])) x l h = go (between (s .place .low) (s .place .high) k) refl
-  where
-    go : (b : Bool) → between (s .place .low) (s .place .high) k ≡ b → holdingIn k (cursorOf (s ∷ (u ∷ []))) ≡ cursorOf (holding k (s ∷ (u ∷ [])))
-    go true f = rw (f, holdingIn, holding)
-    go false f = rw (f, holdingIn, holding, root-holds n k t u (x .1) h)
-held-cursor n k t (s ∷ (u ∷ (v ∷ ss))) x l h = absurd (omega arith)
+-- ── What a cursor says of them ──────────────────────────────────────────────────────────────────────────────────
+
+module _ {n c : ℕ} {t : List ℕ} (g : Ground n c t) where
+  -- a page kept has a number, and lies in the table
+  kept-number : (s : rules.Step) (above : List rules.Step) → KeptSteps n t (s ∷ above) → (1 ≤ s .place .child) × (s .place .child < n)
+  kept-number s [] x =
+      let r = root-ready g 0 (omega arith) in
+      subst (λ (e : Place). (1 ≤ e .child) × (e .child < n)) (sym (x .0 .asked)) (r .child-from, r .child-below)
+  kept-number s (u ∷ above) x =
+      let f = fits-true n (u .place) (u .page) (x .1 .0 .fit) .sound in
+      let m = kids-names (u .place) f (s .place) (kids-pick (u .place) f (s .place .low) (s .place) (x .0 .asked)) in
+      (m .child-from, m .child-below)
+
+  pub named : (s : rules.Step) (above : List rules.Step) → KeptSteps n t (s ∷ above) → s .place .child ≡ 0 → ⊥
+  named s above x z = omega (arith, kept-number s above x .0, z)
+
+  pub lies-kept : (ss : List rules.Step) → KeptSteps n t ss → Lies t (cursorOf ss)
+  lies-kept [] x = λ z. absurd (z refl)
+  lies-kept (s ∷ above) x = λ z. omega (arith, g .long, kept-number s above x .1)
+
+  -- its range, as it is read in the table
+  range-read : (k : ℕ) (s : rules.Step) (above : List rules.Step) → KeptSteps n t (s ∷ above)
+      → between (read t (s .place .child) .low) (read t (s .place .child) .high) k ≡ between (s .place .low) (s .place .high) k
+  range-read k s above x =
+      let f = fits-true n (s .place) (s .page) (x .0 .fit) in
+      ap (λ (p : Page). between (p .low) (p .high) k) (x .0 .here) ∙ rw (f .low, f .high) refl
+
+  -- at most two pages: the root is never passed over, so one test is enough
+  pub held-cursor : (k : ℕ) (ss : List rules.Step) → KeptSteps n t ss → length ss ≤ 2 → k ≤ lastKey
+      → holdingIn k t (cursorOf ss) ≡ cursorOf (holding k ss)
+  unfolding holdingIn holding
+  held-cursor k [] x l h = refl
+  held-cursor k (s ∷ []) x l h =
+      let q = root-holds n k t s x h in
+      rw (ne-eqb (s .place .child) 0 (named s [] x), holdingIn, range-read k s [] x ∙ q, holding, q)
+  held-cursor k (s ∷ (u ∷ [])) x l h = go (between (s .place .low) (s .place .high) k) refl
+    where
+      go : (b : Bool) → between (s .place .low) (s .place .high) k ≡ b → holdingIn k t (cursorOf (s ∷ (u ∷ []))) ≡ cursorOf (holding k (s ∷ (u ∷ [])))
+      go true q =
+          rw (ne-eqb (s .place .child) 0 (named s (u ∷ []) x), holdingIn, range-read k s (u ∷ []) x ∙ q, holding, q)
+      go false q =
+          rw (ne-eqb (s .place .child) 0 (named s (u ∷ []) x), holdingIn, range-read k s (u ∷ []) x ∙ q, holding, q, root-holds n k t u (x .1) h)
+  held-cursor k (s ∷ (u ∷ (v ∷ ss))) x l h = absurd (omega arith)
 
 -- ── The place that they lead to ─────────────────────────────────────────────────────────────────────────────────
 
@@ -105,25 +120,23 @@ module _ {n c k : ℕ} {t : List ℕ} (A : Ground n c t) (B : k ≤ lastKey) whe
       subst (λ (y : entry.Entered). Ready n c k (y .table) (s .place)) e z
 
   leads-kept : (s : rules.Step) (above : List rules.Step) → KeptSteps n t (s ∷ above) → s .place .low ≤ k → k ≤ s .place .high
-      → Leads k (innerIn (s .place) (headOf (s .page))) (read t (s .place .child) .view)
+      → Leads k (headOf (s .page)) (s .page .view)
   unfolding headOf
   leads-kept s above x p q =
-      let f = fits-true n (s .place) (s .page) (x .0 .fit) .sound in
-      let l : Leads k (innerIn (s .place) (headOf (s .page))) (s .page .view) = record {
+      let f = fits-true n (s .place) (s .page) (x .0 .fit) in
+      record {
         inner = x .0 .inner;
         kind = refl;
-        from = f .kind-from;
+        from = f .sound .kind-from;
         count = refl;
-        room = f .children-room;
-        rise = f .children-rise;
-        starts = f .starts (x .0 .inner);
-        low = p;
-        high = q;
-      } in
-      subst (λ (y : Page). Leads k (innerIn (s .place) (headOf (s .page))) (y .view)) (sym (x .0 .here)) l
+        room = f .sound .children-room;
+        rise = f .sound .children-rise;
+        starts = ap (λ (i : ℕ). startsAt i (s .page .view .children)) (f .low) ∙ f .sound .starts (x .0 .inner);
+        low = omega (arith, f .low);
+        high = omega (arith, f .high);
+      }
 
   pub leads-on : (hs : List rules.Step) → KeptSteps n t hs → First k hs → LeadsOn k t (cursorOf hs)
   leads-on [] x f = λ z. absurd (z refl)
   leads-on (s ∷ above) x f = λ z.
-      let r = ready-kept s above x (f .0) (f .1) in
-      (omega (arith, r .long, r .child-below), leads-kept s above x (f .0) (f .1))
+      subst (λ (y : Page). Leads k (headOf y) (y .view)) (sym (x .0 .here)) (leads-kept s above x (f .0) (f .1))

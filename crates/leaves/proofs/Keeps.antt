@@ -1,7 +1,7 @@
 -- Every whole way leaves pages kept: the inner pages that it entered, in the table that it leaves. Assumes nothing.
 use Prim.Native.Nat.{ℕ, zero, suc, _≤_}
 use native.Mathlib.Omega.{arith}
-use mathlib.Core.Path.{_≡_, refl, sym, ap, _∙_, subst}
+use mathlib.Core.Path.{_≡_, refl, sym, _∙_, subst}
 use mathlib.Core.Bool.{Bool, true, false}
 use mathlib.Core.List.{List, [], _∷_}
 use mathlib.Core.Option.{Option, some, none, Option·some-injective, Option·none-ne-some}
@@ -23,7 +23,7 @@ use Rattle.way.specs.Ways.{restOf}
 use Rattle.way.proofs.Stood.{Ready, ready-next, stood-here}
 use Rattle.climbs.specs.Ground.{Ground}
 use Rattle.climbs.proofs.Ground.{stays-read, enter-stays, root-ready}
-use Rattle.leaves.specs.Kept.{AskedBy, KeptStep, KeptSteps}
+use Rattle.leaves.specs.Kept.{AskedBy, KeptSteps}
 
 -- ── Kept in another table ───────────────────────────────────────────────────────────────────────────────────────
 

@@ -1,4 +1,5 @@
 pub mod Resume
+pub mod Heads
 pub mod Begins
 pub mod Climbing
 pub mod Keeps

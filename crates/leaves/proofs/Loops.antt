@@ -5,7 +5,6 @@ use mathlib.Core.Path.{_≡_, refl, sym, ap, _∙_, subst}
 use mathlib.Core.Bool.{true}
 use mathlib.Core.List.{List, [], _∷_}
 use mathlib.Core.Option.{Option, some, none}
-use lib.ListN.{length}
 use Rattle.rules.specs.Layout.{lastKey}
 use Rattle.rules.specs.Test.{mem}
 use Rattle.rules.specs.Entry.{keys}
@@ -15,13 +14,13 @@ use Rattle.rules.specs.Place.{rootPlace}
 use Rattle.rules.specs.Walk as rules
 use Rattle.rules.proofs.entries.Places.{Fits}
 use Rattle.entries.specs.Spot.{spotOf}
+use Rattle.enter.specs.declared.Above.{Above}
 use Rattle.way.specs.Ways.{Holds}
 use Rattle.way.proofs.Linked.{way-linked}
 use Rattle.climbs.specs.Ground.{Ground}
 use Rattle.climbs.proofs.Ground.{way-ground, no-way-empty, leaf-stood, leaf-ends, leaf-range}
 use Rattle.leaves.specs.Kept.{KeptSteps}
-use Rattle.leaves.specs.Cursors.{noCursor, cursorOf, Kept, Nexting, nexting, leafOf, nextOr, nextOf}
-use Rattle.leaves.specs.declared.Cursor.{Cursor}
+use Rattle.leaves.specs.Cursors.{noCursor, Kept, Nexting, nexting, leafOf, nextOr, nextOf}
 use Rattle.leaves.specs.declared.Leaf.{Leaf}
 use Rattle.leaves.specs.declared.Stepped.{Stepped}
 use Rattle.leaves.proofs.Keeps.{way-keeps, kept-same}
@@ -29,11 +28,11 @@ use Rattle.leaves.proofs.Keeps.{way-keeps, kept-same}
 -- ── The cursor ──────────────────────────────────────────────────────────────────────────────────────────────────
 
 -- the first one
-pub kept-start : (n : ℕ) (t : List ℕ) (x : Cursor) → x ≡ noCursor → Kept n t x
+pub kept-start : (n : ℕ) (t : List ℕ) (x : Above) → x ≡ noCursor → Kept n t x
 kept-start n t x h = record { steps = []; are = h; short = omega arith; kept = tt }
 
 -- in a table where page 0 asks for the same root and the pages kept are read as before
-pub kept-on : (n : ℕ) (t u : List ℕ) (x : Cursor) (K : Kept n t x) → rootPlace u ≡ rootPlace t
+pub kept-on : (n : ℕ) (t u : List ℕ) (x : Above) (K : Kept n t x) → rootPlace u ≡ rootPlace t
     → ((j : ℕ) → mem j (rules.numbers (K .steps)) ≡ true → read u j ≡ read t j) → Kept n u x
 kept-on n t u x K z f = record {
   steps = K .steps;

@@ -17,31 +17,22 @@ use Rattle.rules.specs.declared.Place.{Place}
 use Rattle.entries.specs.Spot.{spotOf}
 use Rattle.head.proofs.Headers.{headOf}
 use Rattle.enter.specs.declared.Above.{Above}
-use Rattle.way.specs.Ways.{restOf, innerIn, placesBelow, Leads}
-use Rattle.way.specs.declared.Inner.{Inner}
+use Rattle.way.specs.Ways.{wayFor, aboveIn, placesBelow, Leads}
 use Rattle.leaves.specs.Kept.{KeptSteps}
-use Rattle.leaves.specs.declared.Cursor.{Cursor}
 use Rattle.leaves.specs.declared.Leaf.{Leaf}
 use Rattle.leaves.specs.declared.Stepped.{Stepped}
 
 -- ── The pages that a cursor keeps ───────────────────────────────────────────────────────────────────────────────
 
--- no page: the number of none, and a range that holds no key
-abbrev pub noInner : Inner
-noInner = record { child = 0; kind = 0; count = 0; low = 1; high = 0 }
+abbrev pub noCursor : Above
+noCursor = record { parent = 0; top = 0 }
 
-abbrev pub noCursor : Cursor
-noCursor = record { parent = noInner; top = noInner }
+-- a cursor has their numbers; the table has the rest
+abbrev pub cursorOf : List rules.Step → Above
+cursorOf ss = aboveIn (wayFor ss)
 
-abbrev pub deepest : List rules.Step → Inner
-deepest [] = noInner
-deepest (s ∷ above) = innerIn (s .place) (headOf (s .page))
-
-abbrev pub cursorOf : List rules.Step → Cursor
-cursorOf ss = record { parent = deepest ss; top = deepest (restOf ss) }
-
--- what a cursor must be for the next step: it has the fields of pages that are kept in the table
-pub record Kept (n : ℕ) (t : List ℕ) (x : Cursor) : Type 0 where
+-- what a cursor must be for the next step: its pages are kept in the table
+pub record Kept (n : ℕ) (t : List ℕ) (x : Above) : Type 0 where
   pub steps : List rules.Step
   pub are : x ≡ cursorOf steps
   pub short : length steps ≤ 2
@@ -78,30 +69,29 @@ nextOf upto w = nexting (w .table) (nextOr upto (w .steps))
 -- ── Where a step begins ─────────────────────────────────────────────────────────────────────────────────────────
 
 -- the page above a leaf is passed over if its range misses the key; the one above that is the root, which holds all
-unfoldable pub holdingIn : ℕ → Cursor → Cursor
-holdingIn k x =
-    elim (between (x .parent .low) (x .parent .high) k) [ true ↦ x | false ↦ record { parent = x .top; top = noInner } ]
-
-abbrev pub thenIn : Cursor → Inner → Cursor
-thenIn x p = record { parent = p; top = x .parent }
-
-abbrev pub numbersIn : Cursor → Above
-numbersIn x = record { parent = x .parent .child; top = x .top .child }
-
--- how many levels lie below
-unfoldable pub levelsIn : Cursor → ℕ
-levelsIn x = elim (eqb (x .parent .child) 0) [ true ↦ 3 | false ↦ elim (eqb (x .top .child) 0) [ true ↦ 2 | false ↦ 1 ] ]
-
--- the place that a key leads to below the deepest page, or the root's
-unfoldable pub placeIn : ℕ → List ℕ → Cursor → Option Place
-placeIn k t x =
-    elim (eqb (x .parent .child) 0) [
-      | true ↦ some (rootPlace t)
-      | false ↦ pick k (placesBelow (x .parent) (read t (x .parent .child) .view))
+unfoldable pub holdingIn : ℕ → List ℕ → Above → Above
+holdingIn k t x =
+    elim (eqb (x .parent) 0) [
+      | true ↦ x
+      | false ↦ elim (between (read t (x .parent) .low) (read t (x .parent) .high) k)
+          [ true ↦ x | false ↦ record { parent = x .top; top = 0 } ]
     ]
 
--- the deepest page lies in the table and leads on
-abbrev pub LeadsOn : ℕ → List ℕ → Cursor → Type 0
-LeadsOn k t x =
-    (x .parent .child ≡ 0 → ⊥)
-    → ((x .parent .child + 1) * pageSize ≤ length t) × Leads k (x .parent) (read t (x .parent .child) .view)
+-- how many levels lie below
+unfoldable pub levelsIn : Above → ℕ
+levelsIn x = elim (eqb (x .parent) 0) [ true ↦ 3 | false ↦ elim (eqb (x .top) 0) [ true ↦ 2 | false ↦ 1 ] ]
+
+-- the place that a key leads to below the deepest page, or the root's
+unfoldable pub placeIn : ℕ → List ℕ → Above → Option Place
+placeIn k t x =
+    elim (eqb (x .parent) 0) [
+      | true ↦ some (rootPlace t)
+      | false ↦ pick k (placesBelow (headOf (read t (x .parent))) (read t (x .parent) .view))
+    ]
+
+-- the deepest page lies in the table, and leads on where its range holds the key
+abbrev pub Lies : List ℕ → Above → Type 0
+Lies t x = (x .parent ≡ 0 → ⊥) → (x .parent + 1) * pageSize ≤ length t
+
+abbrev pub LeadsOn : ℕ → List ℕ → Above → Type 0
+LeadsOn k t x = (x .parent ≡ 0 → ⊥) → Leads k (headOf (read t (x .parent))) (read t (x .parent) .view)

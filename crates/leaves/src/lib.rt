@@ -1,9 +1,10 @@
 // From leaf to leaf in key order: a cursor, and the step that goes on from it.
 //
 // `next` goes down to the leaf of a key as a way from page 0 does: it leaves the table as the rules' `wayOf` leaves it,
-// and answers with that way's leaf. It need not begin at page 0, though. A cursor keeps the inner pages of the way before,
-// and a step goes on from the deepest of them whose range holds the key. Those pages are read as they were entered, so to
-// enter them again would change nothing: the theorem `resumed` says so of the rules, for every table.
+// and answers with that way's leaf. It need not begin at page 0, though. A cursor has the numbers of the inner pages above
+// the leaf before, and a step goes on from the deepest of them whose range holds the key. Those pages stand in the table
+// as they were entered, so to enter them again would change nothing: the theorem `resumed` says so of the rules, for
+// every table.
 //
 // A leaf says where its range ends; the leaf of the key behind that is the next one. `spot` serves whoever walks: how
 // many of the leaf's keys are not above a last one, guessed while the leaf is tested, as `way` guesses.
@@ -17,26 +18,18 @@ use rules::LEAF;
 use rules::LEVELS;
 use rules::PAGE;
 use rules::Place;
-use way::Inner;
 ghost use mathlib.Core.Path.{_≡_};
 ghost use mathlib.Core.Bool.{true};
 ghost use mathlib.Core.Option.{some};
 ghost use Prim.Native.Nat.{_+_, _*_, _≤_};
 ghost use lib.ListN.{length};
-ghost use lib.Dec.{leb};
 ghost use Rattle.rules.specs.Layout.{pageSize, certSize, leafRoom};
 ghost use Rattle.rules.specs.Test.{between};
 ghost use Rattle.rules.specs.Entry.{rising};
 ghost use Rattle.rules.specs.Table.{pageAt, fit0};
 ghost use Rattle.rules.specs.Walk.{wayOf};
 ghost use Rattle.entries.specs.Spot.{keysIn, spotOf};
-ghost use Rattle.leaves.specs.Cursors.{noInner, noCursor, holdingIn, thenIn, numbersIn, levelsIn, placeIn, LeadsOn, Kept, nexting, nextOf};
-
-// The inner pages above a leaf that was stepped to: the one just above, and the one above that.
-pub struct Cursor {
-    pub parent: Inner,
-    pub top: Inner,
-}
+ghost use Rattle.leaves.specs.Cursors.{noCursor, holdingIn, levelsIn, placeIn, Lies, LeadsOn, Kept, nexting, nextOf};
 
 // A leaf that was stepped to: its number and count, where its range ends, how many of its keys are not above the last
 // one wanted, and the cursor behind it.
@@ -45,7 +38,7 @@ pub struct Leaf {
     pub count: u16,
     pub high: u64,
     pub spot: usize,
-    pub behind: Cursor,
+    pub behind: Above,
 }
 
 pub enum Stepped {
@@ -53,93 +46,65 @@ pub enum Stepped {
     Damaged,
 }
 
-// No page. Its range holds no key.
-fn no_inner() -> Inner
-    ensures { λ r. ⌜ r ≡ noInner ⌝ }
-{
-    Inner {
-        child: 0,
-        kind: 0,
-        count: 0,
-        low: 1,
-        high: 0,
-    }
-}
-
 // The cursor of a first step: nothing is kept.
-pub fn start() -> Cursor
+pub fn start() -> Above
     ensures { λ r. ⌜ r ≡ noCursor ⌝ }
 {
-    let none = no_inner();
-    Cursor {
-        parent: none,
-        top: none,
-    }
+    Above { parent: 0, top: 0 }
 }
 
-fn holds(page: Inner, key: u64) -> bool
-    ensures { λ r. ⌜ r ≡ between (page .low) (page .high) key ⌝ }
+// The range of a page holds a key.
+fn holds(head: Head, key: u64) -> bool
+    ensures { λ r. ⌜ r ≡ between (head .low) (head .high) key ⌝ }
 {
-    if key < page.low {
+    if key < head.low {
         return false;
     }
-    key <= page.high
+    key <= head.high
 }
 
 // The pages that the way of a key shares with the last one. Above a page that is passed over stands the root, which
 // holds every key.
-fn holding(cursor: Cursor, key: u64) -> Cursor
-    ensures { λ r. ⌜ r ≡ holdingIn key cursor ⌝ }
+fn holding(t: &[u8], cursor: Above, key: u64) -> Above
+    requires { ⌜ Lies (now t) cursor ⌝ }
+    ensures { λ r. ⌜ r ≡ holdingIn key (now (t .entry)) cursor ⌝ }
 {
-    if holds(cursor.parent, key) {
+    if cursor.parent == 0 {
         return cursor;
     }
-    let parent = cursor.top;
-    let top = no_inner();
-    Cursor { parent, top }
-}
-
-// One page more.
-fn then(cursor: Cursor, page: Inner) -> Cursor
-    ensures { λ r. ⌜ r ≡ thenIn cursor page ⌝ }
-{
-    let top = cursor.parent;
-    Cursor { parent: page, top }
-}
-
-// The pages above the next one.
-fn numbers(cursor: Cursor) -> Above
-    ensures { λ r. ⌜ r ≡ numbersIn cursor ⌝ }
-{
+    if holds(head::head_at(t, cursor.parent as usize), key) {
+        return cursor;
+    }
     Above {
-        parent: cursor.parent.child,
-        top: cursor.top.child,
+        parent: cursor.top,
+        top: 0,
     }
 }
 
 // How many levels lie below.
-fn levels(cursor: Cursor) -> usize
+fn levels(cursor: Above) -> usize
     ensures { λ r. ⌜ r ≡ levelsIn cursor ⌝ }
 {
-    if cursor.parent.child == 0 {
+    if cursor.parent == 0 {
         return LEVELS;
     }
-    if cursor.top.child == 0 {
+    if cursor.top == 0 {
         return LEVELS - 1;
     }
     LEVELS - 2
 }
 
 // The place that a key leads to below the deepest page, or the root's.
-fn place(t: &[u8], cursor: Cursor, key: u64) -> Place
-    requires { ⌜ (pageSize ≤ length (now t)) × LeadsOn key (now t) cursor ⌝ }
+fn place(t: &[u8], cursor: Above, key: u64) -> Place
+    requires { ⌜ (pageSize ≤ length (now t)) × Lies (now t) cursor × LeadsOn key (now t) cursor ⌝ }
     ensures { λ r. ⌜ placeIn key (now (t .entry)) cursor ≡ some r ⌝ }
 {
-    if cursor.parent.child == 0 {
+    if cursor.parent == 0 {
         return head::root_place(t);
     }
-    let guess = way::look_ahead(t, cursor.parent.child, key, key);
-    way::place_below(t, cursor.parent, key, guess)
+    let head = head::head_at(t, cursor.parent as usize);
+    let guess = way::look_ahead(t, cursor.parent, key, key);
+    way::place_below(t, cursor.parent, head, key, guess)
 }
 
 // How many of a leaf's keys are not above one.
@@ -154,16 +119,16 @@ fn spot_at(t: &[u8], child: u16, count: u16, upto: u64, guess: usize) -> usize
 }
 
 // Down to the leaf of a key.
-pub fn next(t: &mut [u8], n: usize, c: u32, key: u64, upto: u64, cursor: Cursor) -> Stepped
+pub fn next(t: &mut [u8], n: usize, c: u32, key: u64, upto: u64, cursor: Above) -> Stepped
     requires { ⌜ (length (now t) ≡ n * pageSize) × (fit0 n (now t) ≡ true) × Kept n (now t) cursor ⌝ }
     ensures { λ r. ⌜ nexting (now (t .exit)) r ≡ nextOf upto (wayOf n c key (now (t .entry))) ⌝ }
 {
-    let mut above = holding(cursor, key);
+    let mut above = holding(t, cursor, key);
     let mut e = place(t, above, key);
     let mut level = levels(above);
     while 0 < level {
         let guess = way::look_ahead(t, e.child, key, upto);
-        let Entered::Page(page) = enter::enter(t, n, c, numbers(above), e) else {
+        let Entered::Page(page) = enter::enter(t, n, c, above, e) else {
             return Stepped::Damaged;
         };
         if page.kind == LEAF {
@@ -176,9 +141,12 @@ pub fn next(t: &mut [u8], n: usize, c: u32, key: u64, upto: u64, cursor: Cursor)
                 behind: above,
             });
         }
-        let inner = way::inner_of(e, page);
-        above = then(above, inner);
-        e = way::place_below(t, inner, key, guess);
+        let top = above.parent;
+        above = Above {
+            parent: e.child,
+            top,
+        };
+        e = way::place_below(t, e.child, page, key, guess);
         level -= 1;
     }
     Stepped::Damaged

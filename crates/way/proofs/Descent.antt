@@ -13,6 +13,7 @@ use Rattle.fields.specs.Field.{Bytes}
 use Rattle.rules.specs.Layout.{pageSize, leafKind, lastKey}
 use Rattle.rules.specs.Test.{mem}
 use Rattle.rules.specs.Page.{Page, isLeaf}
+use Rattle.rules.specs.Sound.{startsAt}
 use Rattle.rules.specs.Table.{read, fit0}
 use Rattle.rules.specs.Place.{rootPlace, kids, pick}
 use Rattle.rules.specs.Enter as entry
@@ -27,11 +28,10 @@ use Rattle.enter.specs.Entering as enters
 use Rattle.enter.specs.declared.Entered.{Entered}
 use Rattle.enter.specs.declared.Above.{Above}
 use Rattle.enter.proofs.Told.{enter-same, told-table, told-page, told-damaged}
-use Rattle.way.specs.Ways.{innerIn, placesBelow, Leads, Holds, stepOf, wayFor, thenOf, aboveIn, walking, wayOr, told}
+use Rattle.way.specs.Ways.{placesBelow, Leads, Holds, stepOf, wayFor, thenOf, aboveIn, walking, wayOr, told}
 use Rattle.way.specs.declared.Step.{Step}
 use Rattle.way.specs.declared.Way.{Way}
-use Rattle.way.specs.declared.Inner.{Inner}
-use Rattle.way.proofs.Below.{places-kids}
+use Rattle.way.proofs.Inner.{places-kids}
 use Rattle.way.proofs.Stood.{Ready, ready-root, ready-next, Stood, stood-here}
 
 -- ── The numbers above, as the code keeps them ───────────────────────────────────────────────────────────────────
@@ -162,33 +162,37 @@ module _ {n c k : ℕ} {t₀ t : List ℕ} {w : Way} {e : Place} {level : ℕ} (
       inner-here : isLeaf (page .0 .view) ≡ false
       inner-here = inner-of-kind (page .0 .view) (λ r. q (kind-here ∙ r))
 
-      leads-here : Leads k (innerIn e h) (page .0 .view)
+      low-here : h .low ≡ e .low
       unfolding headOf
-      leads-here =
+      low-here = ap (λ (x : Head). x .low) (page .2) ∙ stood .fits .low
+
+      high-here : h .high ≡ e .high
+      unfolding headOf
+      high-here = ap (λ (x : Head). x .high) (page .2) ∙ stood .fits .high
+
+      -- an inner page leads on
+      pub leads : Leads k h (read u (e .child) .view)
+      unfolding headOf
+      leads =
           let s = stood .fits .sound in
-          record {
+          let l : Leads k h (page .0 .view) = record {
             inner = inner-here;
             kind = kind-here;
             from = s .kind-from;
             count = ap (λ (x : Head). x .count) (page .2);
             room = s .children-room;
             rise = s .children-rise;
-            starts = s .starts inner-here;
-            low = d .ready .low;
-            high = d .ready .high;
-          }
+            starts = ap (λ (x : ℕ). startsAt x (page .0 .view .children)) low-here ∙ s .starts inner-here;
+            low = omega (arith, low-here, d .ready .low);
+            high = omega (arith, high-here, d .ready .high);
+          } in
+          subst (λ (x : Page). Leads k h (x .view)) (sym here) l
 
-      -- an inner page leads on
-      pub leads : (i : Inner) → i ≡ innerIn e h → Leads k i (read u (i .child) .view)
-      leads i q =
-          subst (λ (x : Inner). Leads k x (read u (x .child) .view)) (sym q)
-          (subst (λ (x : Page). Leads k (innerIn e h) (x .view)) (sym here) leads-here)
-
-      pub goes-on : (i : Inner) → i ≡ innerIn e h → (b : Place) → pick k (placesBelow i (read u (i .child) .view)) ≡ some b
+      pub goes-on : (b : Place) → pick k (placesBelow h (read u (e .child) .view)) ≡ some b
           → Descent n c k t₀ u (thenOf w (record { place = e; head = h })) b (level - 1)
-      goes-on i g b r =
-          let q′ : pick k (kids e (page .0 .view)) ≡ some b = ap (λ (x : Page). pick k (kids e (x .view))) (sym here) ∙ (ap (pick k) (sym (places-kids e h (read u (e .child) .view)))
-          ∙ (ap (λ (x : Inner). pick k (placesBelow x (read u (x .child) .view))) (sym g) ∙ r)) in
+      goes-on b r =
+          let q′ : pick k (kids e (page .0 .view)) ≡ some b = ap (λ (x : Page). pick k (kids e (x .view))) (sym here)
+          ∙ (ap (pick k) (sym (places-kids e h (read u (e .child) .view) high-here)) ∙ r) in
           record {
             above = record { place = e; page = read u (e .child) } ∷ d .above;
             way = then-here;
@@ -198,9 +202,3 @@ module _ {n c k : ℕ} {t₀ t : List ℕ} {w : Way} {e : Place} {level : ℕ} (
             deep = omega (arith, d .deep);
             ready = subst (λ (x : List ℕ). Ready n c k x b) (sym table) (ready-next (d .ready) (rules.numbers (d .above)) (page .0) (page .1) b q′);
           }
-
-      -- by the page that was entered
-      pub goes-above : (i : Inner) (g : i ≡ innerIn e h) (b : Place) (r : pick k (placesBelow i (read u (i .child) .view)) ≡ some b)
-          → goes-on i g b r .above ≡ record { place = e; page = read u (e .child) } ∷ d .above
-      unfolding goes-on
-      goes-above i g b r = refl

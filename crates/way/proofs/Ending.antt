@@ -17,10 +17,9 @@ use Rattle.head.specs.declared.Head.{Head}
 use Rattle.enter.specs.Entering as enters
 use Rattle.enter.specs.declared.Entered.{Entered}
 use Rattle.enter.specs.declared.Above.{Above}
-use Rattle.way.specs.Ways.{innerIn, placesBelow, noStep, wayFor, thenOf, aboveIn, walking, told, noEnd, spotAt, ending, endIn, Ending}
+use Rattle.way.specs.Ways.{placesBelow, noStep, wayFor, thenOf, aboveIn, walking, told, noEnd, spotAt, ending, endIn, Ending}
 use Rattle.way.specs.declared.Way.{Way}
 use Rattle.way.specs.declared.End.{End}
-use Rattle.way.specs.declared.Inner.{Inner}
 use Rattle.way.proofs.Descent as way
 use Rattle.way.proofs.Leaf.{spot-nowhere}
 
@@ -61,12 +60,11 @@ module _ {n c k : ℕ} {t₀ t : List ℕ} {a : Above} {e : Place} {level : ℕ}
           ∙ (ap (λ (y : ℕ). ending u (record { len = s .whole .len + 1; leaf = record { place = e; head = h }; spot = y })) g
           ∙ ap (endIn k) (way.ends (s .descent) o a (s .above) u h f q))
 
-      pub goes-on : (h .kind ≡ leafKind → ⊥) → (i : Inner) → i ≡ innerIn e h → (b : Place)
-          → pick k (placesBelow i (read u (i .child) .view)) ≡ some b
+      pub goes-on : (h .kind ≡ leafKind → ⊥) → (b : Place) → pick k (placesBelow h (read u (e .child) .view)) ≡ some b
           → Seeking n c k t₀ u (record { parent = e .child; top = a .parent }) b (level - 1)
-      goes-on q i g b r = record {
+      goes-on q b r = record {
         whole = thenOf (s .whole) (record { place = e; head = h });
-        descent = way.goes-on (s .descent) o a (s .above) u h f q i g b r;
+        descent = way.goes-on (s .descent) o a (s .above) u h f q b r;
         above = ap (λ (x : Above). record { parent = e .child; top = x .parent }) (s .above);
       }
 

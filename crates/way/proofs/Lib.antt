@@ -1,5 +1,5 @@
 pub mod Ahead
-pub mod Below
+pub mod Inner
 pub mod Leaf
 pub mod Stood
 pub mod Linked

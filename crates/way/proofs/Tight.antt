@@ -14,9 +14,6 @@ leaf-of-tight κs a pre z z′ l l′ p q =
     let e = p ∙ sym q in
     ((λ i. e i .end), (λ i. (e i .table, l .1)))
 
-pub inner-of-tight : Tight this.inner_of.Kinds.ps this.inner_of.Kinds.r this.inner_of.Reads.Pre this.inner_of.Reads.Post
-inner-of-tight κs a pre z z′ l l′ p q = (p ∙ sym q, refl)
-
 pub look-ahead-tight : Tight this.look_ahead.Kinds.ps this.look_ahead.Kinds.r this.look_ahead.Reads.Pre this.look_ahead.Reads.Post
 look-ahead-tight κs a pre z z′ l l′ p q = (p ∙ sym q, refl)
 

@@ -20,7 +20,6 @@ use Rattle.enter.specs.declared.Above.{Above}
 use Rattle.way.specs.declared.Step.{Step}
 use Rattle.way.specs.declared.Way.{Way}
 use Rattle.way.specs.declared.End.{End}
-use Rattle.way.specs.declared.Inner.{Inner}
 
 abbrev pub noStep : Step
 noStep = record {
@@ -97,22 +96,18 @@ pub record Holds (v : View) : Type 0 where
 
 -- ── An inner page that leads on ─────────────────────────────────────────────────────────────────────────────────
 
--- a page entered at a place, by its header
-abbrev pub innerIn : Place → Head → Inner
-innerIn e h = record { child = e .child; kind = h .kind; count = h .count; low = e .low; high = e .high }
+-- the places that the entries of a page ask for, by its header
+unfoldable pub placesBelow : Head → View → List Place
+placesBelow h v = placesIn (v .kind - 1) (h .high) (v .children)
 
--- the places that its entries ask for
-unfoldable pub placesBelow : Inner → View → List Place
-placesBelow p v = placesIn (v .kind - 1) (p .high) (v .children)
-
--- what it must be for a key of its range to lead further down
-pub record Leads (k : ℕ) (p : Inner) (v : View) : Type 0 where
+-- what an inner page must be for a key of its range to lead further down
+pub record Leads (k : ℕ) (h : Head) (v : View) : Type 0 where
   pub inner : isLeaf v ≡ false
-  pub kind : p .kind ≡ v .kind
+  pub kind : h .kind ≡ v .kind
   pub from : 1 ≤ v .kind
-  pub count : p .count ≡ count v
+  pub count : h .count ≡ count v
   pub room : length (v .children) ≤ innerRoom
   pub rise : rising (keys (v .children)) ≡ true
-  pub starts : startsAt (p .low) (v .children) ≡ true
-  pub low : p .low ≤ k
-  pub high : k ≤ p .high
+  pub starts : startsAt (h .low) (v .children) ≡ true
+  pub low : h .low ≤ k
+  pub high : k ≤ h .high

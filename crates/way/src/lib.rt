@@ -36,7 +36,7 @@ ghost use Rattle.rules.specs.Walk.{wayOf};
 ghost use Rattle.entries.specs.Spot.{keysIn, spotOf};
 ghost use Rattle.head.proofs.Headers.{headOf};
 ghost use Rattle.way.specs.Ahead.{aheadOf};
-ghost use Rattle.way.specs.Ways.{innerIn, placesBelow, Leads, Holds, noStep, wayFor, thenOf, aboveIn, walking, told, noEnd, spotAt, ending, endIn};
+ghost use Rattle.way.specs.Ways.{placesBelow, Leads, Holds, noStep, wayFor, thenOf, aboveIn, walking, told, noEnd, spotAt, ending, endIn};
 
 // A page entered: the place that asked for it, and its header.
 pub struct Step {
@@ -51,15 +51,6 @@ pub struct Way {
     pub leaf: Step,
     pub parent: Step,
     pub top: Step,
-}
-
-// An inner page as the way below it needs it: its number, kind and count, and the range of the place that asked for it.
-pub struct Inner {
-    pub child: u16,
-    pub kind: u16,
-    pub count: u16,
-    pub low: u64,
-    pub high: u64,
 }
 
 // The end of a way: its leaf, how many pages were entered, and how many of the leaf's keys are not above the one sought;
@@ -132,19 +123,6 @@ fn above(way: Way) -> Above
     }
 }
 
-// What an inner page that was entered leaves to the way below it.
-pub fn inner_of(e: Place, head: Head) -> Inner
-    ensures { λ r. ⌜ r ≡ innerIn e head ⌝ }
-{
-    Inner {
-        child: e.child,
-        kind: head.kind,
-        count: head.count,
-        low: e.low,
-        high: e.high,
-    }
-}
-
 // Where halving ends on a page that nobody has tested: in an inner page for the key of the way, in a leaf for the last
 // key wanted there. A page that is not sound may give any number, so every use of it begins with its confirmation.
 fn look_in(page: &[u8], key: u64, upto: u64) -> usize
@@ -186,18 +164,18 @@ fn place_in(page: &[u8], kind: u16, count: usize, high: u64, key: u64, guess: us
     head::kid(page, count, spot - 1, kind - 1, high)
 }
 
-// The same below a page that was entered.
-pub fn place_below(table: &[u8], page: Inner, key: u64, guess: usize) -> Place
-    requires { ⌜ ((page .child + 1) * pageSize ≤ length (now table)) × Leads key page (read (now table) (page .child) .view) ⌝ }
-    ensures { λ r. ⌜ pick key (placesBelow page (read (now (table .entry)) (page .child) .view)) ≡ some r ⌝ }
+// The same below a page that was entered, by its header.
+pub fn place_below(table: &[u8], i: u16, head: Head, key: u64, guess: usize) -> Place
+    requires { ⌜ ((i + 1) * pageSize ≤ length (now table)) × Leads key head (read (now table) i .view) ⌝ }
+    ensures { λ r. ⌜ pick key (placesBelow head (read (now (table .entry)) i .view)) ≡ some r ⌝ }
 {
-    let from = page.child as usize * PAGE;
+    let from = i as usize * PAGE;
     let to = from + PAGE;
     place_in(
         &table[from..to],
-        page.kind,
-        page.count as usize,
-        page.high,
+        head.kind,
+        head.count as usize,
+        head.high,
         key,
         guess,
     )
@@ -230,7 +208,7 @@ pub fn way_of(t: &mut [u8], n: usize, c: u32, key: u64) -> Way
         if head.kind == LEAF {
             return way;
         }
-        e = place_below(t, inner_of(e, head), key, guess);
+        e = place_below(t, e.child, head, key, guess);
         level -= 1;
     }
     no_way()
@@ -276,7 +254,7 @@ pub fn leaf_of(t: &mut [u8], n: usize, c: u32, key: u64) -> End
             parent: e.child,
             top,
         };
-        e = place_below(t, inner_of(e, page), key, guess);
+        e = place_below(t, e.child, page, key, guess);
         level -= 1;
     }
     no_end()

@@ -1,16 +1,19 @@
 -- `leaves::holds`: the two ends of a range.
 -- Assumes nothing.
-use mathlib.Core.Path.{sym}
-use Rattle.leaves.proofs.Begins.{holds-below, holds-from}
+use Rattle.leaves.proofs.Heads.{holds-below, holds-from}
 use native.Mathlib.Omega.{arith}
 use Rattle.leaves.proofs.holds.Statement.{statement}
 use Rattle.leaves.proofs.holds.Tie as tie
 
 returns : tie.Need-returns
-returns c = holds-below (c .before .before .args .page .low) (c .before .before .args .page .high) (c .before .before .args .key) (c .if1 .taken)
+returns c =
+    let args = c .before .before .args in
+    holds-below (args .head .low) (args .head .high) (args .key) (c .if1 .taken)
 
 returns-2 : tie.Need-returns-2
-returns-2 c = holds-from (c .before .before .before .args .page .low) (c .before .before .before .args .page .high) (c .before .before .before .args .key) (omega (arith, c .before .if1 .left))
+returns-2 c =
+    let args = c .before .before .before .args in
+    holds-from (args .head .low) (args .head .high) (args .key) (omega (arith, c .before .if1 .left))
 
 pub holds-spec : {M : Type 1} → statement M
 holds-spec = tie.close (tie.spec returns returns-2)

@@ -3,57 +3,63 @@
 use mathlib.Core.Path.{sym, ap, _∙_}
 use Rattle.rules.proofs.bytes.PageZero.{has-zero}
 use Rattle.enter.specs.Entering.{entering}
-use Rattle.way.specs.declared.Inner.{Inner}
 use Rattle.climbs.specs.Ground.{Ground}
-use Rattle.leaves.proofs.Climbing.{Climbing, begins, begins-leads, runs-out, damaged, leaf-room, leaf-rise, ends, leads, goes-on}
+use Rattle.way.proofs.Ending.{Seeking, goes-on}
+use Rattle.leaves.proofs.Climbing.{begins-lies, held-lies, held-leads, begins, runs-out, damaged, leaf-room, leaf-rise, ends, leads}
 use borrow.Author.Needs.{needs}
 use native.Mathlib.Omega.{arith}
 use Rattle.leaves.proofs.next.Statement.{statement}
 use Rattle.leaves.proofs.next.Tie as tie
 
 abbrev Inv-loop : tie.InvT-loop
-Inv-loop t₀ n c key upto above₀ e₀ level₀ t above e level = Climbing n c key t₀ t above e level
+Inv-loop t₀ n c key upto above₀ e₀ level₀ t above e level = Seeking n c key t₀ t above e level
 
 abbrev μ-loop : tie.MeasureT-loop
 μ-loop t₀ n c key upto above₀ e₀ level₀ t above e level = level
 
 holding-requires : tie.Need-holding-requires Inv-loop μ-loop
-holding-requires c κs = search needs
+holding-requires c κs =
+    let args = c .before .before .args in
+    let pre = c .before .before .pre in
+    let fits = c .before .before .fits in
+    let ground : Ground (args .n) (args .c) (args .t .now) = record { long = pre .0; bytes = c .before .slice-known .given; fit = pre .1; counter = omega (arith, fits .c) } in
+    begins-lies ground (args .cursor) (pre .2)
 
 place-requires : tie.Need-place-requires Inv-loop μ-loop
 place-requires c κs =
-    let args = c .before .before .before .args in
-    let pre = c .before .before .before .pre in
-    let fits = c .before .before .before .fits in
+    let args = c .before .before .before .before .args in
+    let pre = c .before .before .before .before .pre in
+    let fits = c .before .before .before .before .fits in
+    let slice-known = c .before .before .before .slice-known in
     let holding = c .before .holding in
-    let ground : Ground (args .n) (args .c) (args .t .now) = record { long = pre .0; bytes = c .before .before .slice-known .given; fit = pre .1; counter = omega (arith, fits .c) } in
-    (has-zero (args .n) (args .t .now) (pre .0) (pre .1), begins-leads ground (omega (arith, fits .key)) (args .cursor) (pre .2) (holding .result) (holding .ensures))
+    let ground : Ground (args .n) (args .c) (args .t .now) = record { long = pre .0; bytes = slice-known .given; fit = pre .1; counter = omega (arith, fits .c) } in
+    (has-zero (args .n) (args .t .now) (pre .0) (pre .1), held-lies ground (omega (arith, fits .key)) (args .cursor) (pre .2) (holding .result) (holding .ensures), held-leads ground (omega (arith, fits .key)) (args .cursor) (pre .2) (holding .result) (holding .ensures))
 
 levels-requires : tie.Need-levels-requires Inv-loop μ-loop
 levels-requires c κs = search needs
 
 loop-holds : tie.Need-loop-holds Inv-loop μ-loop
 loop-holds c =
-    let args = c .before .before .before .before .before .args in
-    let pre = c .before .before .before .before .before .pre in
-    let fits = c .before .before .before .before .before .fits in
+    let args = c .before .before .before .before .before .before .args in
+    let pre = c .before .before .before .before .before .before .pre in
+    let fits = c .before .before .before .before .before .before .fits in
+    let slice-known = c .before .before .before .before .before .slice-known in
     let holding = c .before .before .before .holding in
     let place = c .before .place in
     let levels = c .levels in
-    let ground : Ground (args .n) (args .c) (args .t .now) = record { long = pre .0; bytes = c .before .before .before .before .slice-known .given; fit = pre .1; counter = omega (arith, fits .c) } in
+    let ground : Ground (args .n) (args .c) (args .t .now) = record { long = pre .0; bytes = slice-known .given; fit = pre .1; counter = omega (arith, fits .c) } in
     begins ground (omega (arith, fits .key)) (args .cursor) (pre .2) (holding .result) (holding .ensures) (place .result) (levels .result) (place .ensures) (levels .ensures)
 
 look-ahead-requires : tie.Need-look-ahead-requires Inv-loop μ-loop
 look-ahead-requires c κs =
-    let ready = c .before .before .loop .inv .descent .ready in
+    let loop = c .before .before .loop in
+    let ready = loop .inv .descent .ready in
     omega (arith, ready .long, ready .child-below)
-
-numbers-requires : tie.Need-numbers-requires Inv-loop μ-loop
-numbers-requires c κs = search needs
 
 enter-requires : tie.Need-enter-requires Inv-loop μ-loop
 enter-requires c κs =
-    let ready = c .before .before .before .before .before .loop .inv .descent .ready in
+    let loop = c .before .before .before .before .loop in
+    let ready = loop .inv .descent .ready in
     (ready .long, ready .child-below)
 
 enum-known-page : tie.Need-enum-known-page Inv-loop μ-loop
@@ -63,75 +69,89 @@ enum-told : tie.Need-enum-told Inv-loop μ-loop
 enum-told c = search needs
 
 same-length : tie.Need-same-length Inv-loop μ-loop
-same-length c = omega (arith, c .before .before .before .before .enter .kept .0, c .before .before .before .before .before .before .before .before .before .before .loop .inv .descent .ready .long, c .before .before .before .before .before .before .before .before .before .before .before .before .before .before .before .before .pre .0)
+same-length c =
+    let pre = c .before .before .before .before .before .before .before .before .before .before .before .before .before .before .before .before .pre in
+    let loop = c .before .before .before .before .before .before .before .before .before .loop in
+    let enter = c .before .before .before .before .enter in
+    omega (arith, enter .kept .0, loop .inv .descent .ready .long, pre .0)
 
 returns : tie.Need-returns Inv-loop μ-loop
 returns c =
+    let args = c .before .before .before .before .before .before .before .before .before .before .before .before .before .before .before .before .args in
+    let loop = c .before .before .before .before .before .before .before .before .before .loop in
+    let loop-test = c .before .before .before .before .before .before .before .before .loop-test in
     let enter = c .before .before .before .before .enter in
-    let numbers = c .before .before .before .before .before .numbers in
-    damaged (c .before .before .before .before .before .before .before .before .before .before .loop .inv) (c .before .before .before .before .before .before .before .before .before .loop-test .taken) (numbers .result) (numbers .ensures) (c .before .before .before .before .before .before .before .before .before .before .before .before .before .before .before .before .args .upto) (enter .last .0) (ap (entering (enter .last .0)) (sym (c .enum-told .given .1)) ∙ enter .ensures)
+    damaged (loop .inv) (loop-test .taken) (args .upto) (enter .last .0) (ap (entering (enter .last .0)) (sym (c .enum-told .given .1)) ∙ enter .ensures)
 
 spot-at-requires : tie.Need-spot-at-requires Inv-loop μ-loop
 spot-at-requires c κs =
-    let loop = c .before .before .before .before .before .before .before .before .before .before .before .before .before .before .loop in
-    let o = c .before .before .before .before .before .before .before .before .before .before .before .before .before .loop-test .taken in
-    let numbers = c .before .before .before .before .before .before .before .before .before .numbers in
+    let loop = c .before .before .before .before .before .before .before .before .before .before .before .before .before .loop in
+    let loop-test = c .before .before .before .before .before .before .before .before .before .before .before .before .loop-test in
     let enter = c .before .before .before .before .before .before .before .before .enter in
     let page = c .before .before .before .before .page in
+    let o = loop-test .taken in
     let q = c .before .if1 .taken in
     let f = ap (entering (enter .last .0)) (sym (page .given .1)) ∙ enter .ensures in
-    (omega (arith, enter .kept .0, loop .inv .descent .ready .long, loop .inv .descent .ready .child-below), leaf-room (loop .inv) o (numbers .result) (numbers .ensures) (enter .last .0) (page .given .0 .0) f q, leaf-rise (loop .inv) o (numbers .result) (numbers .ensures) (enter .last .0) (page .given .0 .0) f q)
+    (omega (arith, enter .kept .0, loop .inv .descent .ready .long, loop .inv .descent .ready .child-below), leaf-room (loop .inv) o (enter .last .0) (page .given .0 .0) f q, leaf-rise (loop .inv) o (enter .last .0) (page .given .0 .0) f q)
 
 same-length-2 : tie.Need-same-length-2 Inv-loop μ-loop
-same-length-2 c = omega (arith, c .before .before .before .before .before .before .before .before .before .enter .kept .0, c .before .before .before .before .before .before .before .before .before .before .before .before .before .before .before .loop .inv .descent .ready .long, c .before .before .before .before .before .before .before .before .before .before .before .before .before .before .before .before .before .before .before .before .before .pre .0)
+same-length-2 c =
+    let pre = c .before .before .before .before .before .before .before .before .before .before .before .before .before .before .before .before .before .before .before .before .before .pre in
+    let loop = c .before .before .before .before .before .before .before .before .before .before .before .before .before .before .loop in
+    let enter = c .before .before .before .before .before .before .before .before .before .enter in
+    omega (arith, enter .kept .0, loop .inv .descent .ready .long, pre .0)
 
 returns-2 : tie.Need-returns-2 Inv-loop μ-loop
 returns-2 c =
-    let numbers = c .before .before .before .before .before .before .before .before .before .before .numbers in
+    let args = c .before .before .before .before .before .before .before .before .before .before .before .before .before .before .before .before .before .before .before .before .before .args in
+    let loop = c .before .before .before .before .before .before .before .before .before .before .before .before .before .before .loop in
+    let loop-test = c .before .before .before .before .before .before .before .before .before .before .before .before .before .loop-test in
     let enter = c .before .before .before .before .before .before .before .before .before .enter in
     let page = c .before .before .before .before .before .page in
+    let if1 = c .before .before .if1 in
     let spot-at = c .spot-at in
     let f = ap (entering (enter .last .0)) (sym (page .given .1)) ∙ enter .ensures in
-    ends (c .before .before .before .before .before .before .before .before .before .before .before .before .before .before .before .loop .inv) (c .before .before .before .before .before .before .before .before .before .before .before .before .before .before .loop-test .taken) (numbers .result) (numbers .ensures) (enter .last .0) (page .given .0 .0) f (c .before .before .if1 .taken) (c .before .before .before .before .before .before .before .before .before .before .before .before .before .before .before .before .before .before .before .before .before .args .upto) (spot-at .result) (spot-at .ensures)
-
-inner-of-requires : tie.Need-inner-of-requires Inv-loop μ-loop
-inner-of-requires c κs = search needs
-
-then-requires : tie.Need-then-requires Inv-loop μ-loop
-then-requires c κs = search needs
+    ends (loop .inv) (loop-test .taken) (enter .last .0) (page .given .0 .0) f (if1 .taken) (args .upto) (spot-at .result) (spot-at .ensures)
 
 place-below-requires : tie.Need-place-below-requires Inv-loop μ-loop
 place-below-requires c κs =
-    let loop = c .before .before .before .before .before .before .before .before .before .before .before .before .before .before .before .before .loop in
-    let numbers = c .before .before .before .before .before .before .before .before .before .before .before .numbers in
-    let enter = c .before .before .before .before .before .before .before .before .before .before .enter in
-    let page = c .before .before .before .before .before .before .page in
-    let inner-of = c .before .before .inner-of in
+    let loop = c .before .before .before .before .before .before .before .before .before .before .before .before .before .loop in
+    let loop-test = c .before .before .before .before .before .before .before .before .before .before .before .before .loop-test in
+    let enter = c .before .before .before .before .before .before .before .before .enter in
+    let page = c .before .before .before .before .page in
     let f = ap (entering (enter .last .0)) (sym (page .given .1)) ∙ enter .ensures in
-    (omega (arith, ap (λ (x : Inner). x .child) (inner-of .ensures), enter .kept .0, loop .inv .descent .ready .long, loop .inv .descent .ready .child-below), leads (loop .inv) (c .before .before .before .before .before .before .before .before .before .before .before .before .before .before .before .loop-test .taken) (numbers .result) (numbers .ensures) (enter .last .0) (page .given .0 .0) f (c .before .before .before .if1 .left) (inner-of .result) (inner-of .ensures))
+    (omega (arith, enter .kept .0, loop .inv .descent .ready .long, loop .inv .descent .ready .child-below), leads (loop .inv) (loop-test .taken) (enter .last .0) (page .given .0 .0) f (c .before .if1 .left))
 
 sub-level : tie.Need-sub-level Inv-loop μ-loop
-sub-level c = omega (arith, c .before .before .before .before .before .before .before .before .before .before .before .before .before .before .before .before .loop-test .taken)
+sub-level c =
+    let loop-test = c .before .before .before .before .before .before .before .before .before .before .before .before .before .loop-test in
+    omega (arith, loop-test .taken)
 
 loop-less : tie.Need-loop-less Inv-loop μ-loop
-loop-less c = omega (arith, c .before .before .before .before .before .before .before .before .before .before .before .before .before .before .before .before .loop-test .taken)
+loop-less c =
+    let loop-test = c .before .before .before .before .before .before .before .before .before .before .before .before .before .loop-test in
+    omega (arith, loop-test .taken)
 
 loop-again : tie.Need-loop-again Inv-loop μ-loop
 loop-again c =
-    let numbers = c .before .before .before .before .before .before .before .before .before .before .before .before .numbers in
-    let enter = c .before .before .before .before .before .before .before .before .before .before .before .enter in
-    let page = c .before .before .before .before .before .before .before .page in
-    let inner-of = c .before .before .before .inner-of in
-    let then = c .before .before .then in
+    let loop = c .before .before .before .before .before .before .before .before .before .before .before .before .before .before .loop in
+    let loop-test = c .before .before .before .before .before .before .before .before .before .before .before .before .before .loop-test in
+    let enter = c .before .before .before .before .before .before .before .before .before .enter in
+    let page = c .before .before .before .before .before .page in
+    let if1 = c .before .before .if1 in
     let place-below = c .place-below in
     let f = ap (entering (enter .last .0)) (sym (page .given .1)) ∙ enter .ensures in
-    goes-on (c .before .before .before .before .before .before .before .before .before .before .before .before .before .before .before .before .before .loop .inv) (c .before .before .before .before .before .before .before .before .before .before .before .before .before .before .before .before .loop-test .taken) (numbers .result) (numbers .ensures) (enter .last .0) (page .given .0 .0) f (c .before .before .before .before .if1 .left) (inner-of .result) (inner-of .ensures) (then .result) (then .ensures) (place-below .result) (place-below .ensures)
+    goes-on (loop .inv) (loop-test .taken) (enter .last .0) (page .given .0 .0) f (if1 .left) (place-below .result) (place-below .ensures)
 
 same-length-3 : tie.Need-same-length-3 Inv-loop μ-loop
-same-length-3 c = omega (arith, c .before .loop .inv .descent .ready .long, c .before .before .before .before .before .before .before .pre .0)
+same-length-3 c =
+    let pre = c .before .before .before .before .before .before .before .before .pre in
+    omega (arith, c .before .loop .inv .descent .ready .long, pre .0)
 
 returns-3 : tie.Need-returns-3 Inv-loop μ-loop
-returns-3 c = runs-out (c .before .loop .inv) (c .before .before .before .before .before .before .before .args .upto) (omega (arith, c .loop-test .left))
+returns-3 c =
+    let args = c .before .before .before .before .before .before .before .before .args in
+    runs-out (c .before .loop .inv) (args .upto) (omega (arith, c .loop-test .left))
 
 pub next-spec : {M : Type 1} → statement M
 next-spec =
@@ -144,7 +164,6 @@ next-spec =
     levels-requires
     loop-holds
     look-ahead-requires
-    numbers-requires
     enter-requires
     enum-known-page
     enum-told
@@ -153,8 +172,6 @@ next-spec =
     spot-at-requires
     same-length-2
     returns-2
-    inner-of-requires
-    then-requires
     place-below-requires
     sub-level
     loop-less

@@ -23,10 +23,15 @@ part-confirm-end : tie.Need-part-confirm-end
 part-confirm-end c = search needs
 
 confirm-requires : tie.Need-confirm-requires
-confirm-requires c κs = let l = length-pageAt (c .before .before .args .t .now) (c .before .before .args .child) (omega arith) in rw (page-part (c .before .before .args .t .now) (c .before .before .args .child)) (omega arith, omega (arith, l, c .before .before .pre .1), omega (arith, l), c .before .before .pre .2)
+confirm-requires c κs =
+    let args = c .before .before .args in
+    let pre = c .before .before .pre in
+    let l = length-pageAt (args .t .now) (args .child) (omega arith) in rw (page-part (args .t .now) (args .child)) (omega arith, omega (arith, l, pre .1), omega (arith, l), pre .2)
 
 returns : tie.Need-returns
-returns c = rw (page-part (c .before .before .before .args .t .now) (c .before .before .before .args .child)) at (c .confirm .ensures)
+returns c =
+    let args = c .before .before .before .args in
+    rw (page-part (args .t .now) (args .child)) at (c .confirm .ensures)
 
 pub spot-at-spec : {M : Type 1} → statement M
 spot-at-spec =

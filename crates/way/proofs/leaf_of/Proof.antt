@@ -8,7 +8,6 @@ use Rattle.way.proofs.Descent.{head-here, holds, leads}
 use Rattle.way.proofs.Ending.{Seeking, begins, runs-out, damaged, ends, goes-on}
 use borrow.Author.Needs.{needs}
 use native.Mathlib.Omega.{arith}
-use Rattle.way.specs.declared.Inner.{Inner}
 use Rattle.way.proofs.leaf_of.Statement.{statement}
 use Rattle.way.proofs.leaf_of.Tie as tie
 
@@ -109,44 +108,38 @@ returns-2 c =
     (ap (entering (enter .last .0)) (sym (page .given .1)) ∙ enter .ensures) (c .before .before .if1 .taken)
     (spot-at .result) (spot-at .ensures)
 
-inner-of-requires : tie.Need-inner-of-requires Inv-loop μ-loop
-inner-of-requires c κs = search needs
-
 place-below-requires : tie.Need-place-below-requires Inv-loop μ-loop
 place-below-requires c κs =
-    let loop = c .before .before .before .before .before .before .before .before .before .before .before .before .before .before .loop in
-    let loop-test = c .before .before .before .before .before .before .before .before .before .before .before .before .before .loop-test in
-    let enter = c .before .before .before .before .before .before .before .before .before .enter in
-    let page = c .before .before .before .before .before .page in
-    let inner-of = c .inner-of in
+    let loop = c .before .before .before .before .before .before .before .before .before .before .before .before .before .loop in
+    let loop-test = c .before .before .before .before .before .before .before .before .before .before .before .before .loop-test in
+    let enter = c .before .before .before .before .before .before .before .before .enter in
+    let page = c .before .before .before .before .page in
     let f = ap (entering (enter .last .0)) (sym (page .given .1)) ∙ enter .ensures in (
-      omega
-          (arith, ap (λ (x : Inner). x .child) (inner-of .ensures), enter .kept .0, loop .inv .descent .ready .long, loop .inv .descent .ready .child-below),
-      leads (loop .inv .descent) (loop-test .taken) (loop .above) (loop .inv .above) (enter .last .0) (page .given .0 .0) f
-          (c .before .before .if1 .left) (inner-of .result) (inner-of .ensures),
+      omega (arith, enter .kept .0, loop .inv .descent .ready .long, loop .inv .descent .ready .child-below),
+      leads (loop .inv .descent) (loop-test .taken) (loop .above) (loop .inv .above) (enter .last .0)
+          (page .given .0 .0) f (c .before .if1 .left),
     )
 
 sub-level : tie.Need-sub-level Inv-loop μ-loop
 sub-level c =
-    let loop-test = c .before .before .before .before .before .before .before .before .before .before .before .before .before .before .loop-test in
+    let loop-test = c .before .before .before .before .before .before .before .before .before .before .before .before .before .loop-test in
     omega (arith, loop-test .taken)
 
 loop-less : tie.Need-loop-less Inv-loop μ-loop
 loop-less c =
-    let loop-test = c .before .before .before .before .before .before .before .before .before .before .before .before .before .before .loop-test in
+    let loop-test = c .before .before .before .before .before .before .before .before .before .before .before .before .before .loop-test in
     omega (arith, loop-test .taken)
 
 loop-again : tie.Need-loop-again Inv-loop μ-loop
 loop-again c =
-    let loop = c .before .before .before .before .before .before .before .before .before .before .before .before .before .before .before .loop in
-    let loop-test = c .before .before .before .before .before .before .before .before .before .before .before .before .before .before .loop-test in
-    let enter = c .before .before .before .before .before .before .before .before .before .before .enter in
-    let page = c .before .before .before .before .before .before .page in
-    let inner-of = c .before .inner-of in
+    let loop = c .before .before .before .before .before .before .before .before .before .before .before .before .before .before .loop in
+    let loop-test = c .before .before .before .before .before .before .before .before .before .before .before .before .before .loop-test in
+    let enter = c .before .before .before .before .before .before .before .before .before .enter in
+    let page = c .before .before .before .before .before .page in
     let place-below = c .place-below in
     let f = ap (entering (enter .last .0)) (sym (page .given .1)) ∙ enter .ensures in
-    goes-on (loop .inv) (loop-test .taken) (enter .last .0) (page .given .0 .0) f (c .before .before .before .if1 .left)
-    (inner-of .result) (inner-of .ensures) (place-below .result) (place-below .ensures)
+    goes-on (loop .inv) (loop-test .taken) (enter .last .0) (page .given .0 .0) f (c .before .before .if1 .left)
+    (place-below .result) (place-below .ensures)
 
 no-end-requires-2 : tie.Need-no-end-requires-2 Inv-loop μ-loop
 no-end-requires-2 c κs = search needs
@@ -181,7 +174,6 @@ leaf-of-spec =
     spot-at-requires
     same-length-2
     returns-2
-    inner-of-requires
     place-below-requires
     sub-level
     loop-less

@@ -14,7 +14,11 @@ get16-requires-2 : tie.Need-get16-requires-2
 get16-requires-2 c κs = search needs
 
 returns : tie.Need-returns
-returns c = leaf-many (c .before .before .before .before .before .args .key) (c .before .before .before .before .before .args .upto) (c .before .before .before .before .before .args .page .now) (c .before .before .get162 .result) (c .before .before .before .get16 .result) (c .before .before .get162 .ensures) (c .before .before .before .get16 .ensures) (c .before .if1 .taken) (c .if2 .taken)
+returns c =
+    let args = c .before .before .before .before .before .args in
+    let get16 = c .before .before .before .get16 in
+    let get162 = c .before .before .get162 in
+    leaf-many (args .key) (args .upto) (args .page .now) (get162 .result) (get16 .result) (get162 .ensures) (get16 .ensures) (c .before .if1 .taken) (c .if2 .taken)
 
 cast-guess : tie.Need-cast-guess
 cast-guess c = search needs
@@ -23,10 +27,19 @@ guess-requires : tie.Need-guess-requires
 guess-requires c κs = search needs
 
 returns-2 : tie.Need-returns-2
-returns-2 c = c .guess .ensures ∙ leaf-few (c .before .before .before .before .before .before .args .key) (c .before .before .before .before .before .before .args .upto) (c .before .before .before .before .before .before .args .page .now) (c .before .before .before .get162 .result) (c .before .before .before .before .get16 .result) (c .before .before .before .get162 .ensures) (c .before .before .before .before .get16 .ensures) (c .before .before .if1 .taken) (omega (arith, c .before .if2 .left))
+returns-2 c =
+    let args = c .before .before .before .before .before .before .args in
+    let get16 = c .before .before .before .before .get16 in
+    let get162 = c .before .before .before .get162 in
+    let if1 = c .before .before .if1 in
+    c .guess .ensures ∙ leaf-few (args .key) (args .upto) (args .page .now) (get162 .result) (get16 .result) (get162 .ensures) (get16 .ensures) (if1 .taken) (omega (arith, c .before .if2 .left))
 
 returns-3 : tie.Need-returns-3
-returns-3 c = inner-many (c .before .before .before .before .before .args .key) (c .before .before .before .before .before .args .upto) (c .before .before .before .before .before .args .page .now) (c .before .before .get162 .result) (c .before .before .before .get16 .result) (c .before .before .get162 .ensures) (c .before .before .before .get16 .ensures) (c .before .if1 .left) (c .if3 .taken)
+returns-3 c =
+    let args = c .before .before .before .before .before .args in
+    let get16 = c .before .before .before .get16 in
+    let get162 = c .before .before .get162 in
+    inner-many (args .key) (args .upto) (args .page .now) (get162 .result) (get16 .result) (get162 .ensures) (get16 .ensures) (c .before .if1 .left) (c .if3 .taken)
 
 cast-guess-2 : tie.Need-cast-guess-2
 cast-guess-2 c = search needs
@@ -35,7 +48,12 @@ guess-requires-2 : tie.Need-guess-requires-2
 guess-requires-2 c κs = search needs
 
 returns-4 : tie.Need-returns-4
-returns-4 c = c .guess2 .ensures ∙ inner-few (c .before .before .before .before .before .before .args .key) (c .before .before .before .before .before .before .args .upto) (c .before .before .before .before .before .before .args .page .now) (c .before .before .before .get162 .result) (c .before .before .before .before .get16 .result) (c .before .before .before .get162 .ensures) (c .before .before .before .before .get16 .ensures) (c .before .before .if1 .left) (omega (arith, c .before .if3 .left))
+returns-4 c =
+    let args = c .before .before .before .before .before .before .args in
+    let get16 = c .before .before .before .before .get16 in
+    let get162 = c .before .before .before .get162 in
+    let if1 = c .before .before .if1 in
+    c .guess2 .ensures ∙ inner-few (args .key) (args .upto) (args .page .now) (get162 .result) (get16 .result) (get162 .ensures) (get16 .ensures) (if1 .left) (omega (arith, c .before .if3 .left))
 
 pub look-in-spec : {M : Type 1} → statement M
 look-in-spec =

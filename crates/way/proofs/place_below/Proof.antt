@@ -6,14 +6,11 @@ use Rattle.rules.specs.Place.{pick}
 use Rattle.rules.specs.Table.{pageAt, read}
 use Rattle.rules.proofs.bytes.Tables.{length-pageAt}
 use Rattle.entries.proofs.Part.{page-part}
-use Rattle.way.proofs.Below.{leads-kind, leads-room, leads-rise, leads-spot, leads-places}
+use Rattle.way.proofs.Inner.{leads-kind, leads-room, leads-rise, leads-spot, leads-places}
 use native.Mathlib.Omega.{arith}
 use borrow.Author.Needs.{needs}
 use Rattle.way.proofs.place_below.Statement.{statement}
 use Rattle.way.proofs.place_below.Tie as tie
-
-cast-from : tie.Need-cast-from
-cast-from c = search needs
 
 mul-from : tie.Need-mul-from
 mul-from c = search needs
@@ -36,28 +33,27 @@ cast-place-in c = search needs
 place-in-requires : tie.Need-place-in-requires
 unfolding read pageIn
 place-in-requires c κs =
-    let args = c .before .before .before .before .args in
-    let pre = c .before .before .before .before .pre in
-    let b = pageAt (args .table .now) (args .page .child) in
-    let l = length-pageAt (args .table .now) (args .page .child) (omega arith) in
+    let args = c .before .before .before .args in
+    let pre = c .before .before .before .pre in
+    let b = pageAt (args .table .now) (args .i) in
+    let l = length-pageAt (args .table .now) (args .i) (omega arith) in
     let g = pre .1 in
-    rw (page-part (args .table .now) (args .page .child))
-    (leads-kind b (args .page) (args .key) g, omega (arith, l, leads-room b (args .page) (args .key) g), omega (arith, l), leads-rise b (args .page) (args .key) g, g .high, leads-spot b (args .page) (args .key) g)
+    rw (page-part (args .table .now) (args .i))
+    (leads-kind b (args .head) (args .key) g, omega (arith, l, leads-room b (args .head) (args .key) g), omega (arith, l), leads-rise b (args .head) (args .key) g, g .high, leads-spot b (args .head) (args .key) g)
 
 returns : tie.Need-returns
 unfolding read pageIn
 returns c =
-    let args = c .before .before .before .before .before .args in
-    let pre = c .before .before .before .before .before .pre in
-    let b = pageAt (args .table .now) (args .page .child) in
-    ap (pick (args .key)) (leads-places b (args .page) (args .key) (pre .1))
-    ∙ rw (page-part (args .table .now) (args .page .child)) at (c .place-in .ensures)
+    let args = c .before .before .before .before .args in
+    let pre = c .before .before .before .before .pre in
+    let b = pageAt (args .table .now) (args .i) in
+    ap (pick (args .key)) (leads-places b (args .head) (args .key) (pre .1))
+    ∙ rw (page-part (args .table .now) (args .i)) at (c .place-in .ensures)
 
 pub place-below-spec : {M : Type 1} → statement M
 place-below-spec =
     tie.close
     (tie.spec
-    cast-from
     mul-from
     add-to
     sub-place-in

@@ -2,7 +2,7 @@
 -- Assumes nothing.
 use Prim.Native.Nat.{_-_}
 use Rattle.head.specs.Head.{nowhere}
-use Rattle.way.proofs.Below.{entry-before, rising-keysIn, pick-in}
+use Rattle.way.proofs.Inner.{entry-before, rising-keysIn, pick-in}
 use native.Mathlib.Omega.{arith}
 use borrow.Author.Needs.{needs}
 use Rattle.way.proofs.place_in.Statement.{statement}

@@ -6,9 +6,8 @@ use mathlib.Core.Path.{sym, ap, _∙_}
 use native.Mathlib.Omega.{arith}
 use Rattle.way.specs.Ways.{walking}
 use Rattle.rules.proofs.bytes.PageZero.{has-zero}
-use Rattle.way.proofs.Descent.{Descent, begins, runs-out, damaged, head-here, ends, leads, goes-on}
+use Rattle.way.proofs.Descent.{Descent, begins, runs-out, damaged, ends, leads, goes-on}
 use borrow.Author.Needs.{needs}
-use Rattle.way.specs.declared.Inner.{Inner}
 use Rattle.way.proofs.way_of.Statement.{statement}
 use Rattle.way.proofs.way_of.Tie as tie
 
@@ -101,47 +100,41 @@ returns-2 c =
     ∙ ends (loop .inv) (loop-test .taken) (above .result) (above .ensures) (enter .last .0) (head .given .0 .0)
     (ap (entering (enter .last .0)) (sym (head .given .1)) ∙ enter .ensures) (c .if1 .taken)
 
-inner-of-requires : tie.Need-inner-of-requires Inv-loop μ-loop
-inner-of-requires c κs = search needs
-
 place-below-requires : tie.Need-place-below-requires Inv-loop μ-loop
 place-below-requires c κs =
+    let loop = c .before .before .before .before .before .before .before .before .before .before .before .before .before .before .before .loop in
+    let loop-test = c .before .before .before .before .before .before .before .before .before .before .before .before .before .before .loop-test in
+    let above = c .before .before .before .before .before .before .before .before .before .before .above in
+    let enter = c .before .before .before .before .before .before .before .before .before .enter in
+    let head = c .before .before .before .before .before .head in
+    let f = ap (entering (enter .last .0)) (sym (head .given .1)) ∙ enter .ensures in (
+      omega (arith, enter .kept .0, loop .inv .ready .long, loop .inv .ready .child-below),
+      leads (loop .inv) (loop-test .taken) (above .result) (above .ensures) (enter .last .0) (head .given .0 .0) f
+          (c .before .if1 .left),
+    )
+
+sub-level : tie.Need-sub-level Inv-loop μ-loop
+sub-level c =
+    let loop-test = c .before .before .before .before .before .before .before .before .before .before .before .before .before .before .before .loop-test in
+    omega (arith, loop-test .taken)
+
+loop-less : tie.Need-loop-less Inv-loop μ-loop
+loop-less c =
+    let loop-test = c .before .before .before .before .before .before .before .before .before .before .before .before .before .before .before .loop-test in
+    omega (arith, loop-test .taken)
+
+loop-again : tie.Need-loop-again Inv-loop μ-loop
+loop-again c =
     let loop = c .before .before .before .before .before .before .before .before .before .before .before .before .before .before .before .before .loop in
     let loop-test = c .before .before .before .before .before .before .before .before .before .before .before .before .before .before .before .loop-test in
     let above = c .before .before .before .before .before .before .before .before .before .before .before .above in
     let enter = c .before .before .before .before .before .before .before .before .before .before .enter in
     let head = c .before .before .before .before .before .before .head in
-    let inner-of = c .inner-of in
-    let f = ap (entering (enter .last .0)) (sym (head .given .1)) ∙ enter .ensures in (
-      omega
-          (arith, ap (λ (x : Inner). x .child) (inner-of .ensures), enter .kept .0, loop .inv .ready .long, loop .inv .ready .child-below),
-      leads (loop .inv) (loop-test .taken) (above .result) (above .ensures) (enter .last .0) (head .given .0 .0) f
-          (c .before .before .if1 .left) (inner-of .result) (inner-of .ensures),
-    )
-
-sub-level : tie.Need-sub-level Inv-loop μ-loop
-sub-level c =
-    let loop-test = c .before .before .before .before .before .before .before .before .before .before .before .before .before .before .before .before .loop-test in
-    omega (arith, loop-test .taken)
-
-loop-less : tie.Need-loop-less Inv-loop μ-loop
-loop-less c =
-    let loop-test = c .before .before .before .before .before .before .before .before .before .before .before .before .before .before .before .before .loop-test in
-    omega (arith, loop-test .taken)
-
-loop-again : tie.Need-loop-again Inv-loop μ-loop
-loop-again c =
-    let loop = c .before .before .before .before .before .before .before .before .before .before .before .before .before .before .before .before .before .loop in
-    let loop-test = c .before .before .before .before .before .before .before .before .before .before .before .before .before .before .before .before .loop-test in
-    let above = c .before .before .before .before .before .before .before .before .before .before .before .before .above in
-    let enter = c .before .before .before .before .before .before .before .before .before .before .before .enter in
-    let head = c .before .before .before .before .before .before .before .head in
-    let then = c .before .before .before .before .before .then in
-    let inner-of = c .before .inner-of in
+    let then = c .before .before .before .before .then in
     let place-below = c .place-below in
     let f = ap (entering (enter .last .0)) (sym (head .given .1)) ∙ enter .ensures in
     rw (then .ensures)
-    (goes-on (loop .inv) (loop-test .taken) (above .result) (above .ensures) (enter .last .0) (head .given .0 .0) f (c .before .before .before .if1 .left) (inner-of .result) (inner-of .ensures) (place-below .result) (place-below .ensures))
+    (goes-on (loop .inv) (loop-test .taken) (above .result) (above .ensures) (enter .last .0) (head .given .0 .0) f (c .before .before .if1 .left) (place-below .result) (place-below .ensures))
 
 no-way-requires-3 : tie.Need-no-way-requires-3 Inv-loop μ-loop
 no-way-requires-3 c κs = search needs
@@ -176,7 +169,6 @@ way-of-spec =
     then-requires
     same-length-2
     returns-2
-    inner-of-requires
     place-below-requires
     sub-level
     loop-less

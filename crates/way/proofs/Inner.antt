@@ -1,6 +1,6 @@
 -- An inner page's entries by their keys: the place that a key leads to.
 -- Assumes nothing.
-use mathlib.Core.Path.{_≡_, refl, sym, ap, _∙_}
+use mathlib.Core.Path.{_≡_, sym, ap, _∙_}
 use mathlib.Core.Bool.{true}
 use mathlib.Core.List.{List, _∷_}
 use mathlib.Core.Option.{some}
@@ -21,8 +21,7 @@ use Rattle.entries.specs.Spot.{keysIn, spotOf}
 use Rattle.entries.proofs.KeysIn.{keys-children, length-keysIn, spot-bound}
 use Rattle.seek.proofs.Spots.{spot-above}
 use Rattle.seek.proofs.Found.{pick-at}
-use Rattle.way.specs.Ways.{innerIn, placesBelow, Leads}
-use Rattle.way.specs.declared.Inner.{Inner}
+use Rattle.way.specs.Ways.{placesBelow, Leads}
 
 -- the first so many entries of an inner page
 abbrev pub childrenIn : ℕ → List ℕ → List Child
@@ -50,37 +49,37 @@ module _ (b : List ℕ) (count : ℕ) where
 
 -- ── A page that leads on ────────────────────────────────────────────────────────────────────────────────────────
 
-module _ (b : List ℕ) (p : Inner) (k : ℕ) (l : Leads k p (viewIn b)) where
-  children-are : viewIn b .children ≡ childrenIn (p .count) b
+module _ (b : List ℕ) (h : Head) (k : ℕ) (l : Leads k h (viewIn b)) where
+  children-are : viewIn b .children ≡ childrenIn (h .count) b
   children-are =
       ap (λ (v : View). v .children) (view-inner b (λ q. inner-kind (viewIn b) (l .inner) (kind-view b ∙ q)))
       ∙ ap (λ (n : ℕ). childrenIn n b) (sym (l .count ∙ count-view b))
 
-  pub leads-kind : 1 ≤ p .kind
+  pub leads-kind : 1 ≤ h .kind
   leads-kind = omega (arith, l .kind, l .from)
 
-  pub leads-room : p .count ≤ innerRoom
-  leads-room = omega (arith, ap length children-are, length-children b (p .count), l .room)
+  pub leads-room : h .count ≤ innerRoom
+  leads-room = omega (arith, ap length children-are, length-children b (h .count), l .room)
 
-  pub leads-rise : rising (keys (childrenIn (p .count) b)) ≡ true
+  pub leads-rise : rising (keys (childrenIn (h .count) b)) ≡ true
   leads-rise = rw children-are at (l .rise)
 
   -- the first key is the place's low, so some key is not above
-  pub leads-spot : 1 ≤ spotOf k (keysIn childSize (p .count) b)
+  pub leads-spot : 1 ≤ spotOf k (keysIn childSize (h .count) b)
   unfolding keys
   leads-spot =
-      let s = starts-first (p .low) (viewIn b .children) (l .starts) in
-      let ks = keysIn childSize (p .count) b in
-      let q : (s .0) .key ∷ keys (s .1) ≡ ks = ap keys (sym (s .2) ∙ children-are) ∙ keys-children (p .count) b in
-      spot-above k 0 ks (rising-keysIn b (p .count) leads-rise) (omega (arith, ap length q)) (omega (arith, ap (λ (xs : List ℕ). getD xs 0 0) q, s .3, l .low))
+      let s = starts-first (h .low) (viewIn b .children) (l .starts) in
+      let ks = keysIn childSize (h .count) b in
+      let q : (s .0) .key ∷ keys (s .1) ≡ ks = ap keys (sym (s .2) ∙ children-are) ∙ keys-children (h .count) b in
+      spot-above k 0 ks (rising-keysIn b (h .count) leads-rise) (omega (arith, ap length q)) (omega (arith, ap (λ (xs : List ℕ). getD xs 0 0) q, s .3, l .low))
 
-  pub leads-places : placesBelow p (viewIn b) ≡ placesIn (p .kind - 1) (p .high) (childrenIn (p .count) b)
+  pub leads-places : placesBelow h (viewIn b) ≡ placesIn (h .kind - 1) (h .high) (childrenIn (h .count) b)
   unfolding placesBelow
   leads-places =
-      ap (λ (n : ℕ). placesIn (n - 1) (p .high) (viewIn b .children)) (sym (l .kind))
-      ∙ ap (placesIn (p .kind - 1) (p .high)) children-are
+      ap (λ (n : ℕ). placesIn (n - 1) (h .high) (viewIn b .children)) (sym (l .kind))
+      ∙ ap (placesIn (h .kind - 1) (h .high)) children-are
 
 -- the places below a page are those that the rules ask for at its place
-pub places-kids : (e : Place) (h : Head) (v : View) → placesBelow (innerIn e h) v ≡ kids e v
+pub places-kids : (e : Place) (h : Head) (v : View) → h .high ≡ e .high → placesBelow h v ≡ kids e v
 unfolding placesBelow kids
-places-kids e h v = refl
+places-kids e h v q = ap (λ (x : ℕ). placesIn (v .kind - 1) x (v .children)) q
