@@ -2,10 +2,12 @@
 use mathlib.Core.Path.{_≡_, refl, ap, _∙_}
 use mathlib.Core.Bool.{Bool, true, false, _&&_}
 use mathlib.Core.List.{List}
-use Prim.Native.Nat.{ℕ}
+use Prim.Native.Nat.{ℕ, _+_, _≤_, _<_}
 use native.Mathlib.Omega.{arith}
 use lib.Dec.{ltb}
 use borrow.Author.Tests.{lt-ltb, le-ltb}
+use Rattle.rules.specs.Layout.{lastKey}
+use Rattle.rules.specs.Key.{keyOf}
 use Rattle.rules.specs.Table.{fit0}
 use Rattle.rules.specs.Walk.{walkOf}
 use Rattle.rules.specs.Call.{Left, lengthsFor}
@@ -13,11 +15,28 @@ use Rattle.rules.specs.Newest as rules
 use Rattle.rules.specs.declared.Session.{Session}
 use Rattle.rules.specs.declared.Newest.{Newest}
 use Rattle.rules.specs.declared.Asked.{Asked}
-use Rattle.newest.specs.Newests.{answerOf, Seen, seeing, seen}
+use Rattle.newest.specs.Newests.{range, answerOf, Seen, seeing, seen}
 
 -- an answer with the session as it came
 abbrev pub left : Session → List ℕ → List ℕ → Newest → Left Newest
 left s w t answer = record { answer = answer; session = s; working = w; stable = t }
+
+-- ── The keys of a meter ─────────────────────────────────────────────────────────────────────────────────────────
+
+module _ (model serial low high : ℕ) (f : low ≡ keyOf model serial 1) (g : high ≡ keyOf model serial 65535) where
+  pub meter-range : range low high ≡ rules.meter model serial
+  unfolding rules.meter
+  meter-range = rw (f, g)
+
+  pub meter-rises : low ≤ high
+  unfolding keyOf
+  meter-rises = omega (arith, f, g)
+
+  pub meter-few : high < low + lastKey
+  unfolding keyOf
+  meter-few = omega (arith, f, g)
+
+-- ── The tests ───────────────────────────────────────────────────────────────────────────────────────────────────
 
 module _ (w t : List ℕ) (s : Session) (model serial : ℕ) where
   pub bad-length : lengthsFor s w t ≡ false → left s w t Newest.Length ≡ rules.newest w t s model serial

@@ -1,16 +1,35 @@
 -- What the call newest hands back, piece by piece, as the rules say it.
-use Prim.Native.Nat.{ℕ}
+use Prim.Native.Nat.{ℕ, zero, suc}
 use mathlib.Core.Bool.{true, false}
 use mathlib.Core.List.{List}
+use lib.Dec.{leb}
+use Rattle.rules.specs.Layout.{lastKey}
+use Rattle.rules.specs.Key.{issueOf}
+use Rattle.rules.specs.Entry.{Cert}
 use Rattle.rules.specs.Walk.{Walked}
 use Rattle.rules.specs.Call.{Left}
 use Rattle.rules.specs.Newest.{newestIn}
+use Rattle.rules.specs.declared.Asked.{Asked}
 use Rattle.rules.specs.declared.Newest.{Newest}
 use Rattle.rules.specs.declared.NewestOf.{NewestOf}
+use Rattle.head.specs.Head.{certAt}
 
 -- the whole of it
 abbrev pub leaving : NewestOf → List ℕ → List ℕ → Left Newest
 leaving r w t = record { answer = r .answer; session = r .session; working = w; stable = t }
+
+-- the asked range: from one key up to another, with more room than there are keys
+abbrev pub range : ℕ → ℕ → Asked
+range low high = record { low = low; high = high; room = lastKey }
+
+-- the newest is now this certificate, if it is not below the range
+unfoldable pub orThis : ℕ → Cert → Newest → Newest
+orThis low x before = elim (leb low (x .key)) [ true ↦ Newest.Found (issueOf (x .key)) (x .value) | false ↦ before ]
+
+-- the certificate before a spot of a leaf; there may be none
+unfoldable pub lastIn : ℕ → ℕ → List ℕ → Newest → Newest
+lastIn low zero b before = before
+lastIn low (suc j) b before = orThis low (certAt b j) before
 
 -- the answer from what a walk has come to: whether it met a damaged place, and the certificates found
 unfoldable pub answerOf : Walked → Newest

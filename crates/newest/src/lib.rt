@@ -1,63 +1,78 @@
 // Newest: the largest issue of a meter, and its record.
 //
-// `newest` asks nothing and tests everything, in document 01's order: lengths, model and serial, page 0, then the walk
-// over every page that can hold a certificate of the meter. Answer, session and every byte lent are those of the rules'
-// `newest`; what the walk mended stays mended, also behind a refusal. A damaged page among them is never passed over:
-// the newest certificate might stand there.
+// `newest` asks nothing and tests everything, in document 01's order: lengths, model and serial, page 0, then every leaf
+// that can hold a certificate of the meter. Answer, session and every byte lent are those of the rules' `newest`; what was
+// mended on the way stays mended, also behind a refusal. A damaged page is never passed over: the newest certificate might
+// stand there.
 //
-// Below stand `tables`, which tests lengths, `keys`, and `sweep`, which walks over a range of keys.
-use rules::Asked;
+// Of each leaf one certificate is looked at, the last that is not above the meter's keys. So the time goes with the
+// leaves of a meter, not with its certificates.
+//
+// Below stand `tables`, which tests lengths, `keys`, and `leaves`, which steps from leaf to leaf.
+use leaves::Stepped;
 use rules::Newest;
 use rules::NewestOf;
+use rules::PAGE;
 use rules::Session;
-use sweep::Sofar;
 ghost use mathlib.Core.Path.{_≡_};
 ghost use mathlib.Core.Bool.{true};
-ghost use Prim.Native.Nat.{_*_};
+ghost use Prim.Native.Nat.{_+_, _*_, _≤_, _<_};
 ghost use lib.ListN.{length};
-ghost use Rattle.rules.specs.Layout.{pageSize};
-ghost use Rattle.rules.specs.Table.{fit0};
-ghost use Rattle.rules.specs.Walk.{Walked, walkOf};
+ghost use Rattle.rules.specs.Layout.{pageSize, headerSize, certSize, leafRoom, lastKey};
+ghost use Rattle.rules.specs.Table.{pageAt, fit0};
+ghost use Rattle.rules.specs.Walk.{walkOf};
 ghost use Rattle.rules.specs.Newest as rules;
-ghost use Rattle.sweep.specs.Sweeps.{sofarOf};
-ghost use Rattle.newest.specs.Newests.{leaving, answerOf, seeing, seen};
+ghost use Rattle.newest.specs.Newests.{leaving, range, lastIn, seeing, seen};
 
 // How many issues a meter has, counting 0.
 const ISSUES: u64 = 65536;
 
-// More room than there are keys.
-const ROOM: usize = 18446744073709551615;
-
-// The asked range: every issue of one meter.
-fn meter(model: u16, serial: u32) -> Asked
-    ensures { λ r. ⌜ r ≡ rules.meter model serial ⌝ }
+// The last certificate before a spot of a leaf, if it is not below the range; else what was found before.
+fn last_in(page: &[u8], spot: usize, low: u64, newest: Newest) -> Newest
+    requires { ⌜ headerSize + certSize * spot ≤ length (now page) ⌝ }
+    ensures { λ r. ⌜ r ≡ lastIn low spot (now (page .entry)) newest ⌝ }
 {
-    Asked {
-        low: keys::key_of(model, serial, 1),
-        high: keys::key_of(model, serial, 65535),
-        room: ROOM,
+    if spot == 0 {
+        return newest;
     }
+    let key = head::cert_key(page, spot - 1);
+    if key < low {
+        return newest;
+    }
+    let record = head::cert_record(page, spot - 1);
+    Newest::Found((key % ISSUES) as u16, record)
 }
 
-// The answer, from what the walk has come to.
-fn answer(s: Sofar) -> Newest
-    ensures { λ r. ⌜ ((w : Walked) → s ≡ sofarOf (w .whole) (w .found) → r ≡ answerOf w) ⌝ }
+// The same on page i of a table.
+fn last_on(table: &[u8], i: u16, spot: usize, low: u64, newest: Newest) -> Newest
+    requires { ⌜ ((i + 1) * pageSize ≤ length (now table)) × (spot ≤ leafRoom) ⌝ }
+    ensures { λ r. ⌜ r ≡ lastIn low spot (pageAt (now (table .entry)) i) newest ⌝ }
 {
-    if !s.whole {
-        return Newest::Damaged;
-    }
-    if s.count == 0 {
-        return Newest::Missing;
-    }
-    Newest::Found((s.key % ISSUES) as u16, s.value)
+    let from = i as usize * PAGE;
+    let to = from + PAGE;
+    last_in(&table[from..to], spot, low, newest)
 }
 
-// The newest certificate of a range.
-fn look(t: &mut [u8], n: usize, c: u32, a: Asked) -> Newest
-    requires { ⌜ (length (now t) ≡ n * pageSize) × (fit0 n (now t) ≡ true) ⌝ }
-    ensures { λ r. ⌜ seeing (now (t .exit)) r ≡ seen (walkOf n c a (now (t .entry))) ⌝ }
+// The newest certificate of a range, leaf after leaf. A leaf without one leaves what an earlier one gave.
+fn look(t: &mut [u8], n: usize, c: u32, low: u64, high: u64) -> Newest
+    requires { ⌜ (length (now t) ≡ n * pageSize) × (fit0 n (now t) ≡ true) × (low ≤ high) × (high < low + lastKey) ⌝ }
+    ensures { λ r. ⌜ seeing (now (t .exit)) r ≡ seen (walkOf n c (range low high) (now (t .entry))) ⌝ }
 {
-    answer(sweep::sweep(t, n, c, a))
+    let mut newest = Newest::Missing;
+    let mut cursor = leaves::start();
+    let mut key = low;
+    while key <= high {
+        let Stepped::Leaf(leaf) = leaves::next(t, n, c, key, high, cursor) else {
+            return Newest::Damaged;
+        };
+        newest = last_on(t, leaf.child, leaf.spot, key, newest);
+        if leaf.high >= high {
+            return newest;
+        }
+        cursor = leaf.behind;
+        key = leaf.high + 1;
+    }
+    newest
 }
 
 pub fn newest(
@@ -95,6 +110,8 @@ pub fn newest(
             session,
         };
     }
-    let answer = look(working, n, session.c, meter(model, serial));
+    let low = keys::key_of(model, serial, 1);
+    let high = keys::key_of(model, serial, 65535);
+    let answer = look(working, n, session.c, low, high);
     NewestOf { answer, session }
 }

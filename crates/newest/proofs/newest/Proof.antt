@@ -2,7 +2,8 @@
 use mathlib.Core.Path.{refl, sym, _∙_}
 use borrow.Author.Tests.{not-true, not-false}
 use Rattle.rules.proofs.bytes.Lengths.{lengthsFor-true}
-use Rattle.newest.proofs.Calls.{bad-length, bad-model, bad-serial, bad-zero, answers}
+use Rattle.newest.specs.Newests.{range}
+use Rattle.newest.proofs.Calls.{meter-range, meter-rises, meter-few, bad-length, bad-model, bad-serial, bad-zero, answers}
 use native.Mathlib.Omega.{arith}
 use borrow.Author.Needs.{needs}
 use Rattle.newest.proofs.newest.Statement.{statement}
@@ -28,8 +29,9 @@ returns-2 : tie.Need-returns-2
 returns-2 c =
     let args = c .before .before .before .before .before .before .args in
     let lengths-for = c .before .before .lengths-for in
+    let if1 = c .before .if1 in
     bad-model (args .working .now) (args .stable .now) (args .session) (args .model) (args .serial)
-    (sym (lengths-for .ensures (args .session) refl) ∙ not-false (lengths-for .result) (c .before .if1 .left))
+    (sym (lengths-for .ensures (args .session) refl) ∙ not-false (lengths-for .result) (if1 .left))
     (c .if2 .taken)
 
 same-length-3 : tie.Need-same-length-3
@@ -39,9 +41,11 @@ returns-3 : tie.Need-returns-3
 returns-3 c =
     let args = c .before .before .before .before .before .before .before .args in
     let lengths-for = c .before .before .before .lengths-for in
+    let if1 = c .before .before .if1 in
+    let if2 = c .before .if2 in
     bad-serial (args .working .now) (args .stable .now) (args .session) (args .model) (args .serial)
-    (sym (lengths-for .ensures (args .session) refl) ∙ not-false (lengths-for .result) (c .before .before .if1 .left))
-    (c .before .if2 .left) (c .if3 .taken)
+    (sym (lengths-for .ensures (args .session) refl) ∙ not-false (lengths-for .result) (if1 .left))
+    (if2 .left) (c .if3 .taken)
 
 cast-n : tie.Need-cast-n
 cast-n c = search needs
@@ -70,18 +74,26 @@ returns-4 c =
     (sym (lengths-for .ensures (args .session) refl) ∙ not-false (lengths-for .result) (if1 .left)) (if2 .left)
     (if3 .left) (sym (fit0 .ensures) ∙ not-true (fit0 .result) (c .if4 .taken))
 
-meter-requires : tie.Need-meter-requires
-meter-requires c κs = search needs
+key-of-requires : tie.Need-key-of-requires
+key-of-requires c κs = search needs
+
+key-of-requires-2 : tie.Need-key-of-requires-2
+key-of-requires-2 c κs = search needs
 
 look-requires : tie.Need-look-requires
 look-requires c κs =
-    let args = c .before .before .before .before .before .before .before .before .before .before .before .before .before .args in
-    let lengths-for = c .before .before .before .before .before .before .before .before .before .lengths-for in
-    let if1 = c .before .before .before .before .before .before .before .before .if1 in
-    let fit0 = c .before .before .before .fit0 in (
+    let args = c .before .before .before .before .before .before .before .before .before .before .before .before .before .before .args in
+    let lengths-for = c .before .before .before .before .before .before .before .before .before .before .lengths-for in
+    let if1 = c .before .before .before .before .before .before .before .before .before .if1 in
+    let fit0 = c .before .before .before .before .fit0 in
+    let if4 = c .before .before .before .if4 in
+    let key-of = c .before .before .key-of in
+    let key-of2 = c .before .key-of2 in (
       lengthsFor-true (args .session) (args .working .now) (args .stable .now)
           (sym (lengths-for .ensures (args .session) refl) ∙ not-false (lengths-for .result) (if1 .left)) .working,
-      sym (fit0 .ensures) ∙ not-false (fit0 .result) (c .before .before .if4 .left),
+      sym (fit0 .ensures) ∙ not-false (fit0 .result) (if4 .left),
+      meter-rises (args .model) (args .serial) (key-of .result) (key-of2 .result) (key-of .ensures) (key-of2 .ensures),
+      meter-few (args .model) (args .serial) (key-of .result) (key-of2 .result) (key-of .ensures) (key-of2 .ensures),
     )
 
 same-length-5 : tie.Need-same-length-5
@@ -89,18 +101,21 @@ same-length-5 c = search needs
 
 returns-5 : tie.Need-returns-5
 returns-5 c =
-    let args = c .before .before .before .before .before .before .before .before .before .before .before .before .before .before .before .before .args in
-    let lengths-for = c .before .before .before .before .before .before .before .before .before .before .before .before .lengths-for in
-    let if1 = c .before .before .before .before .before .before .before .before .before .before .before .if1 in
-    let if2 = c .before .before .before .before .before .before .before .before .before .before .if2 in
-    let if3 = c .before .before .before .before .before .before .before .before .before .if3 in
-    let fit0 = c .before .before .before .before .before .before .fit0 in
-    let if4 = c .before .before .before .before .before .if4 in
-    let meter = c .before .before .before .meter in
+    let args = c .before .before .before .before .before .before .before .before .before .before .before .before .before .before .before .before .before .args in
+    let lengths-for = c .before .before .before .before .before .before .before .before .before .before .before .before .before .lengths-for in
+    let if1 = c .before .before .before .before .before .before .before .before .before .before .before .before .if1 in
+    let if2 = c .before .before .before .before .before .before .before .before .before .before .before .if2 in
+    let if3 = c .before .before .before .before .before .before .before .before .before .before .if3 in
+    let fit0 = c .before .before .before .before .before .before .before .fit0 in
+    let if4 = c .before .before .before .before .before .before .if4 in
+    let key-of = c .before .before .before .before .before .key-of in
+    let key-of2 = c .before .before .before .before .key-of2 in
     let look = c .before .before .look in
     answers (args .working .now) (args .stable .now) (args .session) (args .model) (args .serial)
     (sym (lengths-for .ensures (args .session) refl) ∙ not-false (lengths-for .result) (if1 .left)) (if2 .left)
-    (if3 .left) (sym (fit0 .ensures) ∙ not-false (fit0 .result) (if4 .left)) (meter .result) (meter .ensures)
+    (if3 .left) (sym (fit0 .ensures) ∙ not-false (fit0 .result) (if4 .left))
+    (range (key-of .result) (key-of2 .result))
+    (meter-range (args .model) (args .serial) (key-of .result) (key-of2 .result) (key-of .ensures) (key-of2 .ensures))
     (look .last .0) (look .result) (look .ensures)
 
 pub newest-spec : {M : Type 1} → statement M
@@ -118,7 +133,8 @@ newest-spec =
     fit0-requires
     same-length-4
     returns-4
-    meter-requires
+    key-of-requires
+    key-of-requires-2
     look-requires
     same-length-5
     returns-5)
