@@ -1,15 +1,14 @@
 -- The newest of a leaf's certificates in a range is the last one not above it, if that is not below it. Assumes nothing.
-use Prim.Native.Nat.{ℕ, zero, suc, _+_, _-_, _≤_, _<_}
+use Prim.Native.Nat.{ℕ, zero, suc, _≤_, _<_}
 use native.Mathlib.Omega.{arith}
-use mathlib.Core.Path.{_≡_, refl, sym, ap, _∙_, subst}
+use mathlib.Core.Path.{_≡_, refl, sym, ap, _∙_}
 use mathlib.Core.Bool.{Bool, true, false}
 use mathlib.Core.List.{List, [], _∷_, _++_}
 use lib.Dec.{leb}
-use lib.ListN.{length, getD, take}
-use lib.Seq.{take-all}
+use lib.ListN.{length, getD}
 use borrow.Author.Tests.{leb-true, leb-false, le-leb, lt-leb}
 use Rattle.rules.specs.Key.{issueOf}
-use Rattle.rules.specs.Test.{between, mem}
+use Rattle.rules.specs.Test.{mem}
 use Rattle.rules.specs.Entry.{Cert, keys, cut, rising}
 use Rattle.rules.specs.Newest.{newestIn}
 use Rattle.rules.specs.declared.Newest.{Newest}
@@ -69,10 +68,10 @@ module _ (low high : ℕ) (d : Cert) where
       later : (k : ℕ) → mem k (keys xs) ≡ true → x .key < k
       later k m = rises-mem (x .key) k (keys xs) (rising-from (x .key) (keys xs) r) m
 
-      IH : Type 0
-      IH = (b : Newest) → newestAfter b (cut low high xs) ≡ lastBefore low (spotOf high (keys xs)) xs d b
+      Rest : Type 0
+      Rest = (b : Newest) → newestAfter b (cut low high xs) ≡ lastBefore low (spotOf high (keys xs)) xs d b
 
-      -- one behind this is not below the range where this is not
+      -- where this one is not below the range, none behind it is
       one-more : low ≤ x .key → (s : ℕ) → s ≤ length xs
           → lastBefore low s xs d (Newest.Found (issueOf (x .key)) (x .value)) ≡ orThis low (getD (x ∷ xs) s d) before
       one-more l zero h = sym (this-in low x before l)
@@ -82,7 +81,7 @@ module _ (low high : ℕ) (d : Cert) where
           omega (arith, getD-keys xs j d, later (getD (keys xs) j (d .key)) (mem-at (keys xs) j (d .key) (omega (arith, length-keys xs)))) in
           this-in low y (Newest.Found (issueOf (x .key)) (x .value)) (omega arith) ∙ sym (this-in low y before (omega arith))
 
-      -- one behind this counts as before where this is below the range
+      -- where this one is below the range, it counts for nothing
       one-less : x .key < low → (s : ℕ) → lastBefore low s xs d before ≡ orThis low (getD (x ∷ xs) s d) before
       one-less l zero = sym (this-below low x before l)
       one-less l (suc j) = refl
@@ -90,26 +89,26 @@ module _ (low high : ℕ) (d : Cert) where
       all-above : high < x .key → cut low high xs ≡ []
       all-above h = cut-none low high xs (λ k m. between-above low high k (omega (arith, later k m)))
 
-      RHS : ℕ → Newest
-      RHS s = lastBefore low s (x ∷ xs) d before
+      upTo : ℕ → Newest
+      upTo s = lastBefore low s (x ∷ xs) d before
 
-      go : (a : Bool) → leb (x .key) high ≡ a → (b : Bool) → leb low (x .key) ≡ b → IH
+      go : (a : Bool) → leb (x .key) high ≡ a → (b : Bool) → leb low (x .key) ≡ b → Rest
           → newestAfter before (cut low high (x ∷ xs)) ≡ lastBefore low (spotOf high (x .key ∷ keys xs)) (x ∷ xs) d before
       go false p b q ih =
           let h = leb-false (x .key) high p in
           ap (newestAfter before) (cut-out low high x xs (between-above low high (x .key) h) ∙ all-above h)
-          ∙ ap RHS (sym (spot-first high (x .key) (keys xs) h))
+          ∙ ap upTo (sym (spot-first high (x .key) (keys xs) h))
       go true p true q ih =
           let h = leb-true (x .key) high p in
           let l = leb-true low (x .key) q in
           ap (newestAfter before) (cut-in low high x xs (between-of low high (x .key) l h))
           ∙ (ih (Newest.Found (issueOf (x .key)) (x .value))
           ∙ (one-more l (spotOf high (keys xs)) (omega (arith, spot-bound high (keys xs), length-keys xs))
-          ∙ ap RHS (sym (spot-cons high (x .key) (keys xs) h))))
+          ∙ ap upTo (sym (spot-cons high (x .key) (keys xs) h))))
       go true p false q ih =
           let h = leb-true (x .key) high p in
           let l = leb-false low (x .key) q in
           ap (newestAfter before) (cut-out low high x xs (between-below low high (x .key) l))
           ∙ (ih before
           ∙ (one-less l (spotOf high (keys xs))
-          ∙ ap RHS (sym (spot-cons high (x .key) (keys xs) h))))
+          ∙ ap upTo (sym (spot-cons high (x .key) (keys xs) h))))

@@ -7,8 +7,8 @@ use lib.ListN.{length, getD, drop}
 use lib.Seq.{drop-drop}
 use Rattle.rules.specs.Layout.{headerSize, certSize}
 use Rattle.rules.specs.Key.{issueOf}
-use Rattle.rules.specs.Entry.{Cert, keys}
-use Rattle.rules.specs.Page.{certIn, viewIn, pageIn}
+use Rattle.rules.specs.Entry.{Cert}
+use Rattle.rules.specs.Page.{certIn, pageIn}
 use Rattle.rules.specs.Table.{pageAt, read}
 use Rattle.rules.specs.declared.Newest.{Newest}
 use Rattle.rules.proofs.bytes.Each.{readEach-at, length-readEach}

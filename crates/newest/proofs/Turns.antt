@@ -2,8 +2,8 @@
 -- the certificates found so far. Assumes nothing.
 use Prim.Native.Nat.{ℕ, _+_, _-_, _≤_, _<_}
 use native.Mathlib.Omega.{arith}
-use mathlib.Core.Path.{_≡_, refl, sym, ap, _∙_, subst}
-use mathlib.Core.Bool.{true, false}
+use mathlib.Core.Path.{_≡_, refl, sym, ap, _∙_}
+use mathlib.Core.Bool.{true}
 use mathlib.Core.List.{List, [], _++_}
 use lib.ListN.{length, length-append}
 use lib.Seq.{take-all}
@@ -16,7 +16,6 @@ use Rattle.rules.specs.Newest.{newestIn}
 use Rattle.rules.specs.declared.Asked.{Asked}
 use Rattle.rules.specs.declared.Newest.{Newest}
 use Rattle.rules.proofs.entries.Rises.{length-keys}
-use Rattle.entries.specs.Spot.{spotOf}
 use Rattle.entries.proofs.KeysIn.{spot-bound}
 use Rattle.climbs.specs.Rest.{rest}
 use Rattle.climbs.specs.After.{after}
