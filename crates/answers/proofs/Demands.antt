@@ -23,7 +23,7 @@ use Rattle.answers.proofs.Ends.{format-given, open-given, sync-given}
 use Rattle.answers.proofs.Looks.{lookup-given}
 use Rattle.answers.proofs.Inserts.{insert-given}
 use Rattle.answers.proofs.Ranges.{newest-given, list-given}
-use Rattle.answers.proofs.Refused.{insert-mended, lookup-mended}
+use Rattle.answers.proofs.Refused.{insert-mended, insert-unwalked, lookup-mended}
 use Rattle.answers.proofs.Lefts.{newest-mended, list-mended}
 
 -- ── The numbers beside a refusal ────────────────────────────────────────────────────────────────────────────────
@@ -99,6 +99,7 @@ demand1 = record {
       (list-given w t s start ks xs);
   sync-answers = λ w t s. given-number (syncCauses w t s) (syncedNo (sync w t s .answer)) (sync-given w t s);
   insert-refused = insert-mended;
+  insert-unwalked = insert-unwalked;
   lookup-mends = lookup-mended;
   newest-mends = newest-mended;
   list-mends = list-mended;

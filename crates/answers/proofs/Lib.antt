@@ -5,6 +5,7 @@ pub mod Levels
 pub mod Meets
 pub mod RangeSteps
 pub mod RangeMeets
+pub mod AsItStands
 pub mod Tells
 pub mod Ends
 pub mod Looks

@@ -1,6 +1,7 @@
 -- A refused insert leaves what the walk of its key has mended, and nothing else; a lookup too. Assumes nothing.
 use Prim.Native.Nat.{ℕ}
 use mathlib.Core.Path.{_≡_, refl, ap}
+use mathlib.Core.Logic.{inl, inr}
 use mathlib.Core.Bool.{Bool, true, false}
 use mathlib.Core.List.{List}
 use mathlib.Core.Option.{Option, some, none}
@@ -13,9 +14,12 @@ use Rattle.rules.specs.Call.{insertedNo, lengthsFor}
 use Rattle.rules.specs.Insert.{insert, insertKey, insertAlong, insertDone, insertRefused, splitting, tooSoon, noRoom}
 use Rattle.rules.specs.Lookup.{lookup, lookupKey, lookupLeft}
 use Rattle.rules.specs.declared.Session.{Session}
+use Rattle.rules.proofs.entries.Tests.{not-both}
 use Rattle.rules.proofs.demand1.Refusals as rules
 use Rattle.answers.specs.OneKey.{MendedBy, nothing}
+use Rattle.answers.specs.Causes.{BeforeWalk}
 use Rattle.answers.specs.Demand1.{Refused, WalkMended}
+use Rattle.answers.proofs.Tells.{good-lengths, good-key}
 use Rattle.answers.proofs.Walks.{way-mended}
 
 -- ── Insert ──────────────────────────────────────────────────────────────────────────────────────────────────────
@@ -69,6 +73,20 @@ module _ (w t : List ℕ) (s : Session) (model serial issue x : ℕ) where
   insert-mended h =
       let r = rules.insert-refused w t s model serial issue x (λ e. h (ap insertedNo e)) in
       record { working = insert-left h; stable = r .stable; session = r .session }
+
+  -- nothing before the walk
+  pub insert-unwalked : BeforeWalk w t s model serial issue → rules.Unchanged w t s (insert w t s model serial issue x)
+  unfolding insert insertRefused
+  insert-unwalked h = go (lengthsFor s w t) refl (goodParts model serial issue) refl (fit0 (s .n) w) refl h
+    where
+      go : (a : Bool) → lengthsFor s w t ≡ a → (b : Bool) → goodParts model serial issue ≡ b → (c : Bool) → fit0 (s .n) w ≡ c
+          → BeforeWalk w t s model serial issue → rules.Unchanged w t s (insert w t s model serial issue x)
+      go false p b q c o h = rw (insert, p) (record { working = refl; stable = refl; session = refl })
+      go true p false q c o h = rw (insert, p, q) (record { working = refl; stable = refl; session = refl })
+      go true p true q false o h = rw (insert, p, q, o) (record { working = refl; stable = refl; session = refl })
+      go true p true q true o (inl h) = absurd (good-lengths w t s p h)
+      go true p true q true o (inr (inl h)) = absurd (good-key model serial issue q h)
+      go true p true q true o (inr (inr h)) = absurd (not-both o h)
 
 -- ── Lookup ──────────────────────────────────────────────────────────────────────────────────────────────────────
 

@@ -4,17 +4,17 @@ use Prim.Native.Nat.{ℕ, _<_}
 use native.Mathlib.Omega.{arith}
 use mathlib.Core.Path.{_≡_, refl, sym, ap, _∙_}
 use mathlib.Core.Logic.{_⊎_, inl, inr}
-use mathlib.Core.Bool.{Bool, true, false, _&&_, true≢false}
+use mathlib.Core.Bool.{Bool, true, false, not, _&&_, true≢false}
 use mathlib.Core.List.{List, [], _∷_}
 use mathlib.Core.Option.{some, Option·none-ne-some}
 use lib.Dec.{leb, ltb}
 use lib.ListN.{length}
 use borrow.Author.Tests.{ltb-true, ltb-false, lt-ltb, leb-true, leb-false}
 use Rattle.rules.specs.Layout.{lastNumber}
-use Rattle.rules.specs.Test.{every}
+use Rattle.rules.specs.Test.{every, all, mem, distinct}
 use Rattle.rules.specs.Key.{goodParts}
 use Rattle.rules.specs.Table.{pages, goodLengths, fit0}
-use Rattle.rules.specs.Tree.{treeOf, goodTree}
+use Rattle.rules.specs.Tree.{Tree, treeOf, goodTree}
 use Rattle.rules.specs.Entry.{find}
 use Rattle.rules.specs.Walk.{Step, numbers, certsAt, wayOf, walkOf}
 use Rattle.rules.specs.Marks.{freePages}
@@ -22,11 +22,13 @@ use Rattle.rules.specs.Call.{lengthsFor}
 use Rattle.rules.specs.Insert.{rootSplits, newPages, tooHigh, noRoom}
 use Rattle.rules.specs.declared.Session.{Session}
 use Rattle.rules.specs.declared.Asked.{Asked}
-use Rattle.rules.proofs.entries.Tests.{and-left, and-right, or-cases, or-left, or-right, and-of, not-both}
+use Rattle.rules.proofs.entries.Tests.{Holds, every-true, and-left, and-right, or-cases, or-left, or-right, and-of, not-both}
 use Rattle.rules.proofs.bytes.Keys.{Good, goodParts-true}
 use Rattle.rules.proofs.bytes.Lengths.{goodLengths-true, tables-good, lengthsFor-true, tables-lengthsFor}
 use Rattle.answers.proofs.Meets.{damage-none}
 use Rattle.answers.proofs.RangeMeets.{damage-cuts}
+use Rattle.answers.proofs.AsItStands.{not-whole, whole-none, not-distinct, distinct-none, not-spared, spared-none}
+use Rattle.answers.specs.AsItStands.{HasDamage, NamedTwice, ChildSpared}
 use Rattle.answers.specs.Causes.{BadTables, BadLengths, BadKey, BadMeter, DamagedWay, DamagedRange, DamagedTree, stepsIn, entered, under, Full}
 
 -- ── Lengths ─────────────────────────────────────────────────────────────────────────────────────────────────────
@@ -81,16 +83,42 @@ module _ (model serial issue : ℕ) where
 -- ── An opening's tests ──────────────────────────────────────────────────────────────────────────────────────────
 
 module _ (t : List ℕ) where
-  pub bad-tree : (fit0 (pages t) t && goodTree (treeOf (pages t) t)) ≡ false → DamagedTree t
+  abbrev now : Tree
+  now = treeOf (pages t) t
+
+  abbrev Fails : Type 0
+  Fails = HasDamage (pages t) t ⊎ (NamedTwice (pages t) t ⊎ ChildSpared (pages t) t)
+
+  bad-tests : goodTree now ≡ false → Fails
+  unfolding goodTree every
+  bad-tests h = go (now .whole) refl (distinct (now .children)) refl (all (λ i. not (mem i (now .children))) (now .spared)) refl
+    where
+      go : (a : Bool) → now .whole ≡ a → (b : Bool) → distinct (now .children) ≡ b
+          → (c : Bool) → all (λ i. not (mem i (now .children))) (now .spared) ≡ c → Fails
+      go false p b q c o = inl (not-whole (pages t) t p)
+      go true p false q c o = inr (inl (not-distinct (pages t) t q))
+      go true p true q false o = inr (inr (not-spared (pages t) t o))
+      go true p true q true o = absurd (not-both (rw (p, q, o)) h)
+
+  good-tests : goodTree now ≡ true → Fails → ⊥
+  unfolding goodTree
+  good-tests h = go (every-true _ h)
+    where
+      go : Holds (now .whole ∷ distinct (now .children) ∷ all (λ i. not (mem i (now .children))) (now .spared) ∷ []) → Fails → ⊥
+      go f (inl d) = whole-none (pages t) t (f .0) d
+      go f (inr (inl d)) = distinct-none (pages t) t (f .1 .0) d
+      go f (inr (inr d)) = spared-none (pages t) t (f .0) (f .1 .1 .0) d
+
+  pub bad-tree : (fit0 (pages t) t && goodTree now) ≡ false → DamagedTree t
   bad-tree h = go (fit0 (pages t) t) refl h
     where
-      go : (a : Bool) → fit0 (pages t) t ≡ a → (a && goodTree (treeOf (pages t) t)) ≡ false → DamagedTree t
+      go : (a : Bool) → fit0 (pages t) t ≡ a → (a && goodTree now) ≡ false → DamagedTree t
       go false e h = inl e
-      go true e h = inr h
+      go true e h = inr (bad-tests h)
 
-  pub good-tree : (fit0 (pages t) t && goodTree (treeOf (pages t) t)) ≡ true → DamagedTree t → ⊥
-  good-tree h (inl e) = not-both (and-left (fit0 (pages t) t) (goodTree (treeOf (pages t) t)) h) e
-  good-tree h (inr e) = not-both (and-right (fit0 (pages t) t) (goodTree (treeOf (pages t) t)) h) e
+  pub good-tree : (fit0 (pages t) t && goodTree now) ≡ true → DamagedTree t → ⊥
+  good-tree h (inl e) = not-both (and-left (fit0 (pages t) t) (goodTree now) h) e
+  good-tree h (inr e) = good-tests (and-right (fit0 (pages t) t) (goodTree now) h) e
 
 pub spent : (k : ℕ) → leb k lastNumber ≡ false → lastNumber < k
 spent k h = leb-false k lastNumber h

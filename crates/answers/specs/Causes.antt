@@ -11,7 +11,6 @@ use Rattle.rules.specs.Key.{keyOf}
 use Rattle.rules.specs.Entry.{find}
 use Rattle.rules.specs.Table.{pages, number0, fit0}
 use Rattle.rules.specs.Walk.{Step, numbers, certsAt, wayOf, walkOf}
-use Rattle.rules.specs.Tree.{treeOf, goodTree}
 use Rattle.rules.specs.Marks.{freePages}
 use Rattle.rules.specs.Insert.{splitting, tooSoon, rootSplits, newPages, tooHigh}
 use Rattle.rules.specs.Newest.{meter}
@@ -22,6 +21,7 @@ use Rattle.rules.proofs.bytes.Lengths.{Tables}
 use Rattle.answers.specs.Given.{Cause, _when_}
 use Rattle.answers.specs.OneKey.{MeetsDamage}
 use Rattle.answers.specs.Range.{MeetsDamageIn}
+use Rattle.answers.specs.AsItStands.{HasDamage, NamedTwice, ChildSpared}
 
 -- ── 1 length ────────────────────────────────────────────────────────────────────────────────────────────────────
 
@@ -53,9 +53,15 @@ DamagedWay s k w = (fit0 (s .n) w ≡ false) ⊎ MeetsDamage (s .n) (s .c) k w
 abbrev pub DamagedRange : Session → Asked → List ℕ → Type 0
 DamagedRange s a w = (fit0 (s .n) w ≡ false) ⊎ MeetsDamageIn (s .n) (s .c) a w
 
--- page 0 is unfit, or an opening test fails: the tree as it stands
+-- page 0 is unfit, or an opening test fails: the tree as it stands has a damaged place, a number named twice as child,
+-- or a child that a lost entry names as previous
 abbrev pub DamagedTree : List ℕ → Type 0
-DamagedTree t = (fit0 (pages t) t ≡ false) ⊎ (goodTree (treeOf (pages t) t) ≡ false)
+DamagedTree t =
+    (fit0 (pages t) t ≡ false) ⊎ (HasDamage (pages t) t ⊎ (NamedTwice (pages t) t ⊎ ChildSpared (pages t) t))
+
+-- what a call for one key answers before its walk: 1, 2, and 3 for an unfit page 0
+abbrev pub BeforeWalk : List ℕ → List ℕ → Session → ℕ → ℕ → ℕ → Type 0
+BeforeWalk w t s model serial issue = BadLengths s w t ⊎ (BadKey model serial issue ⊎ (fit0 (s .n) w ≡ false))
 
 -- ── 4 none, 5 present, 6 syncfirst, 7 full ──────────────────────────────────────────────────────────────────────
 

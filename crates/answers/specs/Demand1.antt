@@ -23,6 +23,7 @@ use Rattle.rules.specs.declared.Listed.{Listed}
 use Rattle.rules.proofs.demand1.Refusals.{Unchanged}
 use Rattle.answers.specs.OneKey.{MendedBy}
 use Rattle.answers.specs.Range.{MendedIn}
+use Rattle.answers.specs.Causes.{BeforeWalk}
 
 -- ── Words ───────────────────────────────────────────────────────────────────────────────────────────────────────
 
@@ -65,6 +66,9 @@ pub record Demand1 : Type 0 where
   pub insert-refused : (w t : List ℕ) (s : Session) (model serial issue x : ℕ)
       → Refused (insertedNo (insert w t s model serial issue x .answer))
       → WalkMended (keyOf model serial issue) w t s (insert w t s model serial issue x)
+  -- and nothing at all where it is refused before its walk
+  pub insert-unwalked : (w t : List ℕ) (s : Session) (model serial issue x : ℕ) → BeforeWalk w t s model serial issue
+      → Unchanged w t s (insert w t s model serial issue x)
   -- a call that reads changes no more, whatever it answers
   pub lookup-mends : (w t : List ℕ) (s : Session) (model serial issue : ℕ)
       → WalkMended (keyOf model serial issue) w t s (lookup w t s model serial issue)

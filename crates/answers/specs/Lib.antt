@@ -2,6 +2,7 @@
 pub mod Given
 pub mod OneKey
 pub mod Range
+pub mod AsItStands
 pub mod Causes
 pub mod When
 pub mod Demand1

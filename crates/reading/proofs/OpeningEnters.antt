@@ -26,7 +26,8 @@ use Rattle.rules.proofs.bytes.Lengths.{pages-of, goodLengths-true}
 use Rattle.rules.proofs.demand3.ways.Ways.{Node}
 use Rattle.rules.proofs.demand3.ways.Nodes.{node-root}
 use Rattle.rules.proofs.demand3.epochs.Opens.{kid-node}
-use Rattle.reading.specs.Entering.{InTree, at-root, below, EnteredFrom, none-yet, one-more, Gives, Alike, OpeningEnters}
+use Rattle.answers.specs.AsItStands.{InTree, at-root, below}
+use Rattle.reading.specs.Entering.{EnteredFrom, none-yet, one-more, Gives, Alike, OpeningEnters}
 use Rattle.reading.proofs.Soundly.{Passing, Shows, shows-itself, enter-seen}
 use Rattle.reading.proofs.TreeCerts.{all-ordered}
 use Rattle.reading.proofs.SameTree.{same-held}

@@ -13,13 +13,14 @@ use Rattle.rules.specs.Table.{fit0, root0}
 use Rattle.rules.specs.Place.{rootPlace, kids, pick, show}
 use Rattle.rules.specs.Tree.{Tree, broken, join, sparedAt, here, treeEach, tree, treeOf, goodTree}
 use Rattle.rules.specs.declared.Place.{Place}
-use Rattle.rules.proofs.entries.Tests.{and-left, and-right, every-true, between-low, between-high, mem-head, mem-tail, mem-left, mem-right, all-mem, not-both, distinct-head, distinct-tail, distinct-left, distinct-right, distinct-apart}
+use Rattle.rules.proofs.entries.Tests.{every-true, between-low, between-high, mem-head, mem-tail, mem-left, mem-right, all-mem, not-both, distinct-head, distinct-tail, distinct-left, distinct-right, distinct-apart}
 use Rattle.rules.proofs.entries.Picks.{pick-mem}
 use Rattle.rules.proofs.bytes.PageZero.{root-previous}
 use Rattle.rules.proofs.demand3.ways.Ways.{at, Node, Lost, Undamaged}
 use Rattle.rules.proofs.demand3.ways.Invariant.{Rooted, Good}
 use Rattle.rules.proofs.demand3.ways.Nodes.{above, at-root}
 use Rattle.rules.proofs.demand3.epochs.Opens.{tree-shown, spared-lost}
+use Rattle.answers.proofs.AsItStands.{each-whole, each-spare}
 
 -- ── From a place down, first step first ─────────────────────────────────────────────────────────────────────────
 
@@ -63,15 +64,6 @@ whole-shows (suc level) n t e h = go (show n t e) refl
     go (some v) s = record { view = v; shows = s }
 
 module _ (f : Place → Tree) where
-  each-whole : (es : List Place) (d : Place) → List·Memᴰ d es → treeEach f es .whole ≡ true → f d .whole ≡ true
-  unfolding treeEach join
-  each-whole [] d m h = absurd (List·Memᴰ·not-nil m)
-  each-whole (e ∷ es) d m h = go (List·Memᴰ·cases-cons m) (each-whole es d)
-    where
-      go : (d ≡ e) ⊎ List·Memᴰ d es → (List·Memᴰ d es → treeEach f es .whole ≡ true → f d .whole ≡ true) → f d .whole ≡ true
-      go (inl q) ih = ap (λ (x : Place). f x .whole) q ∙ and-left (f e .whole) (treeEach f es .whole) h
-      go (inr m) ih = ih m (and-right (f e .whole) (treeEach f es .whole) h)
-
   each-child : (i : ℕ) (es : List Place) (d : Place) → List·Memᴰ d es → mem i (f d .children) ≡ true → mem i (treeEach f es .children) ≡ true
   unfolding treeEach join
   each-child i [] d m h = absurd (List·Memᴰ·not-nil m)
@@ -81,16 +73,6 @@ module _ (f : Place → Tree) where
           → mem i (f e .children ++ treeEach f es .children) ≡ true
       go (inl q) ih = mem-left i (f e .children) (treeEach f es .children) (ap (λ (x : Place). mem i (f x .children)) (sym q) ∙ h)
       go (inr m) ih = mem-right i (f e .children) (treeEach f es .children) (ih m h)
-
-  each-spare : (i : ℕ) (es : List Place) (d : Place) → List·Memᴰ d es → mem i (f d .spared) ≡ true → mem i (treeEach f es .spared) ≡ true
-  unfolding treeEach join
-  each-spare i [] d m h = absurd (List·Memᴰ·not-nil m)
-  each-spare i (e ∷ es) d m h = go (List·Memᴰ·cases-cons m) (each-spare i es d)
-    where
-      go : (d ≡ e) ⊎ List·Memᴰ d es → (List·Memᴰ d es → mem i (f d .spared) ≡ true → mem i (treeEach f es .spared) ≡ true)
-          → mem i (f e .spared ++ treeEach f es .spared) ≡ true
-      go (inl q) ih = mem-left i (f e .spared) (treeEach f es .spared) (ap (λ (x : Place). mem i (f x .spared)) (sym q) ∙ h)
-      go (inr m) ih = mem-right i (f e .spared) (treeEach f es .spared) (ih m h)
 
   -- a number below two kids is below one kid only
   each-once : (i : ℕ) (es : List Place) (d b : Place) → List·Memᴰ d es → List·Memᴰ b es → distinct (treeEach f es .children) ≡ true

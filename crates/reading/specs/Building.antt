@@ -5,7 +5,7 @@ use mathlib.Core.Logic.{_≢_}
 use mathlib.Core.Bool.{true}
 use mathlib.Core.Option.{some}
 use Rattle.rules.specs.Layout.{lastKey}
-use Rattle.rules.specs.Entry.{Below, find}
+use Rattle.rules.specs.Entry.{find}
 use Rattle.rules.specs.Page.{View, Page, isLeaf, fresh}
 use Rattle.rules.specs.Place.{mended}
 use Rattle.rules.specs.Walk.{Step}

@@ -2,7 +2,7 @@
 use Prim.Native.Nat.{ℕ, _^_, _≤_, _<_}
 use mathlib.Core.Path.{_≡_}
 use mathlib.Core.Bool.{true, false}
-use mathlib.Core.List.{List, List·Memᴰ}
+use mathlib.Core.List.{List}
 use mathlib.Core.Option.{some}
 use lib.ListN.{length}
 use Rattle.fields.specs.Field.{Bytes}
@@ -10,20 +10,16 @@ use Rattle.rules.specs.Layout.{lastKey}
 use Rattle.rules.specs.Test.{mem}
 use Rattle.rules.specs.Page.{View, Page}
 use Rattle.rules.specs.Table.{pages}
-use Rattle.rules.specs.Place.{rootPlace, kids, show}
+use Rattle.rules.specs.Place.{show}
 use Rattle.rules.specs.Enter.{Entered, enter}
 use Rattle.rules.specs.Walk.{walkOf}
 use Rattle.rules.specs.Tree.{treeOf}
 use Rattle.rules.specs.Open.{opening}
 use Rattle.rules.specs.declared.Place.{Place}
 use Rattle.rules.specs.declared.Opened.{Opened}
+use Rattle.answers.specs.AsItStands.{InTree}
 
--- ── The places of a tree ────────────────────────────────────────────────────────────────────────────────────────
-
--- the root, and what the entries of what is shown ask for
-pub data InTree (n : ℕ) (t : List ℕ) : Place → Type 0 where
-  at-root : {e : Place} → e ≡ rootPlace t → InTree n t e
-  below : {e : Place} (d : Place) (v : View) → InTree n t d → show n t d ≡ some v → List·Memᴰ e (kids d v) → InTree n t e
+-- ── Places entered one after the other ──────────────────────────────────────────────────────────────────────────
 
 -- u comes of t by entering places of t's tree, in any order, none below itself
 pub data EnteredFrom (n c : ℕ) (t : List ℕ) : List ℕ → Type 0 where
