@@ -1,12 +1,13 @@
 -- The last of certificates that rise is the newest of its meter.
 use Prim.Native.Nat.{ℕ, suc, _-_, _^_, _≤_, _<_}
 use native.Mathlib.Omega.{arith}
-use mathlib.Core.Path.{_≡_, refl, sym, ap, _∙_}
+use mathlib.Core.Path.{_≡_, refl, sym, ap, _∙_, subst}
 use mathlib.Core.Bool.{true}
 use mathlib.Core.List.{List, [], _∷_}
 use mathlib.Core.Option.{some, none}
 use lib.ListN.{length}
 use lib.Seq.{take-all}
+use Rattle.rules.specs.Layout.{lastKey}
 use Rattle.rules.specs.Test.{between, all}
 use Rattle.rules.specs.Key.{keyOf, issueOf}
 use Rattle.rules.specs.Entry.{Cert, keys, find, cut, risesFrom, rising}
@@ -16,6 +17,7 @@ use Rattle.rules.specs.declared.Newest.{Newest}
 use Rattle.rules.proofs.entries.Tests.{all-head, all-tail, all-imp, all-mem, between-wider, between-of, between-low, between-high}
 use Rattle.rules.proofs.entries.Rises.{rises-head, rises-tail, rises-mem, rising-from, rising-tail, length-keys}
 use Rattle.rules.proofs.entries.Entries.{find-head, find-tail, mem-find, find-cut, cut-within, cut-rising}
+use Rattle.reading.specs.Reading.{lastIssue}
 use Rattle.reading.specs.Agreeing.{Largest, found, missing}
 use Rattle.reading.proofs.Gathers.{gather}
 
@@ -72,6 +74,18 @@ last-of x (y ∷ ys) r =
       none-above = λ k h. find-tail k x (y ∷ ys) (λ q. absurd (omega (arith, q, h, up))) ∙ l .none-above k h;
     }
 
+-- ── The issues of a meter ───────────────────────────────────────────────────────────────────────────────────────
+
+-- an issue has 16 bits in its key
+issues-fit : lastIssue < 2 ^ 16
+unfolding lastIssue issueOf keyOf meter
+issues-fit = omega arith
+
+-- it ends a meter's range
+meter-high : (model serial : ℕ) → meter model serial .high ≡ keyOf model serial lastIssue
+unfolding lastIssue issueOf keyOf meter
+meter-high model serial = refl
+
 -- ── Of one meter ────────────────────────────────────────────────────────────────────────────────────────────────
 
 module _ (certs : List Cert) (rise : rising (keys certs) ≡ true) (model serial : ℕ) (wide : serial < 2 ^ 32) where
@@ -79,21 +93,24 @@ module _ (certs : List Cert) (rise : rising (keys certs) ≡ true) (model serial
   low = keyOf model serial 1
 
   abbrev high : ℕ
-  high = keyOf model serial 65535
+  high = keyOf model serial lastIssue
 
   abbrev own : List Cert
   own = cut low high certs
 
   -- there is room for all of them
-  few : length own ≤ 65535
+  few : length own ≤ lastIssue
   unfolding keyOf
   few = omega (arith, length-rising low high (keys own) (cut-rising low high certs rise) (cut-within low high certs), length-keys own)
 
   pub gather-meter : gather (meter model serial) [] certs ≡ own
   unfolding meter
-  gather-meter = gather-all (meter model serial) certs (omega (arith, few))
+  gather-meter =
+      gather-all (meter model serial) certs
+      (subst (λ (h : ℕ). length (cut low h certs) ≤ lastKey) (sym (meter-high model serial)) (omega (arith, few, issues-fit)))
+      ∙ ap (λ (h : ℕ). cut low h certs) (meter-high model serial)
 
-  in-meter : (j : ℕ) → 1 ≤ j → j < 65536 → find (keyOf model serial j) own ≡ find (keyOf model serial j) certs
+  in-meter : (j : ℕ) → 1 ≤ j → j ≤ lastIssue → find (keyOf model serial j) own ≡ find (keyOf model serial j) certs
   unfolding keyOf
   in-meter j a b = find-cut low high (keyOf model serial j) certs (between-of low high (keyOf model serial j) (omega arith) (omega arith))
 
@@ -102,9 +119,9 @@ module _ (certs : List Cert) (rise : rising (keys certs) ≡ true) (model serial
   above-issue i j h = omega arith
 
   -- a key in the meter's range is that of its issue
-  issue-of : (k : ℕ) → low ≤ k → k ≤ high → (keyOf model serial (issueOf k) ≡ k) × (1 ≤ issueOf k)
+  issue-of : (k : ℕ) → low ≤ k → k ≤ high → (keyOf model serial (issueOf k) ≡ k) × (1 ≤ issueOf k) × (issueOf k ≤ lastIssue)
   unfolding keyOf issueOf
-  issue-of k a b = (omega arith, omega arith)
+  issue-of k a b = (omega (arith, issues-fit), omega (arith, issues-fit), omega (arith, issues-fit))
 
   pub largest : Largest certs model serial (newestIn own)
   unfolding newestIn find
@@ -117,7 +134,7 @@ module _ (certs : List Cert) (rise : rising (keys certs) ≡ true) (model serial
           let f : find k own ≡ some (l .entry .value) = ap (find k) q ∙ l .finds in
           let b = all-mem (between low high) k (keys own) (cut-within low high certs) (mem-find k own (l .entry .value) f) in
           let i = issue-of k (between-low low high k b) (between-high low high k b) in
-          found (issueOf k) (l .entry .value) (ap newestIn q ∙ l .answer)
+          found (issueOf k) (l .entry .value) (ap newestIn q ∙ l .answer) (i .1) (i .2)
           (ap (λ (j : ℕ). find j certs) (i .0) ∙ (sym (find-cut low high k certs b) ∙ f))
           (λ j h m. sym (in-meter j (omega (arith, i .1, h)) m)
           ∙ (ap (find (keyOf model serial j)) q ∙ l .none-above (keyOf model serial j) (omega (arith, above-issue (issueOf k) j h, i .0))))

@@ -24,6 +24,7 @@ use Rattle.rules.specs.declared.Inserted.{Inserted}
 use Rattle.rules.specs.declared.Looked.{Looked}
 use Rattle.rules.specs.declared.Newest.{Newest}
 use Rattle.rules.specs.declared.Listed.{Listed}
+use Rattle.reading.specs.Reading.{lastIssue}
 use Rattle.reading.specs.Inserting.{inserted}
 
 -- ── What the tree holds ─────────────────────────────────────────────────────────────────────────────────────────
@@ -49,11 +50,11 @@ answerFor (some x) = Looked.Found x
 
 -- the largest issue of a meter among some certificates, and its record
 pub data Largest (certs : List Cert) (model serial : ℕ) (answer : Newest) : Type 0 where
-  found : (i x : ℕ) → answer ≡ Newest.Found i x → find (keyOf model serial i) certs ≡ some x
-      → ((j : ℕ) → i < j → j < 65536 → find (keyOf model serial j) certs ≡ none)
+  found : (i x : ℕ) → answer ≡ Newest.Found i x → 1 ≤ i → i ≤ lastIssue → find (keyOf model serial i) certs ≡ some x
+      → ((j : ℕ) → i < j → j ≤ lastIssue → find (keyOf model serial j) certs ≡ none)
       → Largest certs model serial answer
   missing : answer ≡ Newest.Missing
-      → ((j : ℕ) → 1 ≤ j → j < 65536 → find (keyOf model serial j) certs ≡ none)
+      → ((j : ℕ) → 1 ≤ j → j ≤ lastIssue → find (keyOf model serial j) certs ≡ none)
       → Largest certs model serial answer
 
 -- the first so many from a start on, in two lists

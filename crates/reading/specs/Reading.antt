@@ -9,8 +9,13 @@ use Rattle.rules.specs.Entry.{Cert}
 use Rattle.rules.specs.Page.{isLeaf}
 use Rattle.rules.specs.Walk.{Step, wayOf}
 use Rattle.rules.specs.Lookup.{lookup}
+use Rattle.rules.specs.Newest.{meter}
 use Rattle.rules.specs.declared.Session.{Session}
 use Rattle.rules.specs.declared.Looked.{Looked}
+
+-- the last issue that newest asks for, where the range of every meter ends: 65,535
+unfoldable pub lastIssue : ℕ
+lastIssue = issueOf (meter 1 1 .high)
 
 -- ── A record that is found ──────────────────────────────────────────────────────────────────────────────────────
 
