@@ -23,8 +23,8 @@ use Rattle.answers.proofs.Ends.{format-given, open-given, sync-given}
 use Rattle.answers.proofs.Looks.{lookup-given}
 use Rattle.answers.proofs.Inserts.{insert-given}
 use Rattle.answers.proofs.Ranges.{newest-given, list-given}
-use Rattle.answers.proofs.Refused.{insert-mended, insert-unwalked, lookup-mended}
-use Rattle.answers.proofs.Lefts.{newest-mended, list-mended}
+use Rattle.answers.proofs.Refused.{insert-mended, insert-unwalked, insert-stands, lookup-mended, lookup-stands}
+use Rattle.answers.proofs.Lefts.{newest-mended, newest-stands, list-mended, list-stands}
 
 -- ── The numbers beside a refusal ────────────────────────────────────────────────────────────────────────────────
 
@@ -103,6 +103,10 @@ demand1 = record {
   lookup-mends = lookup-mended;
   newest-mends = newest-mended;
   list-mends = list-mended;
+  insert-stands = insert-stands;
+  lookup-stands = lookup-stands;
+  newest-stands = newest-stands;
+  list-stands = list-stands;
   open-refused = λ w s h. rules.opening-refused w s (not-opened (opening w s .answer) h);
   sync-refused = λ w t s h. rules.sync-refused w t s (not-synced (sync w t s .answer) h);
   list-refused-keys = λ w t s start ks xs h.

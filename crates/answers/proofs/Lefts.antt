@@ -1,22 +1,32 @@
 -- What newest and list leave: what their walk has mended, and nothing else. Assumes nothing.
 use Prim.Native.Nat.{ℕ}
+use native.Mathlib.Omega.{arith}
 use mathlib.Core.Path.{_≡_, refl}
 use mathlib.Core.Bool.{Bool, true, false, _&&_}
-use mathlib.Core.List.{List}
+use mathlib.Core.List.{List, [], _∷_}
 use lib.Dec.{ltb}
+use Rattle.rules.specs.Entry.{Cert}
 use Rattle.rules.specs.Table.{fit0}
 use Rattle.rules.specs.Walk.{walkOf}
-use Rattle.rules.specs.Call.{lengthsFor}
-use Rattle.rules.specs.Newest.{newest, newestMeter, newestLeft, meter}
+use Rattle.rules.specs.Call.{lengthsFor, newestNo, listedNo}
+use Rattle.rules.specs.Newest.{newest, newestMeter, newestLeft, newestIn, meter}
 use Rattle.rules.specs.List.{list, listFrom, listDone, listRefused, upFrom}
 use Rattle.rules.specs.declared.Session.{Session}
 use Rattle.rules.specs.declared.Asked.{Asked}
 use Rattle.rules.proofs.demand1.Refusals as rules
-use Rattle.answers.specs.Range.{MendedIn, nothing}
+use Rattle.answers.specs.Range.{StopsIn, MendedIn, nothing}
 use Rattle.answers.specs.Demand1.{RangeMended}
 use Rattle.answers.proofs.RangeWalks.{range-mended}
+use Rattle.answers.proofs.RangeMeets.{cut-stops}
 
 -- ── Newest ──────────────────────────────────────────────────────────────────────────────────────────────────────
+
+-- what was found is no damage
+not-damaged : (xs : List Cert) → newestNo (newestIn xs) ≡ 3 → ⊥
+unfolding newestNo newestIn
+not-damaged [] h = omega (arith, h)
+not-damaged (x ∷ []) h = omega (arith, h)
+not-damaged (x ∷ (y ∷ ys)) h = not-damaged (y ∷ ys) h
 
 meter-left : (a : Asked) (s : Session) (w t : List ℕ) → MendedIn (s .n) (s .c) a w (newestMeter a s w t .working)
 unfolding newestMeter newestLeft
@@ -45,6 +55,21 @@ module _ (w t : List ℕ) (s : Session) (model serial : ℕ) where
       let r = rules.newest-mends w t s model serial in
       record { working = newest-left; stable = r .stable; session = r .session }
 
+  pub newest-stands : fit0 (s .n) w ≡ true → newestNo (newest w t s model serial .answer) ≡ 3
+      → StopsIn (s .n) (s .c) (meter model serial) w (newest w t s model serial .working)
+  unfolding newest newestMeter newestLeft newestNo
+  newest-stands f h =
+      go (lengthsFor s w t) refl (ltb 0 model && ltb 0 serial) refl (walkOf (s .n) (s .c) (meter model serial) w .whole) refl
+    where
+      go : (a : Bool) → lengthsFor s w t ≡ a → (b : Bool) → (ltb 0 model && ltb 0 serial) ≡ b
+          → (c : Bool) → walkOf (s .n) (s .c) (meter model serial) w .whole ≡ c
+          → StopsIn (s .n) (s .c) (meter model serial) w (newest w t s model serial .working)
+      go false p b q c o = absurd (omega (arith, rw (newest, p) at h))
+      go true p false q c o = absurd (omega (arith, rw (newest, p, q) at h))
+      go true p true q true o =
+          absurd (not-damaged (walkOf (s .n) (s .c) (meter model serial) w .found) (rw (newest, p, q, f, newestMeter, o) at h))
+      go true p true q false o = rw (newest, p, q, f, newestMeter, o) (cut-stops (s .n) (s .c) (meter model serial) w o)
+
 -- ── List ────────────────────────────────────────────────────────────────────────────────────────────────────────
 
 module _ (w t : List ℕ) (s : Session) (start : ℕ) (ks xs : List ℕ) where
@@ -72,3 +97,14 @@ module _ (w t : List ℕ) (s : Session) (start : ℕ) (ks xs : List ℕ) where
   list-mended =
       let r = rules.list-mends s w t start ks xs in
       record { working = list-left; stable = r .stable; session = r .session }
+
+  pub list-stands : fit0 (s .n) w ≡ true → listedNo (list w t s start ks xs .answer) ≡ 3
+      → StopsIn (s .n) (s .c) (upFrom start ks xs) w (list w t s start ks xs .working)
+  unfolding list listFrom listDone listRefused listedNo
+  list-stands f h = go (lengthsFor s w t) refl (walkOf (s .n) (s .c) (upFrom start ks xs) w .whole) refl
+    where
+      go : (a : Bool) → lengthsFor s w t ≡ a → (b : Bool) → walkOf (s .n) (s .c) (upFrom start ks xs) w .whole ≡ b
+          → StopsIn (s .n) (s .c) (upFrom start ks xs) w (list w t s start ks xs .working)
+      go false p b q = absurd (omega (arith, rw (list, p) at h))
+      go true p true q = absurd (omega (arith, rw (list, p, f, listFrom, q) at h))
+      go true p false q = rw (list, p, f, listFrom, q) (cut-stops (s .n) (s .c) (upFrom start ks xs) w q)

@@ -4,6 +4,7 @@ pub mod Deep
 pub mod Levels
 pub mod Meets
 pub mod RangeSteps
+pub mod RangeWalks
 pub mod RangeMeets
 pub mod AsItStands
 pub mod Tells
@@ -13,7 +14,6 @@ pub mod Inserts
 pub mod Ranges
 pub mod Whens
 pub mod Walks
-pub mod RangeWalks
 pub mod Refused
 pub mod Lefts
 pub mod Demands

@@ -2,7 +2,7 @@
 -- Assumes nothing.
 use Prim.Native.Nat.{ℕ, zero, suc}
 use native.Mathlib.Omega.{arith}
-use mathlib.Core.Path.{_≡_, refl, sym, ap, _∙_}
+use mathlib.Core.Path.{_≡_, refl, sym, ap, _∙_, subst}
 use mathlib.Core.Logic.{inl}
 use mathlib.Core.List.{List, [], _∷_}
 use mathlib.Core.Option.{Option, some, none, Option·none-ne-some}
@@ -13,8 +13,8 @@ use Rattle.rules.specs.Enter.{Entered, enter}
 use Rattle.rules.specs.Walk.{Step, Way, numbers, descend, wayOf}
 use Rattle.rules.specs.declared.Place.{Place}
 use Rattle.rules.proofs.entries.Picks.{pick-mem}
-use Rattle.answers.specs.OneKey.{Reaches, MeetsDamage}
-use Rattle.answers.proofs.Deep.{Deep, not-out, enter-shows, kid-deep}
+use Rattle.answers.specs.OneKey.{Reaches, MeetsDamage, EndsIn, at-damage, at-leaf}
+use Rattle.answers.proofs.Deep.{Deep, not-out, enter-shows, enter-damaged, kid-deep}
 
 -- ── One step of the walk ────────────────────────────────────────────────────────────────────────────────────────
 
@@ -117,3 +117,37 @@ module _ (n c k : ℕ) (t : List ℕ) where
   pub none-damage : wayOf n c k t .steps ≡ none → MeetsDamage n c k t
   unfolding wayOf rootPlace
   none-damage z = descend-none topKind [] t (rootPlace t) (refl, refl) (inl (refl, omega arith)) z
+
+  -- ── Where the walk ends ─────────────────────────────────────────────────────────────────────────────────────────
+
+  ends-step : (level : ℕ) (above : List Step) (u : List ℕ) (e : Place) → Reaches n c k t above u e → Deep (suc level) e
+      → ((above′ : List Step) (u′ : List ℕ) (e′ : Place) → Reaches n c k t above′ u′ e′ → Deep level e′
+      → EndsIn n c k t (descend level n c k above′ u′ e′ .table))
+      → EndsIn n c k t (descend (suc level) n c k above u e .table)
+  unfolding descend
+  ends-step level above u e at deep rest = found (enter n c (numbers above) u e .page) refl
+    where
+      reached : (p : Page) → enter n c (numbers above) u e .page ≡ some p
+          → enter n c (numbers above) u e ≡ record { table = enter n c (numbers above) u e .table; page = some p }
+      reached p h = λ i. record { table = enter n c (numbers above) u e .table; page = h i }
+
+      picked : (p : Page) → enter n c (numbers above) u e .page ≡ some p
+          → (o : Option Place) → pick k (kids e (p .view)) ≡ o → EndsIn n c k t (descend (suc level) n c k above u e .table)
+      picked p h none q = rw (descend, h, q) (at-leaf (record { place = e; page = p }) above u at (reached p h) q)
+      picked p h (some e′) q =
+          rw (descend, h, q)
+          (rest (record { place = e; page = p } ∷ above) (enter n c (numbers above) u e .table) e′ (u, at, reached p h, q)
+          (deep-below level n c k above u e p h deep e′ q))
+
+      found : (o : Option Page) → enter n c (numbers above) u e .page ≡ o → EndsIn n c k t (descend (suc level) n c k above u e .table)
+      found none h = rw (descend, h) (subst (EndsIn n c k t) (sym (enter-damaged n c (numbers above) u e h)) (at-damage above e at h))
+      found (some p) h = picked p h (pick k (kids e (p .view))) refl
+
+  ends : (level : ℕ) (above : List Step) (u : List ℕ) (e : Place) → Reaches n c k t above u e → Deep level e
+      → EndsIn n c k t (descend level n c k above u e .table)
+  ends zero above u e at deep = absurd (not-out e deep)
+  ends (suc level) above u e at deep = ends-step level above u e at deep (ends level)
+
+  pub way-ends : EndsIn n c k t (wayOf n c k t .table)
+  unfolding wayOf rootPlace
+  way-ends = ends topKind [] t (rootPlace t) (refl, refl) (inl (refl, omega arith))

@@ -1,25 +1,24 @@
 -- The walk over a range is not whole exactly when it meets a damaged place. Assumes nothing.
 use Prim.Native.Nat.{ℕ, zero, suc, _+_}
-use native.Mathlib.Nat.{suc-add, add-suc}
 use native.Mathlib.Omega.{arith}
 use mathlib.Core.Path.{_≡_, refl, sym, ap, _∙_}
-use mathlib.Core.Logic.{inl}
-use mathlib.Core.Bool.{Bool, true, false}
-use mathlib.Core.List.{List, [], _∷_, _++_, append-assoc, List·Memᴰ}
-use mathlib.Core.Option.{Option, some, none}
+use mathlib.Core.Logic.{_⊎_, inl, inr}
+use mathlib.Core.Bool.{true, false}
+use mathlib.Core.List.{List, [], _∷_, _++_, List·Memᴰ}
+use mathlib.Core.Option.{some}
 use Rattle.rules.specs.Layout.{topKind}
 use Rattle.rules.specs.Test.{every}
-use Rattle.rules.specs.Page.{Page}
 use Rattle.rules.specs.Place.{rootPlace, kids}
 use Rattle.rules.specs.Enter.{Entered, enter}
 use Rattle.rules.specs.Walk.{Walked, enters, finds, stops, walkEach, walk, walkOf}
 use Rattle.rules.specs.declared.Place.{Place}
 use Rattle.rules.specs.declared.Asked.{Asked}
 use Rattle.rules.proofs.entries.Tests.{not-both}
-use Rattle.rules.proofs.demand1.WalkSteps.{walk-past, walk-entered}
-use Rattle.answers.specs.Range.{Parent, numbersOf, Comes, MeetsDamageIn}
-use Rattle.answers.proofs.Deep.{Deep, not-out, enter-shows, kid-deep}
-use Rattle.answers.proofs.RangeSteps.{mem-here, mem-before, each-append, none-walked, finds-whole, walk-broken, passed-same, parent, next-comes, next-deep, next-walked}
+use Rattle.rules.proofs.demand1.WalkSteps.{walk-entered}
+use Rattle.answers.specs.Range.{Parent, numbersOf, Comes, MeetsDamageIn, StopsIn}
+use Rattle.answers.proofs.Deep.{Deep, not-out, enter-shows, enter-damaged, kid-deep}
+use Rattle.answers.proofs.RangeSteps.{mem-here, mem-before, each-append, walk-broken, passed-same}
+use Rattle.answers.proofs.RangeWalks.{walk-keeps}
 
 -- ── What is not whole stays so ──────────────────────────────────────────────────────────────────────────────────
 
@@ -123,66 +122,26 @@ module _ (n c : ℕ) (a : Asked) (t : List ℕ) where
 
   -- ── Not whole: damage met ───────────────────────────────────────────────────────────────────────────────────────
 
-  -- what walking one place at a level tells
-  abbrev Tells : ℕ → Type 0
-  Tells level =
-      (above : List Parent) (w : Walked) (e : Place) → Comes n c a t above w e → Deep level e → w .whole ≡ true
-      → walk level n c a (numbersOf above) e w .whole ≡ false → MeetsDamageIn n c a t
+  -- no damage so far, or the walk ended at it
+  abbrev Goes : Walked → Type 0
+  Goes w = (w .whole ≡ true) ⊎ StopsIn n c a t (w .table)
 
-  module _ (level over : ℕ) (sum : over + level ≡ topKind) (rest : Tells level) (above : List Parent) (w : Walked) (e : Place)
-      (comes : Comes n c a t above w e) (deep : Deep (suc level) e) (p : enters a e w ≡ true)
-      (x : Page) (h : enter n c (numbersOf above) (w .table) e .page ≡ some x) where
-    abbrev nums : List ℕ
-    nums = e .child ∷ numbersOf above
+  goes : Goes (walkOf n c a t)
+  unfolding stops finds
+  goes =
+      walk-keeps n c a t Goes
+      (λ above w e comes p h m. inr (record {
+        meets = record { above = above; found = w; place = e; comes = comes; entered = p; damaged = h };
+        left = enter-damaged n c (numbersOf above) (w .table) e h;
+      }))
+      (λ above w e x comes p h m. inl refl) (inl refl)
 
-    abbrev begun : Walked
-    begun = finds a (x .view) w (enter n c (numbersOf above) (w .table) e .table)
-
-    each-tells : (later passed : List Place) → kids e (x .view) ≡ passed ++ later
-        → (y : Walked) → y ≡ walkEach (walk topKind n c a nums) passed begun → y .whole ≡ true
-        → walkEach (walk level n c a nums) later y .whole ≡ false → MeetsDamageIn n c a t
-    unfolding walkEach
-    each-tells [] passed q y k g f = absurd (not-both g f)
-    each-tells (d ∷ later) passed q y k g f =
-        go (walk level n c a nums d y .whole) refl
-        (each-tells later (passed ++ (d ∷ [])) (q ∙ sym (append-assoc passed (d ∷ []) later)) (walk level n c a nums d y)
-        (next-walked n c a t level over sum above w e comes deep p x h passed later d q y k))
-      where
-        go : (b : Bool) → walk level n c a nums d y .whole ≡ b
-            → (walk level n c a nums d y .whole ≡ true
-            → walkEach (walk level n c a nums) later (walk level n c a nums d y) .whole ≡ false → MeetsDamageIn n c a t)
-            → MeetsDamageIn n c a t
-        go true b ih = ih b f
-        go false b ih =
-            rest (parent n c a t level over sum above w e comes deep p x h passed later d q y k ∷ above) y d
-            (next-comes n c a t level over sum above w e comes deep p x h passed later d q y k)
-            (next-deep n c a t level over sum above w e comes deep p x h passed later d q y k) g b
-
-  tells-more : (level over : ℕ) → over + level ≡ topKind → Tells level → Tells (suc level)
-  tells-more level over sum rest above w e comes deep g f =
-      go (enters a e w) refl (enter n c (numbersOf above) (w .table) e .page) refl
+  pub cut-stops : walkOf n c a t .whole ≡ false → StopsIn n c a t (walkOf n c a t .table)
+  cut-stops f = go goes
     where
-      go : (b : Bool) → enters a e w ≡ b → (o : Option Page) → enter n c (numbersOf above) (w .table) e .page ≡ o
-          → MeetsDamageIn n c a t
-      go false p o h =
-          absurd (not-both g (ap (λ (r : Walked). r .whole) (sym (walk-past level n c a (numbersOf above) e w p)) ∙ f))
-      go true p none h =
-          record { above = above; found = w; place = e; comes = comes; entered = p; damaged = h }
-      go true p (some x) h =
-          let start = finds a (x .view) w (enter n c (numbersOf above) (w .table) e .table) in
-          each-tells level over sum rest above w e comes deep p x h (kids e (x .view)) [] refl start
-          (none-walked (walk topKind n c a (e .child ∷ numbersOf above)) start)
-          (finds-whole a x w (enter n c (numbersOf above) (w .table) e .table))
-          (ap (λ (r : Walked). r .whole) (sym (walk-entered level n c a (numbersOf above) e w p x h)) ∙ f)
-
-  tells : (level over : ℕ) → over + level ≡ topKind → Tells level
-  tells zero over sum = λ above w e comes deep g f. absurd (not-out e deep)
-  tells (suc level) over sum =
-      tells-more level (suc over) (suc-add over level ∙ (sym (add-suc over level) ∙ sum))
-      (tells level (suc over) (suc-add over level ∙ (sym (add-suc over level) ∙ sum)))
+      go : Goes (walkOf n c a t) → StopsIn n c a t (walkOf n c a t .table)
+      go (inl g) = absurd (not-both g f)
+      go (inr g) = g
 
   pub cut-damage : walkOf n c a t .whole ≡ false → MeetsDamageIn n c a t
-  unfolding walkOf rootPlace
-  cut-damage f =
-      tells topKind 0 refl [] (record { table = t; whole = true; found = [] }) (rootPlace t) (refl, refl)
-      (inl (refl, omega arith)) refl f
+  cut-damage f = cut-stops f .meets

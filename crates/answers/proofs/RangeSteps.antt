@@ -43,14 +43,6 @@ pub none-walked : (f : Place → Walked → Walked) (w : Walked) → w ≡ walkE
 unfolding walkEach
 none-walked f w = refl
 
-pub finds-whole : (a : Asked) (x : Page) (w : Walked) (t : List ℕ) → finds a (x .view) w t .whole ≡ true
-unfolding finds
-finds-whole a x w t = refl
-
-pub finds-table : (a : Asked) (x : Page) (w : Walked) (t : List ℕ) → finds a (x .view) w t .table ≡ t
-unfolding finds
-finds-table a x w t = refl
-
 -- ── Any level that reaches is as good as the top one ────────────────────────────────────────────────────────────
 
 deep-more : (j level : ℕ) (e : Place) → Deep level e → Deep (j + level) e
@@ -75,11 +67,6 @@ module _ (level n c : ℕ) (a : Asked) (above : List ℕ) (e : Place) (w : Walke
       → walk (suc level) n c a above e w .whole ≡ false
   unfolding stops
   walk-broken p h = ap (λ (r : Walked). r .whole) (walk-damaged level n c a above e w p h)
-
-  pub walk-stopped : enters a e w ≡ true → enter n c above (w .table) e .page ≡ none
-      → walk (suc level) n c a above e w .table ≡ enter n c above (w .table) e .table
-  unfolding stops
-  walk-stopped p h = ap (λ (r : Walked). r .table) (walk-damaged level n c a above e w p h)
 
 -- the places of a page, walked at the level below the page or at the top one
 pub passed-same : (j level n c : ℕ) (a : Asked) (above : List ℕ) (es : List Place) (w : Walked) → j + level ≡ topKind

@@ -16,10 +16,11 @@ use Rattle.rules.specs.Lookup.{lookup, lookupKey, lookupLeft}
 use Rattle.rules.specs.declared.Session.{Session}
 use Rattle.rules.proofs.entries.Tests.{not-both}
 use Rattle.rules.proofs.demand1.Refusals as rules
-use Rattle.answers.specs.OneKey.{MendedBy, nothing}
+use Rattle.answers.specs.OneKey.{EndsIn, MendedBy, nothing}
 use Rattle.answers.specs.Causes.{BeforeWalk}
 use Rattle.answers.specs.Demand1.{Refused, WalkMended}
-use Rattle.answers.proofs.Tells.{good-lengths, good-key}
+use Rattle.answers.proofs.Meets.{way-ends}
+use Rattle.answers.proofs.Tells.{bad-lengths, good-lengths, bad-key, good-key}
 use Rattle.answers.proofs.Walks.{way-mended}
 
 -- ── Insert ──────────────────────────────────────────────────────────────────────────────────────────────────────
@@ -39,16 +40,15 @@ along-left k x s way w t h =
     go none o false p false q = absurd (h (rw (insertAlong, o, p, q)))
 
 key-left : (k x : ℕ) (s : Session) (w t : List ℕ) → Refused (insertedNo (insertKey k x s w t .answer))
-    → MendedBy (s .n) (s .c) k w (insertKey k x s w t .working)
+    → insertKey k x s w t .working ≡ wayOf (s .n) (s .c) k w .table
 unfolding insertKey insertRefused
 key-left k x s w t h = go (wayOf (s .n) (s .c) k w .steps) refl
   where
     go : (o : Option (List Step)) → wayOf (s .n) (s .c) k w .steps ≡ o
-        → MendedBy (s .n) (s .c) k w (insertKey k x s w t .working)
-    go none o = rw (insertKey, o) (way-mended (s .n) (s .c) k w)
+        → insertKey k x s w t .working ≡ wayOf (s .n) (s .c) k w .table
+    go none o = rw (insertKey, o)
     go (some steps) o =
-        rw (insertKey, o, along-left k x s steps (wayOf (s .n) (s .c) k w .table) t (λ e. h (rw (insertKey, o) e)))
-        (way-mended (s .n) (s .c) k w)
+        rw (insertKey, o) (along-left k x s steps (wayOf (s .n) (s .c) k w .table) t (λ e. h (rw (insertKey, o) e)))
 
 module _ (w t : List ℕ) (s : Session) (model serial issue x : ℕ) where
   abbrev k : ℕ
@@ -65,7 +65,8 @@ module _ (w t : List ℕ) (s : Session) (model serial issue x : ℕ) where
       go false p b q c o = rw (insert, p) nothing
       go true p false q c o = rw (insert, p, q) nothing
       go true p true q false o = rw (insert, p, q, o) nothing
-      go true p true q true o = rw (insert, p, q, o) (key-left k x s w t (λ e. h (rw (insert, p, q, o) e)))
+      go true p true q true o =
+          rw (insert, p, q, o, key-left k x s w t (λ e. h (rw (insert, p, q, o) e))) (way-mended (s .n) (s .c) k w)
 
   pub insert-mended : Refused (insertedNo (insert w t s model serial issue x .answer))
       → WalkMended k w t s (insert w t s model serial issue x)
@@ -88,16 +89,30 @@ module _ (w t : List ℕ) (s : Session) (model serial issue x : ℕ) where
       go true p true q true o (inr (inl h)) = absurd (good-key model serial issue q h)
       go true p true q true o (inr (inr h)) = absurd (not-both o h)
 
+  -- behind it, the table in which the walk ended
+  pub insert-stands : (BeforeWalk w t s model serial issue → ⊥) → Refused (insertedNo (insert w t s model serial issue x .answer))
+      → EndsIn (s .n) (s .c) k w (insert w t s model serial issue x .working)
+  unfolding insert
+  insert-stands b h = go (lengthsFor s w t) refl (goodParts model serial issue) refl (fit0 (s .n) w) refl
+    where
+      go : (a : Bool) → lengthsFor s w t ≡ a → (d : Bool) → goodParts model serial issue ≡ d → (c : Bool) → fit0 (s .n) w ≡ c
+          → EndsIn (s .n) (s .c) k w (insert w t s model serial issue x .working)
+      go false p d q c o = absurd (b (inl (bad-lengths w t s p)))
+      go true p false q c o = absurd (b (inr (inl (bad-key model serial issue q))))
+      go true p true q false o = absurd (b (inr (inr o)))
+      go true p true q true o =
+          rw (insert, p, q, o, key-left k x s w t (λ e. h (rw (insert, p, q, o) e))) (way-ends (s .n) (s .c) k w)
+
 -- ── Lookup ──────────────────────────────────────────────────────────────────────────────────────────────────────
 
-key-looked : (k : ℕ) (s : Session) (w t : List ℕ) → MendedBy (s .n) (s .c) k w (lookupKey k s w t .working)
+key-looked : (k : ℕ) (s : Session) (w t : List ℕ) → lookupKey k s w t .working ≡ wayOf (s .n) (s .c) k w .table
 unfolding lookupKey lookupLeft
 key-looked k s w t = go (wayOf (s .n) (s .c) k w .steps) refl
   where
     go : (o : Option (List Step)) → wayOf (s .n) (s .c) k w .steps ≡ o
-        → MendedBy (s .n) (s .c) k w (lookupKey k s w t .working)
-    go none o = rw (lookupKey, o) (way-mended (s .n) (s .c) k w)
-    go (some steps) o = rw (lookupKey, o) (way-mended (s .n) (s .c) k w)
+        → lookupKey k s w t .working ≡ wayOf (s .n) (s .c) k w .table
+    go none o = rw (lookupKey, o)
+    go (some steps) o = rw (lookupKey, o)
 
 module _ (w t : List ℕ) (s : Session) (model serial issue : ℕ) where
   lookup-left : MendedBy (s .n) (s .c) (keyOf model serial issue) w (lookup w t s model serial issue .working)
@@ -110,9 +125,23 @@ module _ (w t : List ℕ) (s : Session) (model serial issue : ℕ) where
       go false p b q c o = rw (lookup, p) nothing
       go true p false q c o = rw (lookup, p, q) nothing
       go true p true q false o = rw (lookup, p, q, o) nothing
-      go true p true q true o = rw (lookup, p, q, o) (key-looked (keyOf model serial issue) s w t)
+      go true p true q true o =
+          rw (lookup, p, q, o, key-looked (keyOf model serial issue) s w t) (way-mended (s .n) (s .c) (keyOf model serial issue) w)
 
   pub lookup-mended : WalkMended (keyOf model serial issue) w t s (lookup w t s model serial issue)
   lookup-mended =
       let r = rules.lookup-mends w t s model serial issue in
       record { working = lookup-left; stable = r .stable; session = r .session }
+
+  pub lookup-stands : (BeforeWalk w t s model serial issue → ⊥)
+      → EndsIn (s .n) (s .c) (keyOf model serial issue) w (lookup w t s model serial issue .working)
+  unfolding lookup
+  lookup-stands b = go (lengthsFor s w t) refl (goodParts model serial issue) refl (fit0 (s .n) w) refl
+    where
+      go : (a : Bool) → lengthsFor s w t ≡ a → (d : Bool) → goodParts model serial issue ≡ d → (c : Bool) → fit0 (s .n) w ≡ c
+          → EndsIn (s .n) (s .c) (keyOf model serial issue) w (lookup w t s model serial issue .working)
+      go false p d q c o = absurd (b (inl (bad-lengths w t s p)))
+      go true p false q c o = absurd (b (inr (inl (bad-key model serial issue q))))
+      go true p true q false o = absurd (b (inr (inr o)))
+      go true p true q true o =
+          rw (lookup, p, q, o, key-looked (keyOf model serial issue) s w t) (way-ends (s .n) (s .c) (keyOf model serial issue) w)

@@ -6,6 +6,7 @@ use mathlib.Core.Bool.{true}
 use mathlib.Core.List.{List, [], _∷_}
 use Rattle.rules.specs.Test.{mem}
 use Rattle.rules.specs.Key.{keyOf}
+use Rattle.rules.specs.Table.{fit0}
 use Rattle.rules.specs.Marks.{nobody}
 use Rattle.rules.specs.Call.{Left, formattedNo, openedNo, insertedNo, lookedNo, lookedRecord, newestNo, newestIssue, newestRecord, listedNo, listedCount, syncedNo}
 use Rattle.rules.specs.Format.{format}
@@ -21,8 +22,8 @@ use Rattle.rules.specs.declared.Looked.{Looked}
 use Rattle.rules.specs.declared.Newest.{Newest}
 use Rattle.rules.specs.declared.Listed.{Listed}
 use Rattle.rules.proofs.demand1.Refusals.{Unchanged}
-use Rattle.answers.specs.OneKey.{MendedBy}
-use Rattle.answers.specs.Range.{MendedIn}
+use Rattle.answers.specs.OneKey.{EndsIn, MendedBy}
+use Rattle.answers.specs.Range.{StopsIn, MendedIn}
 use Rattle.answers.specs.Causes.{BeforeWalk}
 
 -- ── Words ───────────────────────────────────────────────────────────────────────────────────────────────────────
@@ -78,6 +79,18 @@ pub record Demand1 : Type 0 where
   pub list-mends : (w t : List ℕ) (s : Session) (start : ℕ) (ks xs : List ℕ)
       → let r = list w t s start ks xs in
       RangeMended (upFrom start ks xs) w t s (r .working) (r .stable) (r .session)
+  -- mends made before the refusal stand: what is left is the table in which the walk ended
+  pub insert-stands : (w t : List ℕ) (s : Session) (model serial issue x : ℕ) → (BeforeWalk w t s model serial issue → ⊥)
+      → Refused (insertedNo (insert w t s model serial issue x .answer))
+      → EndsIn (s .n) (s .c) (keyOf model serial issue) w (insert w t s model serial issue x .working)
+  pub lookup-stands : (w t : List ℕ) (s : Session) (model serial issue : ℕ) → (BeforeWalk w t s model serial issue → ⊥)
+      → EndsIn (s .n) (s .c) (keyOf model serial issue) w (lookup w t s model serial issue .working)
+  pub newest-stands : (w t : List ℕ) (s : Session) (model serial : ℕ) → fit0 (s .n) w ≡ true
+      → newestNo (newest w t s model serial .answer) ≡ 3
+      → StopsIn (s .n) (s .c) (meter model serial) w (newest w t s model serial .working)
+  pub list-stands : (w t : List ℕ) (s : Session) (start : ℕ) (ks xs : List ℕ) → fit0 (s .n) w ≡ true
+      → listedNo (list w t s start ks xs .answer) ≡ 3
+      → StopsIn (s .n) (s .c) (upFrom start ks xs) w (list w t s start ks xs .working)
   -- a refused opening or sync changes no byte; the one hands out nobody's session, the other the one that it got
   pub open-refused : (w s : List ℕ) → Refused (openedNo (opening w s .answer)) → Unchanged w s nobody (opening w s)
   pub sync-refused : (w t : List ℕ) (s : Session) → Refused (syncedNo (sync w t s .answer)) → Unchanged w t s (sync w t s)

@@ -28,6 +28,15 @@ pub record MeetsDamage (n c k : ℕ) (t : List ℕ) : Type 0 where
   pub reached : Reaches n c k t above table place
   pub damaged : enter n c (numbers above) table place .page ≡ none
 
+-- u is the table in which the walk ends: that in which it reached a damaged place, or that in which it entered a page
+-- that asks for nothing more at the key. Every place above was entered, and mended where it was lost
+pub data EndsIn (n c k : ℕ) (t u : List ℕ) : Type 0 where
+  at-damage : (above : List Step) (e : Place) → Reaches n c k t above u e → enter n c (numbers above) u e .page ≡ none
+      → EndsIn n c k t u
+  at-leaf : (s : Step) (above : List Step) (v : List ℕ) → Reaches n c k t above v (s .place)
+      → enter n c (numbers above) v (s .place) ≡ record { table = u; page = some (s .page) }
+      → pick k (kids (s .place) (s .page .view)) ≡ none → EndsIn n c k t u
+
 -- a table that comes of t by what the walk mends: lost children of places that it reaches, each by the mending rule
 pub data MendedBy (n c k : ℕ) (t : List ℕ) : List ℕ → Type 0 where
   nothing : MendedBy n c k t t

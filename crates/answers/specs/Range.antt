@@ -46,6 +46,11 @@ pub record MeetsDamageIn (n c : ℕ) (a : Asked) (t : List ℕ) : Type 0 where
   pub entered : enters a place found ≡ true
   pub damaged : enter n c (numbersOf above) (found .table) place .page ≡ none
 
+-- u is the table in which the walk came to the damaged place
+pub record StopsIn (n c : ℕ) (a : Asked) (t u : List ℕ) : Type 0 where
+  pub meets : MeetsDamageIn n c a t
+  pub left : u ≡ meets .found .table
+
 -- a table that comes of t by what the walk mends: lost children of places that it comes to and enters, each by the
 -- mending rule
 pub data MendedIn (n c : ℕ) (a : Asked) (t : List ℕ) : List ℕ → Type 0 where
