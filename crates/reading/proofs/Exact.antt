@@ -7,11 +7,12 @@ use mathlib.Core.List.{List, [], _∷_, List·Memᴰ, List·Memᴰ·head, List·
 use mathlib.Core.Option.{Option, some, none, Option·some-injective, Option·none-ne-some}
 use lib.Dec.{eqb}
 use borrow.Author.Tests.{eqb-true, eqb-false}
-use Rattle.rules.specs.Key.{keyOf, goodParts}
+use Rattle.rules.specs.Test.{all}
+use Rattle.rules.specs.Key.{keyOf, goodParts, goodKey}
 use Rattle.rules.specs.Entry.{Cert, find}
 use Rattle.rules.specs.Page.{View, Page, isLeaf, fresh}
 use Rattle.rules.specs.Table.{read, fit0}
-use Rattle.rules.specs.Place.{kids, pick, mended}
+use Rattle.rules.specs.Place.{kids, pick, cutView, mended}
 use Rattle.rules.specs.Enter.{Entered, enter}
 use Rattle.rules.specs.Walk.{Step, numbers, certsAt, descend, wayOf}
 use Rattle.rules.specs.Call.{lengthsFor, lookedNo}
@@ -20,7 +21,8 @@ use Rattle.rules.specs.declared.Place.{Place}
 use Rattle.rules.specs.declared.Session.{Session}
 use Rattle.rules.specs.declared.Looked.{Looked}
 use Rattle.rules.proofs.bytes.Keys.{modelOf-keyOf, serialOf-keyOf, issueOf-keyOf}
-use Rattle.rules.proofs.entries.Entries.{find-head, find-tail}
+use Rattle.rules.proofs.entries.Entries.{find-head, find-tail, all-cut}
+use Rattle.rules.proofs.entries.Places.{fits-true, mendable-true}
 use Rattle.rules.proofs.entries.Views.{Shaped, shaped-read, shaped-cut}
 use Rattle.enter.proofs.Stands.{Comes, stood, mends, stops, comes}
 use Rattle.reading.specs.Reading.{LookupExact}
@@ -53,7 +55,7 @@ find-held k x (y ∷ ys) h = go (eqb k (y .key)) refl (find-held k x ys)
         record { entry = r .entry; held = List·Memᴰ·tail (r .held); key = r .key; value = r .value }
 
 -- a page that holds certificates is a leaf
-holds-leaf : (v : View) (x : Cert) → Shaped v → List·Memᴰ x (v .certs) → isLeaf v ≡ true
+pub holds-leaf : (v : View) (x : Cert) → Shaped v → List·Memᴰ x (v .certs) → isLeaf v ≡ true
 holds-leaf v x s m = go (isLeaf v) refl
   where
     go : (b : Bool) → isLeaf v ≡ b → isLeaf v ≡ true
@@ -66,7 +68,7 @@ shaped-mended : (c : ℕ) (e : Place) (q : Page) → Shaped (q .view) → Shaped
 unfolding mended fresh
 shaped-mended c e q s = shaped-cut (e .low) (e .high) (q .view) s
 
-shaped-entered : {n c : ℕ} {above t : List ℕ} {e : Place} (r : Entered) → Comes n c above t e r → (p : Page) → r .page ≡ some p → Shaped (p .view)
+pub shaped-entered : {n c : ℕ} {above t : List ℕ} {e : Place} (r : Entered) → Comes n c above t e r → (p : Page) → r .page ≡ some p → Shaped (p .view)
 shaped-entered {t = t} {e} r (stood f g) p q =
     subst (λ (x : Page). Shaped (x .view))
     (Option·some-injective (read t (e .child)) p (sym (ap (λ (y : Entered). y .page) g) ∙ q)) (shaped-read t (e .child))
@@ -75,6 +77,26 @@ shaped-entered {c = c} {t = t} {e} r (mends a m g) p q =
     (Option·some-injective (mended c e (read t (e .previous))) p (sym (ap (λ (y : Entered). y .page) g) ∙ q))
     (shaped-mended c e (read t (e .previous)) (shaped-read t (e .previous)))
 shaped-entered r (stops g) p q = absurd (Option·none-ne-some p (sym (ap (λ (y : Entered). y .page) g) ∙ q))
+
+-- and its certificates have good keys
+abbrev pub Good : Cert → Bool
+Good x = goodKey (x .key)
+
+good-mended : (c : ℕ) (e : Place) (q : Page) → all Good (q .view .certs) ≡ true → all Good (mended c e q .view .certs) ≡ true
+unfolding mended fresh cutView
+good-mended c e q g = all-cut Good (e .low) (e .high) (q .view .certs) g
+
+pub good-entered : {n c : ℕ} {above t : List ℕ} {e : Place} (r : Entered) → Comes n c above t e r → (p : Page) → r .page ≡ some p
+    → all Good (p .view .certs) ≡ true
+good-entered {n} {t = t} {e} r (stood f g) p q =
+    subst (λ (x : Page). all Good (x .view .certs) ≡ true)
+    (Option·some-injective (read t (e .child)) p (sym (ap (λ (y : Entered). y .page) g) ∙ q))
+    (fits-true n e (read t (e .child)) f .sound .good)
+good-entered {n} {c} {t = t} {e} r (mends a m g) p q =
+    subst (λ (x : Page). all Good (x .view .certs) ≡ true)
+    (Option·some-injective (mended c e (read t (e .previous))) p (sym (ap (λ (y : Entered). y .page) g) ∙ q))
+    (good-mended c e (read t (e .previous)) (mendable-true n e (read t (e .previous)) m .sound .good))
+good-entered r (stops g) p q = absurd (Option·none-ne-some p (sym (ap (λ (y : Entered). y .page) g) ∙ q))
 
 -- the last page of a way
 record Last (steps : List Step) : Type 0 where

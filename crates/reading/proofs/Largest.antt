@@ -19,6 +19,7 @@ use Rattle.rules.proofs.entries.Rises.{rises-head, rises-tail, rises-mem, risin
 use Rattle.rules.proofs.entries.Entries.{find-head, find-tail, mem-find, find-cut, cut-within, cut-rising}
 use Rattle.reading.specs.Reading.{lastIssue}
 use Rattle.reading.specs.Agreeing.{Largest, found, missing}
+use Rattle.reading.proofs.Meters.{issues-fit, meter-high, key-of-issue, issue-from, issue-to}
 use Rattle.reading.proofs.Gathers.{gather}
 
 -- ── How many keys a range has ───────────────────────────────────────────────────────────────────────────────────
@@ -74,18 +75,6 @@ last-of x (y ∷ ys) r =
       none-above = λ k h. find-tail k x (y ∷ ys) (λ q. absurd (omega (arith, q, h, up))) ∙ l .none-above k h;
     }
 
--- ── The issues of a meter ───────────────────────────────────────────────────────────────────────────────────────
-
--- an issue has 16 bits in its key
-issues-fit : lastIssue < 2 ^ 16
-unfolding lastIssue issueOf keyOf meter
-issues-fit = omega arith
-
--- it ends a meter's range
-meter-high : (model serial : ℕ) → meter model serial .high ≡ keyOf model serial lastIssue
-unfolding lastIssue issueOf keyOf meter
-meter-high model serial = refl
-
 -- ── Of one meter ────────────────────────────────────────────────────────────────────────────────────────────────
 
 module _ (certs : List Cert) (rise : rising (keys certs) ≡ true) (model serial : ℕ) (wide : serial < 2 ^ 32) where
@@ -118,11 +107,6 @@ module _ (certs : List Cert) (rise : rising (keys certs) ≡ true) (model serial
   unfolding keyOf
   above-issue i j h = omega arith
 
-  -- a key in the meter's range is that of its issue
-  issue-of : (k : ℕ) → low ≤ k → k ≤ high → (keyOf model serial (issueOf k) ≡ k) × (1 ≤ issueOf k) × (issueOf k ≤ lastIssue)
-  unfolding keyOf issueOf
-  issue-of k a b = (omega (arith, issues-fit), omega (arith, issues-fit), omega (arith, issues-fit))
-
   pub largest : Largest certs model serial (newestIn own)
   unfolding newestIn find
   largest = go own refl
@@ -133,11 +117,14 @@ module _ (certs : List Cert) (rise : rising (keys certs) ≡ true) (model serial
           let k = l .entry .key in
           let f : find k own ≡ some (l .entry .value) = ap (find k) q ∙ l .finds in
           let b = all-mem (between low high) k (keys own) (cut-within low high certs) (mem-find k own (l .entry .value) f) in
-          let i = issue-of k (between-low low high k b) (between-high low high k b) in
-          found (issueOf k) (l .entry .value) (ap newestIn q ∙ l .answer) (i .1) (i .2)
-          (ap (λ (j : ℕ). find j certs) (i .0) ∙ (sym (find-cut low high k certs b) ∙ f))
-          (λ j h m. sym (in-meter j (omega (arith, i .1, h)) m)
-          ∙ (ap (find (keyOf model serial j)) q ∙ l .none-above (keyOf model serial j) (omega (arith, above-issue (issueOf k) j h, i .0))))
+          let a = between-low low high k b in
+          let z = between-high low high k b in
+          let is = key-of-issue model serial k a z in
+          let from = issue-from model serial k a z in
+          found (issueOf k) (l .entry .value) (ap newestIn q ∙ l .answer) from (issue-to model serial k a z)
+          (ap (λ (j : ℕ). find j certs) is ∙ (sym (find-cut low high k certs b) ∙ f))
+          (λ j h m. sym (in-meter j (omega (arith, from, h)) m)
+          ∙ (ap (find (keyOf model serial j)) q ∙ l .none-above (keyOf model serial j) (omega (arith, above-issue (issueOf k) j h, is))))
 
       go : (xs : List Cert) → own ≡ xs → Largest certs model serial (newestIn own)
       go [] q = missing (ap newestIn q ∙ nothing) (λ j a b. sym (in-meter j a b) ∙ (ap (find (keyOf model serial j)) q ∙ nowhere (keyOf model serial j)))

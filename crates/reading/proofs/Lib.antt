@@ -1,7 +1,9 @@
 -- The promises of specs/, proved; each file uses only those above it.
 
--- A record that is found
+-- A record that is found, and what newest and list hand out
 pub mod Exact
+pub mod Meters
+pub mod Handed
 -- What a walk of one key leaves of each page
 pub mod Turns
 pub mod WayLeft
