@@ -33,9 +33,12 @@ pub mod SameTree
 pub mod Gathers
 pub mod Ends
 pub mod Largest
--- Lookup, newest and list; opening
+-- Lookup, newest and list
 pub mod Empty
 pub mod Agrees
 pub mod HistoriesAgree
 pub mod Puts
+-- Opening, as the table stands and by entering
 pub mod OpeningEnters
+pub mod Joins
+pub mod ByEntering

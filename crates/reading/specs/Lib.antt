@@ -5,3 +5,4 @@ pub mod Building
 pub mod Inserting
 pub mod Agreeing
 pub mod Entering
+pub mod ByEntering
