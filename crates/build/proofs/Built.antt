@@ -1,39 +1,94 @@
--- What the bytes of a built page are: a header over zeros, then a range of another page's bytes.
+-- What a table is after a page was built in it: entries, zeros behind them, a header over them.
 -- Assumes nothing.
-use mathlib.Core.Path.{_≡_, refl, ap, _∙_}
+use mathlib.Core.Path.{_≡_, refl, sym, ap, _∙_}
 use mathlib.Core.Bool.{Bool, true, false}
 use mathlib.Core.List.{List, [], _++_, append-nil, append-assoc}
-use Prim.Native.Nat.{ℕ, _+_, _-_, _*_, _≤_, _<_}
+use Prim.Native.Nat.{ℕ, zero, suc, _+_, _-_, _*_, _≤_, _<_}
 use native.Mathlib.Omega.{arith}
 use lib.Dec.{eqb}
-use lib.ListN.{length, take, drop, length-append, length-take, length-drop}
-use lib.Seq.{sets, sets-eq, take-all, drop-drop, take-nil, drop-nil}
+use lib.ListN.{length, take, drop, replicate, length-append, length-take, length-drop, length-replicate}
+use lib.Seq.{sets, sets-eq, drop-drop, take-nil, drop-nil}
 use Rattle.fields.specs.Field.{Bytes, leAt}
+use Rattle.fields.proofs.Number.{length-le}
 use Rattle.fields.proofs.Run.{sets-append, length-part}
 use Rattle.rules.specs.Layout.{pageSize, headerSize, leafKind, certSize, childSize, lastKey}
-use Rattle.rules.specs.Table.{setPage}
-use Rattle.rules.specs.Page.{View, Page, viewIn, count, fresh, headerBytes, pageBytes, buildBytes, blank, over, writeEach, certIn, certBytes, childIn, childBytes, readEach}
+use Rattle.rules.specs.Table.{pageAt, setPage, read, build}
+use Rattle.rules.specs.Page.{View, Page, viewIn, pageIn, count, fresh, headerBytes, pageBytes, buildBytes, blank, over, writeEach, certIn, certBytes, childIn, childBytes, readEach}
 use Rattle.rules.specs.Entry.{Child}
 use Rattle.rules.proofs.bytes.EntryBytes.{length-childBytes}
 use Rattle.rules.proofs.bytes.Each.{length-readEach}
-use Rattle.rules.proofs.bytes.Pages.{viewIn-leaf, viewIn-inner, kind-viewIn, count-viewIn, length-headerBytes, length-blank}
+use Rattle.rules.proofs.bytes.Pages.{viewIn-leaf, viewIn-inner, kind-viewIn, count-viewIn, length-headerBytes}
+use Rattle.rules.proofs.bytes.Tables.{bytes-pageAt, length-pageAt}
 use Rattle.entries.specs.Spot.{sizeOf}
-use Rattle.entries.proofs.Sets.{over-sets}
+use Rattle.entries.proofs.Part.{part-page, leAt-page}
+use Rattle.entries.proofs.Sets.{sets-comm}
 use Rattle.entries.proofs.Ranges.{range-within, write-certs, write-children}
 use Rattle.build.specs.Range.{headerOf, rangeView, rootView, Roomy}
 
+-- ── A page built where it stands ────────────────────────────────────────────────────────────────────────────────
+
+drop-zeros : (n m : ℕ) → drop n (replicate {A = ℕ} m 0) ≡ replicate (m - n) 0
+drop-zeros zero m = let e : m - 0 ≡ m = omega arith in rw e
+drop-zeros (suc n) zero = let e : 0 - suc n ≡ 0 = omega arith in rw e
+drop-zeros (suc n) (suc m) = let e : suc m - suc n ≡ m - n = omega arith in rw e (drop-zeros n m)
+
+drop-blank : (n : ℕ) → drop n blank ≡ replicate (pageSize - n) 0
+unfolding blank
+drop-blank n = drop-zeros n pageSize
+
+header-fresh : (c birth low high : ℕ) (v : View) → headerBytes (fresh c birth low high v) ≡ headerOf (v .kind) (count v) birth c low high
+unfolding headerBytes headerOf fresh
+header-fresh c birth low high v = refl
+
+length-header : (kind count birth c low high : ℕ) → length (headerOf kind count birth c low high) ≡ headerSize
+unfolding headerOf
+length-header kind count birth c low high = simp (length-append, length-le)
+
 -- a page whose entries take these bytes
-pub build-bytes : (kind c birth low high : ℕ) (v : View) (es : List ℕ) → v .kind ≡ kind
-    → writeEach certBytes (v .certs) ++ writeEach childBytes (v .children) ≡ es → headerSize + length es ≤ pageSize
-    → buildBytes (fresh c birth low high v) ≡ sets (sets blank 0 (headerOf kind (count v) birth c low high)) headerSize es
-unfolding buildBytes pageBytes headerBytes headerOf fresh
-build-bytes kind c birth low high v es e f h =
+build-bytes : (kind c birth low high : ℕ) (v : View) (es : List ℕ) → v .kind ≡ kind
+    → writeEach certBytes (v .certs) ++ writeEach childBytes (v .children) ≡ es
+    → buildBytes (fresh c birth low high v) ≡ headerOf kind (count v) birth c low high ++ (es ++ replicate (pageSize - (headerSize + length es)) 0)
+unfolding buildBytes pageBytes over fresh
+build-bytes kind c birth low high v es e f =
     let p : Page = fresh c birth low high v in
     let long : length (headerBytes p ++ es) ≡ headerSize + length es = length-append (headerBytes p) es ∙ ap (λ (n : ℕ). n + length es) (length-headerBytes p) in
     ap (λ (l : List ℕ). over (headerBytes p ++ l) blank) f
-    ∙ over-sets (headerBytes p ++ es) blank (rw (long, length-blank) h)
-    ∙ sets-append (headerBytes p) es blank 0
-    ∙ rw (length-headerBytes p, e)
+    ∙ rw (long, drop-blank (headerSize + length es), append-assoc, header-fresh c birth low high v, e)
+
+-- a whole page set in its place of a table
+sets-page : (t : List ℕ) (i : ℕ) (q : List ℕ) → length q ≡ pageSize → (i + 1) * pageSize ≤ length t → sets t (i * pageSize) q ≡ setPage t i q
+unfolding setPage
+sets-page t i q e h = sets-eq q t (i * pageSize) (rw e (omega arith)) ∙ rw (append-assoc, e, drop-drop)
+
+-- entries, then zeros behind them, then a header, each set in its place of the page that starts at `at`
+abbrev pub laid : List ℕ → ℕ → List ℕ → ℕ → List ℕ → List ℕ
+laid t at es len hs =
+    sets
+    (sets (sets t (at + headerSize) es) (at + headerSize + len) (replicate (at + pageSize - (at + headerSize + len)) 0))
+    at
+    hs
+
+laid-page : (t : List ℕ) (i : ℕ) (hs es : List ℕ) → length hs ≡ headerSize → headerSize + length es ≤ pageSize → (i + 1) * pageSize ≤ length t
+    → laid t (i * pageSize) es (length es) hs ≡ setPage t i (hs ++ (es ++ replicate (pageSize - (headerSize + length es)) 0))
+laid-page t i hs es l h g =
+    let at = i * pageSize in
+    let zs : List ℕ = replicate (pageSize - (headerSize + length es)) 0 in
+    let m : i * pageSize + pageSize - (i * pageSize + headerSize + length es) ≡ pageSize - (headerSize + length es) = omega arith in
+    let n : length (hs ++ (es ++ zs)) ≡ pageSize = rw (length-append, length-append, length-replicate, l) (omega arith) in
+    rw m (ap (λ (b : List ℕ). sets b at hs) (sym (sets-append es zs t (at + headerSize))))
+    ∙ sym (sets-comm hs (es ++ zs) t at (at + headerSize) (omega arith))
+    ∙ sym (rw l at (sets-append hs (es ++ zs) t at))
+    ∙ sets-page t i (hs ++ (es ++ zs)) n g
+
+built-there : (t : List ℕ) (i kind c birth low high : ℕ) (v : View) (es : List ℕ) → v .kind ≡ kind
+    → writeEach certBytes (v .certs) ++ writeEach childBytes (v .children) ≡ es → headerSize + length es ≤ pageSize
+    → (i + 1) * pageSize ≤ length t
+    → laid t (i * pageSize) es (length es) (headerOf kind (count v) birth c low high)
+    ≡ build t i (fresh c birth low high v)
+unfolding build
+built-there t i kind c birth low high v es e f h g =
+    laid-page t i (headerOf kind (count v) birth c low high) es (length-header kind (count v) birth c low high) h g
+    ∙ ap (setPage t i) (sym (build-bytes kind c birth low high v es e f))
 
 -- how many bytes the entries take, by the kind and the count that stand in the header
 pub entries-fit : (b : List ℕ) → Roomy (viewIn b) → headerSize + sizeOf (leAt b 0 2) * leAt b 2 2 ≤ pageSize
@@ -95,30 +150,65 @@ module _ (b : List ℕ) (first past : ℕ) (f : first ≤ leAt b 2 2) (g : past 
           let m = rw (sizeOf, e) at r in
           rw (viewIn-inner b e, range-nil, sizeOf, e) (write-children b (leAt b 2 2) first (past - first) h (omega arith) (omega arith))
 
-  -- the bytes of a page with a range of another page's entries
-  pub range-bytes : (birth c low high : ℕ) → Bytes b → length b ≡ pageSize → headerSize + sizeOf (leAt b 0 2) * leAt b 2 2 ≤ pageSize
-      → buildBytes (fresh c birth low high (rangeView first past (viewIn b)))
-      ≡ sets (sets blank 0 (headerOf (leAt b 0 2) (past - first) birth c low high)) headerSize (take (sizeOf (leAt b 0 2) * (past - first)) (drop (headerSize + sizeOf (leAt b 0 2) * first) b))
-  unfolding rangeView
-  range-bytes birth c low high h l r =
-      let size = sizeOf (leAt b 0 2) in
-      let w = range-within size first (past - first) (leAt b 2 2) (omega arith) in
-      let e : length (take (size * (past - first)) (drop (headerSize + size * first) b)) ≡ size * (past - first) = length-part (size * (past - first)) (headerSize + size * first) b (omega arith) in
-      build-bytes (leAt b 0 2) c birth low high (rangeView first past (viewIn b)) (take (size * (past - first)) (drop (headerSize + size * first) b)) (kind-viewIn b) (range-entries h l r) (rw e (omega arith))
-      ∙ rw range-count
+-- ── A range of another page's entries ───────────────────────────────────────────────────────────────────────────
 
--- a whole page copied to its place in a table
-pub store-page : (t : List ℕ) (i : ℕ) (q : List ℕ) → length q ≡ pageSize → (i + 1) * pageSize ≤ length t
-    → sets t (i * pageSize) (take pageSize q) ≡ setPage t i q
-unfolding setPage
-store-page t i q e h =
-    let all : take pageSize q ≡ q = take-all pageSize q (omega arith) in
-    rw all (sets-eq q t (i * pageSize) (rw e (omega arith)) ∙ rw (append-assoc, e, drop-drop))
+-- what is known of two pages of a table, of a range of the one's entries, and of what the code has read of it
+pub record Ranged (t : List ℕ) (to from first past kind size many : ℕ) : Type 0 where
+  pub to-has : (to + 1) * pageSize ≤ length t
+  pub from-has : (from + 1) * pageSize ≤ length t
+  pub roomy : Roomy (read t from .view)
+  pub first-in : first ≤ count (read t from .view)
+  pub past-in : past ≤ count (read t from .view)
+  pub kind-read : kind ≡ leAt t (from * pageSize + 0) 2
+  pub size-read : size ≡ sizeOf kind
+  pub many-read : many ≡ past - first
+
+pub ranged : (t : List ℕ) (to from first past kind size many : ℕ)
+    → (((to + 1) * pageSize ≤ length t) × ((from + 1) * pageSize ≤ length t))
+    × (Roomy (read t from .view) × ((first ≤ count (read t from .view)) × (past ≤ count (read t from .view))))
+    → kind ≡ leAt t (from * pageSize + 0) 2 → size ≡ sizeOf kind → many ≡ past - first → Ranged t to from first past kind size many
+ranged t to from first past kind size many pre k s m = record {
+  to-has = pre .0 .0;
+  from-has = pre .0 .1;
+  roomy = pre .1 .0;
+  first-in = pre .1 .1 .0;
+  past-in = pre .1 .1 .1;
+  kind-read = k;
+  size-read = s;
+  many-read = m;
+}
+
+module _ {t : List ℕ} {to from first past kind size many : ℕ} (r : Ranged t to from first past kind size many) where
+  kind-page : kind ≡ leAt (pageAt t from) 0 2
+  kind-page = r .kind-read ∙ sym (leAt-page t from 0 2 (omega arith))
+
+  pub ranged-fits : RangeFits size first many
+  unfolding read pageIn
+  ranged-fits =
+      range-fits (pageAt t from) kind size first past many (r .roomy) (r .first-in) (r .past-in) kind-page (r .size-read) (r .many-read)
+
+  pub range-built : (birth c low high : ℕ) → Bytes t
+      → laid t (to * pageSize) (take (size * many) (drop (from * pageSize + headerSize + size * first) t)) (size * many) (headerOf kind many birth c low high)
+      ≡ build t to (fresh c birth low high (rangeView first past (read t from .view)))
+  unfolding read pageIn rangeView
+  range-built birth c low high h =
+      let b : List ℕ = pageAt t from in
+      let start : from * pageSize + (headerSize + size * first) ≡ from * pageSize + headerSize + size * first = omega arith in
+      let es : List ℕ = take (size * many) (drop (from * pageSize + headerSize + size * first) t) in
+      let long : length es ≡ size * many = length-part (size * many) (from * pageSize + headerSize + size * first) t (omega (arith, ranged-fits, r .from-has)) in
+      let f : first ≤ leAt b 2 2 = rw (← count-viewIn b) (r .first-in) in
+      let g : past ≤ leAt b 2 2 = rw (← count-viewIn b) (r .past-in) in
+      let there : take (sizeOf (leAt b 0 2) * (past - first)) (drop (headerSize + sizeOf (leAt b 0 2) * first) b) ≡ es =
+      rw (← kind-page, ← r .size-read, ← r .many-read, ← start) (part-page t from (headerSize + size * first) (size * many) (omega (arith, ranged-fits))) in
+      let same = range-entries b first past f g (bytes-pageAt t from h) (length-pageAt t from (omega (arith, r .from-has))) (entries-fit b (r .roomy)) ∙ there in
+      let many-is : count (rangeView first past (viewIn b)) ≡ many = range-count b first past f g ∙ sym (r .many-read) in
+      rw (long, many-is) at (built-there t to kind c birth low high (rangeView first past (viewIn b)) es (kind-viewIn b ∙ sym kind-page) same (rw long (omega (arith, ranged-fits))) (r .to-has))
 
 -- ── A new root ──────────────────────────────────────────────────────────────────────────────────────────────────
 
-pub root-bytes : (kind c : ℕ) (x : Child)
-    → buildBytes (fresh c c 0 lastKey (rootView kind x)) ≡ sets (sets blank 0 (headerOf kind 1 c c 0 lastKey)) headerSize (childBytes x)
+pub root-built : (t : List ℕ) (to kind c : ℕ) (x : Child) → (to + 1) * pageSize ≤ length t
+    → laid t (to * pageSize) (childBytes x) childSize (headerOf kind 1 c c 0 lastKey)
+    ≡ build t to (fresh c c 0 lastKey (rootView kind x))
 unfolding rootView writeEach count
-root-bytes kind c x =
-    build-bytes kind c c 0 lastKey (rootView kind x) (childBytes x) refl (append-nil (childBytes x)) (rw (length-childBytes x) (omega arith))
+root-built t to kind c x h =
+    rw (length-childBytes x) at (built-there t to kind c c 0 lastKey (rootView kind x) (childBytes x) refl (append-nil (childBytes x)) (rw (length-childBytes x) (omega arith)) h)

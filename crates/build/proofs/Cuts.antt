@@ -13,15 +13,11 @@ use Rattle.rules.specs.Entry.{keys, cut, rising}
 use Rattle.rules.specs.Page.{viewIn, count, readEach, certIn, childIn}
 use Rattle.rules.specs.Place.{cutView}
 use Rattle.rules.proofs.bytes.Pages.{viewIn-leaf, viewIn-inner, count-viewIn}
-use Rattle.entries.specs.Spot.{sizeOf, keysIn, spotOf, startOf}
+use Rattle.entries.specs.Spot.{sizeOf, spotOf, startOf}
 use Rattle.entries.proofs.Cut.{cut-range}
 use Rattle.entries.proofs.KeysIn.{keys-certs, keys-children, length-keysIn, spot-bound, start-bound}
 use Rattle.build.proofs.Built.{range-nil}
-use Rattle.build.specs.Range.{rangeView, Ordered}
-
--- the keys of a page's entries, whatever its kind
-abbrev pub keysOf : List ℕ → List ℕ
-keysOf b = keysIn (sizeOf (leAt b 0 2)) (leAt b 2 2) b
+use Rattle.build.specs.Range.{keysOf, rangeView, Ordered}
 
 pub cut-view : (b : List ℕ) (low high : ℕ) → Ordered (viewIn b)
     → cutView low high (viewIn b) ≡ rangeView (startOf low (keysOf b)) (spotOf high (keysOf b)) (viewIn b)

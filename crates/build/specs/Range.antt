@@ -5,11 +5,12 @@ use mathlib.Core.Bool.{true, false}
 use mathlib.Core.List.{List, [], _∷_, _++_}
 use lib.Dec.{eqb}
 use lib.ListN.{length, take, drop}
-use Rattle.fields.specs.Field.{le}
+use Rattle.fields.specs.Field.{le, leAt}
 use Rattle.rules.specs.Layout.{leafRoom, innerRoom, leafHalf, innerHalf, leafKind}
 use Rattle.rules.specs.Entry.{Child, keys, rising}
 use Rattle.rules.specs.Page.{View, count}
 use Rattle.rules.specs.Insert.{divide}
+use Rattle.entries.specs.Spot.{sizeOf, keysIn}
 
 -- the header of a page that is built: what its kind and count are, its birth, when it is built, its range
 unfoldable pub headerOf : ℕ → ℕ → ℕ → ℕ → ℕ → ℕ → List ℕ
@@ -23,6 +24,10 @@ rangeView first past v = record {
   certs = take (past - first) (drop first (v .certs));
   children = take (past - first) (drop first (v .children));
 }
+
+-- the keys of a page's entries, whatever its kind
+abbrev pub keysOf : List ℕ → List ℕ
+keysOf b = keysIn (sizeOf (leAt b 0 2)) (leAt b 2 2) b
 
 -- no more entries than a page has room for
 pub record Roomy (v : View) : Type 0 where

@@ -1,11 +1,11 @@
 // Pages that a call builds: the page that mending makes, the halves of a split page and a new root.
 //
-// Each is built whole in 512 bytes of its own and then stored as one page of the table, so every byte behind the last
-// entry is zero and no other page changes. A half and a mended page are the same thing: a range of another page's
-// entries under a new header.
+// Each is built where it is to stand, in the lent table: first the entries, straight from the page they are on, then
+// zeros behind the last one, then the header. No other page changes. A half and a mended page are the same thing: a range
+// of another page's entries under a new header.
 //
-// Below stand `fields`, numbers in bytes; `entries`, entries as runs of bytes; and `rules`, whose `buildBytes` and
-// `build` every contract here is an equation with.
+// Below stand `fields`, numbers in bytes; `entries`, entries as runs of bytes; and `rules`, whose `build` every contract
+// of a function here that others call and that writes is an equation with.
 
 use rules::AT_BIRTH;
 use rules::AT_BUILT;
@@ -14,6 +14,7 @@ use rules::AT_HIGH;
 use rules::AT_KIND;
 use rules::AT_LOW;
 use rules::AT_TOUCHED;
+use rules::CHILD;
 use rules::HEADER;
 use rules::INNER_HALF;
 use rules::LAST_KEY;
@@ -26,11 +27,12 @@ ghost use Prim.Native.Nat.{_+_, _*_, _-_, _≤_};
 ghost use lib.ListN.{length};
 ghost use lib.Seq.{sets};
 ghost use Rattle.rules.specs.Layout.{pageSize, headerSize, lastKey};
-ghost use Rattle.rules.specs.Page.{count, viewIn, pageIn, blank, buildBytes, fresh};
-ghost use Rattle.rules.specs.Table.{setPage, read, build};
-ghost use Rattle.rules.specs.Place.{cutView, mended};
+ghost use Rattle.rules.specs.Page.{count, viewIn, fresh};
+ghost use Rattle.rules.specs.Table.{read, build};
+ghost use Rattle.rules.specs.Place.{mended};
 ghost use Rattle.rules.specs.Insert.{divide, newChild, lowerPage, upperPage};
-ghost use Rattle.build.specs.Range.{headerOf, rangeView, rootView, halfOf, Roomy, Ordered, Divides};
+ghost use Rattle.entries.specs.Spot.{spotOf, startOf};
+ghost use Rattle.build.specs.Range.{headerOf, keysOf, rangeView, rootView, halfOf, Roomy, Ordered, Divides};
 
 // How many numbers there are from `first` up to `past`; none where `past` is below.
 fn span(first: usize, past: usize) -> usize
@@ -39,61 +41,74 @@ fn span(first: usize, past: usize) -> usize
     if first < past { past - first } else { 0 }
 }
 
-// A page of zeros.
-fn zeros() -> [u8; PAGE]
-    ensures { λ r. ⌜ r ≡ blank ⌝ }
+// The header of a page that is built now, over 32 bytes.
+fn header(
+    table: &mut [u8],
+    at: usize,
+    kind: u16,
+    count: u16,
+    birth: u32,
+    c: u32,
+    low: u64,
+    high: u64,
+)
+    requires { ⌜ at + headerSize ≤ length (now table) ⌝ }
+    ensures { λ r. ⌜ now (table .exit) ≡ sets (now (table .entry)) at (headerOf kind count birth c low high) ⌝ }
 {
-    [0u8; PAGE]
+    fields::put16(table, at + AT_KIND, kind);
+    fields::put16(table, at + AT_COUNT, count);
+    fields::put32(table, at + AT_BIRTH, birth);
+    fields::put32(table, at + AT_BUILT, c);
+    fields::put32(table, at + AT_TOUCHED, c);
+    fields::put64(table, at + AT_LOW, low);
+    fields::put64(table, at + AT_HIGH, high);
 }
 
-// The header of a page that is built now, over a page's first 32 bytes.
-fn header(page: &mut [u8], kind: u16, count: u16, birth: u32, c: u32, low: u64, high: u64)
-    requires { ⌜ headerSize ≤ length (now page) ⌝ }
-    ensures { λ r. ⌜ now (page .exit) ≡ sets (now (page .entry)) 0 (headerOf kind count birth c low high) ⌝ }
-{
-    fields::put16(page, AT_KIND, kind);
-    fields::put16(page, AT_COUNT, count);
-    fields::put32(page, AT_BIRTH, birth);
-    fields::put32(page, AT_BUILT, c);
-    fields::put32(page, AT_TOUCHED, c);
-    fields::put64(page, AT_LOW, low);
-    fields::put64(page, AT_HIGH, high);
-}
-
-// The page with a range of another page's entries.
-fn range_page(
-    from: &[u8],
+// A page becomes the one with a range of another page's entries. All that is read of that page is read before the
+// header is written, and its entries go down in their own order, so it may be the same page.
+fn build_range(
+    table: &mut [u8],
+    to: usize,
+    from: usize,
     first: usize,
     past: usize,
     birth: u32,
     c: u32,
     low: u64,
     high: u64,
-) -> [u8; PAGE]
-    requires { ⌜ (length (now from) ≡ pageSize) × Roomy (viewIn (now from)) ⌝ }
-    requires { ⌜ (first ≤ count (viewIn (now from))) × (past ≤ count (viewIn (now from))) ⌝ }
-    ensures { λ r. ⌜ r ≡ buildBytes (fresh c birth low high (rangeView first past (viewIn (now (from .entry))))) ⌝ }
+)
+    requires { ⌜ ((to + 1) * pageSize ≤ length (now table)) × ((from + 1) * pageSize ≤ length (now table)) ⌝ }
+    requires { ⌜ Roomy (read (now table) from .view) ⌝ }
+    requires { ⌜ (first ≤ count (read (now table) from .view)) × (past ≤ count (read (now table) from .view)) ⌝ }
+    ensures { λ r. ⌜ now (table .exit) ≡ build (now (table .entry)) to (fresh c birth low high (rangeView first past (read (now (table .entry)) from .view))) ⌝ }
 {
-    let kind = fields::get16(from, AT_KIND);
+    let kind = fields::get16(table, from * PAGE + AT_KIND);
     let size = entries::size_of(kind);
     let many = span(first, past);
-    let mut page = zeros();
-    header(&mut page, kind, many as u16, birth, c, low, high);
-    entries::copy(&mut page, HEADER, from, HEADER + size * first, size * many);
-    page
+    let len = size * many;
+    let at = to * PAGE;
+    entries::copy(table, at + HEADER, from * PAGE + HEADER + size * first, len);
+    entries::clear(table, at + HEADER + len, at + PAGE);
+    header(table, at, kind, many as u16, birth, c, low, high);
 }
 
-// The page with another page's entries in a range of keys, which is the page's own range.
-fn cut_page(from: &[u8], birth: u32, c: u32, low: u64, high: u64) -> [u8; PAGE]
-    requires { ⌜ length (now from) ≡ pageSize ⌝ }
-    requires { ⌜ Ordered (viewIn (now from)) ⌝ }
-    ensures { λ r. ⌜ r ≡ buildBytes (fresh c birth low high (cutView low high (viewIn (now (from .entry))))) ⌝ }
+// Which entries of a page have keys in a range: from the first of them up to the first one past them.
+struct Run {
+    first: usize,
+    past: usize,
+}
+
+fn run_in(page: &[u8], low: u64, high: u64) -> Run
+    requires { ⌜ length (now page) ≡ pageSize ⌝ }
+    requires { ⌜ Roomy (viewIn (now page)) ⌝ }
+    ensures { λ r. ⌜ (r .first ≡ startOf low (keysOf (now (page .entry)))) × (r .past ≡ spotOf high (keysOf (now (page .entry)))) ⌝ }
 {
-    let size = entries::size_of(fields::get16(from, AT_KIND));
-    let count = fields::get16(from, AT_COUNT) as usize;
-    let first = entries::start(from, size, count, low);
-    let past = entries::spot(from, size, count, high);
-    range_page(from, first, past, birth, c, low, high)
+    let size = entries::size_of(fields::get16(page, AT_KIND));
+    let count = fields::get16(page, AT_COUNT) as usize;
+    Run {
+        first: entries::start(page, size, count, low),
+        past: entries::spot(page, size, count, high),
+    }
 }
 
 // How many entries of a full page of this kind its lower half takes.
@@ -113,45 +128,6 @@ fn middle(page: &[u8]) -> u64
     fields::get64(page, HEADER + entries::size_of(kind) * half_of(kind))
 }
 
-fn lower_page(from: &[u8], c: u32) -> [u8; PAGE]
-    requires { ⌜ length (now from) ≡ pageSize ⌝ }
-    requires { ⌜ Divides (viewIn (now from)) ⌝ }
-    ensures { λ r. ⌜ r ≡ buildBytes (lowerPage c (pageIn (now (from .entry)))) ⌝ }
-{
-    let half = half_of(fields::get16(from, AT_KIND));
-    let low = fields::get64(from, AT_LOW);
-    range_page(from, 0, half, c, c, low, middle(from) - 1)
-}
-
-fn upper_page(from: &[u8], c: u32) -> [u8; PAGE]
-    requires { ⌜ length (now from) ≡ pageSize ⌝ }
-    requires { ⌜ Divides (viewIn (now from)) ⌝ }
-    ensures { λ r. ⌜ r ≡ buildBytes (upperPage c (pageIn (now (from .entry)))) ⌝ }
-{
-    let half = half_of(fields::get16(from, AT_KIND));
-    let count = fields::get16(from, AT_COUNT) as usize;
-    let high = fields::get64(from, AT_HIGH);
-    range_page(from, half, count, c, c, middle(from), high)
-}
-
-// A page over every key with one child.
-fn root_page(kind: u16, key: u64, child: u16, previous: u16, birth: u32, c: u32) -> [u8; PAGE]
-    ensures { λ r. ⌜ r ≡ buildBytes (fresh c c 0 lastKey (rootView kind (newChild birth key child previous))) ⌝ }
-{
-    let mut page = zeros();
-    header(&mut page, kind, 1, c, c, 0, LAST_KEY);
-    entries::write_child(&mut page, HEADER, key, child, previous, birth);
-    page
-}
-
-// Page i of a table becomes this one.
-fn store(table: &mut [u8], i: usize, page: &[u8; PAGE])
-    requires { ⌜ (i + 1) * pageSize ≤ length (now table) ⌝ }
-    ensures { λ r. ⌜ now (table .exit) ≡ setPage (now (table .entry)) i (now (page .entry)) ⌝ }
-{
-    entries::copy(table, i * PAGE, page, 0, PAGE);
-}
-
 // The child at a place becomes the entries of its previous page with keys in the place's range.
 pub fn build_mended(table: &mut [u8], e: Place, c: u32)
     requires { ⌜ ((e .child + 1) * pageSize ≤ length (now table)) × ((e .previous + 1) * pageSize ≤ length (now table)) ⌝ }
@@ -160,8 +136,18 @@ pub fn build_mended(table: &mut [u8], e: Place, c: u32)
 {
     let a = e.previous as usize * PAGE;
     let end = a + PAGE;
-    let page = cut_page(&table[a..end], e.birth, c, e.low, e.high);
-    store(table, e.child as usize, &page);
+    let run = run_in(&table[a..end], e.low, e.high);
+    build_range(
+        table,
+        e.child as usize,
+        e.previous as usize,
+        run.first,
+        run.past,
+        e.birth,
+        c,
+        e.low,
+        e.high,
+    );
 }
 
 // The upper half's low, of a page that is to be split.
@@ -181,10 +167,10 @@ pub fn build_lower(table: &mut [u8], to: usize, from: usize, c: u32)
     requires { ⌜ Divides (read (now table) from .view) ⌝ }
     ensures { λ r. ⌜ now (table .exit) ≡ build (now (table .entry)) to (lowerPage c (read (now (table .entry)) from)) ⌝ }
 {
-    let a = from * PAGE;
-    let end = a + PAGE;
-    let page = lower_page(&table[a..end], c);
-    store(table, to, &page);
+    let half = half_of(fields::get16(table, from * PAGE + AT_KIND));
+    let low = fields::get64(table, from * PAGE + AT_LOW);
+    let high = middle_at(table, from) - 1;
+    build_range(table, to, from, 0, half, c, c, low, high);
 }
 
 // A page becomes the upper half of another.
@@ -193,10 +179,11 @@ pub fn build_upper(table: &mut [u8], to: usize, from: usize, c: u32)
     requires { ⌜ Divides (read (now table) from .view) ⌝ }
     ensures { λ r. ⌜ now (table .exit) ≡ build (now (table .entry)) to (upperPage c (read (now (table .entry)) from)) ⌝ }
 {
-    let a = from * PAGE;
-    let end = a + PAGE;
-    let page = upper_page(&table[a..end], c);
-    store(table, to, &page);
+    let half = half_of(fields::get16(table, from * PAGE + AT_KIND));
+    let count = fields::get16(table, from * PAGE + AT_COUNT) as usize;
+    let low = middle_at(table, from);
+    let high = fields::get64(table, from * PAGE + AT_HIGH);
+    build_range(table, to, from, half, count, c, c, low, high);
 }
 
 // A page becomes a new root over the old one, whose entry the last numbers are.
@@ -213,6 +200,8 @@ pub fn build_root(
     requires { ⌜ (to + 1) * pageSize ≤ length (now table) ⌝ }
     ensures { λ r. ⌜ now (table .exit) ≡ build (now (table .entry)) to (fresh c c 0 lastKey (rootView kind (newChild birth key child previous))) ⌝ }
 {
-    let page = root_page(kind, key, child, previous, birth, c);
-    store(table, to, &page);
+    let at = to * PAGE;
+    entries::write_child(table, at + HEADER, key, child, previous, birth);
+    entries::clear(table, at + HEADER + CHILD, at + PAGE);
+    header(table, at, kind, 1, c, c, 0, LAST_KEY);
 }

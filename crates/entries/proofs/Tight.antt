@@ -15,6 +15,9 @@ start-tight κs a pre z z′ l l′ p q = (p ∙ sym q, refl)
 pub copy-tight : Tight this.copy.Kinds.ps this.copy.Kinds.r this.copy.Reads.Pre this.copy.Reads.Post
 copy-tight κs a pre z z′ l l′ p q = (refl, λ i. ((p ∙ sym q) i, l .1))
 
+pub clear-tight : Tight this.clear.Kinds.ps this.clear.Kinds.r this.clear.Reads.Pre this.clear.Reads.Post
+clear-tight κs a pre z z′ l l′ p q = (refl, λ i. ((p ∙ sym q) i, l .1))
+
 pub write-cert-tight : Tight this.write_cert.Kinds.ps this.write_cert.Kinds.r this.write_cert.Reads.Pre this.write_cert.Reads.Post
 write-cert-tight κs a pre z z′ l l′ p q = (refl, λ i. ((p ∙ sym q) i, l .1))
 

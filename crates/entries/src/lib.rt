@@ -1,4 +1,5 @@
-// The entries of a page as runs of bytes: their size, the spot of a key among them, and runs copied and moved up.
+// The entries of a page as runs of bytes: their size, the spot of a key among them, and runs copied, moved up and set to
+// zero.
 //
 // A leaf's entries and an inner page's differ in size alone here: each starts with its key. The spot of a key is the
 // number of entries before the first one with a greater key. Every function that writes says which bytes it sets, and
@@ -15,8 +16,8 @@ use rules::CHILD;
 use rules::HEADER;
 use rules::LEAF;
 ghost use mathlib.Core.Path.{_≡_};
-ghost use Prim.Native.Nat.{_+_, _*_, _-_, _≤_};
-ghost use lib.ListN.{length, take, drop};
+ghost use Prim.Native.Nat.{_+_, _*_, _-_, _≤_, _<_};
+ghost use lib.ListN.{length, take, drop, replicate};
 ghost use lib.Seq.{sets};
 ghost use Rattle.rules.specs.Layout.{headerSize, certSize, childSize};
 ghost use Rattle.rules.specs.Page.{certBytes, childBytes};
@@ -60,15 +61,30 @@ pub fn start(page: &[u8], size: usize, count: usize, low: u64) -> usize
     spot(page, size, count, low - 1)
 }
 
-// Bytes of another slice, put over as many at `at`.
-pub fn copy(to: &mut [u8], at: usize, from: &[u8], start: usize, len: usize)
-    requires { ⌜ at + len ≤ length (now to) ⌝ }
-    requires { ⌜ start + len ≤ length (now from) ⌝ }
-    ensures { λ r. ⌜ now (to .exit) ≡ sets (now (to .entry)) at (take len (drop start (now (from .entry)))) ⌝ }
+// Bytes from `from` on, put over as many at `to`, the first one first. A run that starts before its new place ends
+// before it too, so each byte is read before another is put over it.
+pub fn copy(bytes: &mut [u8], to: usize, from: usize, len: usize)
+    requires { ⌜ to + len ≤ length (now bytes) ⌝ }
+    requires { ⌜ from + len ≤ length (now bytes) ⌝ }
+    requires { ⌜ (from < to → from + len ≤ to) ⌝ }
+    ensures { λ r. ⌜ now (bytes .exit) ≡ sets (now (bytes .entry)) to (take len (drop from (now (bytes .entry)))) ⌝ }
 {
     let mut k = 0;
     while k < len {
-        to[at + k] = from[start + k];
+        bytes[to + k] = bytes[from + k];
+        k += 1;
+    }
+}
+
+// Bytes from `at` up to `end` become zero.
+pub fn clear(bytes: &mut [u8], at: usize, end: usize)
+    requires { ⌜ at ≤ end ⌝ }
+    requires { ⌜ end ≤ length (now bytes) ⌝ }
+    ensures { λ r. ⌜ now (bytes .exit) ≡ sets (now (bytes .entry)) at (replicate (end - at) 0) ⌝ }
+{
+    let mut k = at;
+    while k < end {
+        bytes[k] = 0;
         k += 1;
     }
 }

@@ -1,10 +1,11 @@
--- `build::build_mended`: the previous page's part, cut to the place's range, stored.
+-- `build::build_mended`: where keys rise, the entries in a range of keys are a run of the previous page (Cuts).
 -- Assumes nothing.
 use Rattle.rules.specs.Page.{pageIn}
 use Rattle.rules.specs.Place.{mended}
-use Rattle.rules.specs.Table.{read, build}
+use Rattle.rules.specs.Table.{pageAt, read}
 use Rattle.rules.proofs.bytes.Tables.{length-pageAt}
 use Rattle.entries.proofs.Part.{page-part}
+use Rattle.build.proofs.Cuts.{cut-view, start-count, spot-count}
 use native.Mathlib.Omega.{arith}
 use borrow.Author.Needs.{needs}
 use Rattle.build.proofs.build_mended.Statement.{statement}
@@ -19,39 +20,59 @@ mul-a c = search needs
 add-end : tie.Need-add-end
 add-end c = search needs
 
-sub-cut-page : tie.Need-sub-cut-page
-sub-cut-page c = search needs
+sub-run-in : tie.Need-sub-run-in
+sub-run-in c = search needs
 
-part-cut-page-start : tie.Need-part-cut-page-start
-part-cut-page-start c = search needs
+part-run-in-start : tie.Need-part-run-in-start
+part-run-in-start c = search needs
 
-part-cut-page-end : tie.Need-part-cut-page-end
-part-cut-page-end c = search needs
+part-run-in-end : tie.Need-part-run-in-end
+part-run-in-end c = search needs
 
-cut-page-requires : tie.Need-cut-page-requires
+run-in-requires : tie.Need-run-in-requires
 unfolding read pageIn
-cut-page-requires c κs =
+run-in-requires c κs =
     let a = c .before .before .before .before .args in
     let pre = c .before .before .before .before .pre in
-    rw (page-part (a .table .now) (a .e .previous))
-    (length-pageAt (a .table .now) (a .e .previous) (omega arith), pre .1)
+    rw (page-part (a .table .now) (a .e .previous)) (
+      length-pageAt (a .table .now) (a .e .previous)
+          (omega arith),
+      pre .1 .roomy,
+    )
 
-cast-store : tie.Need-cast-store
-cast-store c = search needs
+cast-build-range : tie.Need-cast-build-range
+cast-build-range c = search needs
 
-store-requires : tie.Need-store-requires
-store-requires c κs = search needs
+cast-build-range-2 : tie.Need-cast-build-range-2
+cast-build-range-2 c = search needs
+
+build-range-requires : tie.Need-build-range-requires
+unfolding read pageIn
+build-range-requires c κs =
+    let run-in = c .before .before .before .run-in in
+    let a = c .before .before .before .before .before .before .before .before .args in
+    let pre = c .before .before .before .before .before .before .before .before .pre in
+    rw (run-in .ensures .0, run-in .ensures .1, page-part (a .table .now) (a .e .previous))
+    ((omega arith, omega arith), (pre .1 .roomy, (start-count (pageAt (a .table .now) (a .e .previous)) (a .e .low), spot-count (pageAt (a .table .now) (a .e .previous)) (a .e .high))))
 
 same-length : tie.Need-same-length
 same-length c = search needs
 
 returns : tie.Need-returns
-unfolding build read pageIn mended
+unfolding read pageIn mended
 returns c =
-    let store = c .before .before .store in
-    let cut-page = c .before .before .before .before .before .before .cut-page in
+    let build-range = c .before .before .build-range in
+    let run-in = c .before .before .before .before .before .before .run-in in
     let a = c .before .before .before .before .before .before .before .before .before .before .before .args in
-    rw (store .ensures, cut-page .ensures, page-part (a .table .now) (a .e .previous))
+    let pre = c .before .before .before .before .before .before .before .before .before .before .before .pre in
+    rw (
+      build-range .ensures,
+      run-in .ensures .0,
+      run-in .ensures .1,
+      page-part (a .table .now) (a .e .previous),
+      cut-view (pageAt (a .table .now) (a .e .previous)) (a .e .low) (a .e .high)
+          (pre .1),
+    )
 
 pub build-mended-spec : {M : Type 1} → statement M
 build-mended-spec =
@@ -60,11 +81,12 @@ build-mended-spec =
     cast-a
     mul-a
     add-end
-    sub-cut-page
-    part-cut-page-start
-    part-cut-page-end
-    cut-page-requires
-    cast-store
-    store-requires
+    sub-run-in
+    part-run-in-start
+    part-run-in-end
+    run-in-requires
+    cast-build-range
+    cast-build-range-2
+    build-range-requires
     same-length
     returns)

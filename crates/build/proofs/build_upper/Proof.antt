@@ -1,60 +1,98 @@
--- `build::build_upper`: the split page's part, its upper half, stored.
+-- `build::build_upper`: the upper half is the range from the half up to the count (Halves).
 -- Assumes nothing.
 use Rattle.rules.specs.Page.{pageIn}
-use Rattle.rules.specs.Table.{read, build}
-use Rattle.rules.proofs.bytes.Tables.{length-pageAt}
-use Rattle.entries.proofs.Part.{page-part}
+use Rattle.rules.specs.Table.{pageAt, read}
+use Rattle.rules.specs.Insert.{upperPage}
+use Rattle.rules.proofs.bytes.Pages.{count-viewIn}
+use Rattle.entries.proofs.Part.{leAt-page}
+use Rattle.build.proofs.Halves.{upper-half, half-below}
 use native.Mathlib.Omega.{arith}
 use borrow.Author.Needs.{needs}
 use Rattle.build.proofs.build_upper.Statement.{statement}
 use Rattle.build.proofs.build_upper.Tie as tie
 
-mul-a : tie.Need-mul-a
-mul-a c = search needs
+mul-get16 : tie.Need-mul-get16
+mul-get16 c = search needs
 
-add-end : tie.Need-add-end
-add-end c = search needs
+add-get16 : tie.Need-add-get16
+add-get16 c = search needs
 
-sub-upper-page : tie.Need-sub-upper-page
-sub-upper-page c = search needs
+get16-requires : tie.Need-get16-requires
+get16-requires c κs = search needs
 
-part-upper-page-start : tie.Need-part-upper-page-start
-part-upper-page-start c = search needs
+half-of-requires : tie.Need-half-of-requires
+half-of-requires c κs = search needs
 
-part-upper-page-end : tie.Need-part-upper-page-end
-part-upper-page-end c = search needs
+mul-get16-2 : tie.Need-mul-get16-2
+mul-get16-2 c = search needs
 
-upper-page-requires : tie.Need-upper-page-requires
+add-get16-2 : tie.Need-add-get16-2
+add-get16-2 c = search needs
+
+get16-requires-2 : tie.Need-get16-requires-2
+get16-requires-2 c κs = search needs
+
+cast-count : tie.Need-cast-count
+cast-count c = search needs
+
+middle-at-requires : tie.Need-middle-at-requires
+middle-at-requires c κs = search needs
+
+mul-get64 : tie.Need-mul-get64
+mul-get64 c = search needs
+
+add-get64 : tie.Need-add-get64
+add-get64 c = search needs
+
+get64-requires : tie.Need-get64-requires
+get64-requires c κs = search needs
+
+build-range-requires : tie.Need-build-range-requires
 unfolding read pageIn
-upper-page-requires c κs =
-    let a = c .before .before .before .args in
-    let pre = c .before .before .before .pre in
-    rw (page-part (a .table .now) (a .from)) (length-pageAt (a .table .now) (a .from) (omega arith), pre .1)
-
-store-requires : tie.Need-store-requires
-store-requires c κs = search needs
+build-range-requires c κs =
+    let a = c .before .before .before .before .before .before .before .before .before .before .before .args in
+    let pre = c .before .before .before .before .before .before .before .before .before .before .before .pre in
+    let half-of = c .before .before .before .before .before .before .before .half-of in
+    let get16 = c .before .before .before .before .before .before .before .before .get16 in
+    let get162 = c .before .before .before .before .before .get162 in
+    let b = pageAt (a .table .now) (a .from) in
+    let on = leAt-page (a .table .now) (a .from) in
+    (pre .0, (pre .1 .roomy, (rw (half-of .ensures, get16 .ensures, ← on 0 2 (omega arith), count-viewIn b) (omega (arith, half-below b (pre .1))), rw (get162 .ensures, ← on 2 2 (omega arith), count-viewIn b) (omega arith))))
 
 same-length : tie.Need-same-length
 same-length c = search needs
 
 returns : tie.Need-returns
-unfolding build read
+unfolding upperPage read pageIn
 returns c =
-    let store = c .before .before .store in
-    let upper-page = c .before .before .before .before .before .upper-page in
-    let a = c .before .before .before .before .before .before .before .before .before .args in
-    rw (store .ensures, upper-page .ensures, page-part (a .table .now) (a .from))
+    let a = c .before .before .before .before .before .before .before .before .before .before .before .before .before .before .args in
+    let build-range = c .before .before .build-range in
+    let get64 = c .before .before .before .before .get64 in
+    let middle-at = c .before .before .before .before .before .before .middle-at in
+    let half-of = c .before .before .before .before .before .before .before .before .before .before .half-of in
+    let get162 = c .before .before .before .before .before .before .before .before .get162 in
+    let get16 = c .before .before .before .before .before .before .before .before .before .before .before .get16 in
+    let pre = c .before .before .before .before .before .before .before .before .before .before .before .before .before .before .pre in
+    let b = pageAt (a .table .now) (a .from) in
+    let on = leAt-page (a .table .now) (a .from) in
+    rw (build-range .ensures, get64 .ensures, middle-at .ensures, half-of .ensures, get162 .ensures, get16 .ensures, ← on 0 2 (omega arith), ← on 2 2 (omega arith), ← on 24 8 (omega arith), upper-half b (half-below b (pre .1)))
 
 pub build-upper-spec : {M : Type 1} → statement M
 build-upper-spec =
     tie.close
     (tie.spec
-    mul-a
-    add-end
-    sub-upper-page
-    part-upper-page-start
-    part-upper-page-end
-    upper-page-requires
-    store-requires
+    mul-get16
+    add-get16
+    get16-requires
+    half-of-requires
+    mul-get16-2
+    add-get16-2
+    get16-requires-2
+    cast-count
+    middle-at-requires
+    mul-get64
+    add-get64
+    get64-requires
+    build-range-requires
     same-length
     returns)
