@@ -2,7 +2,8 @@
 
 use super::subject::Subject;
 use second::answer::{DONE, LENGTH, NONE};
-use second::layout::PAGES_MOST;
+use second::key::key;
+use second::layout::{PAGE, PAGES_MOST};
 #[cfg(store)]
 use second::proved::Proved;
 use second::store::Store;
@@ -10,19 +11,35 @@ use second::store::Store;
 /// More than are ever listed.
 const ROOM: usize = 2000;
 
-/// A subject over a store of type `$store`; `$it` is how its calls are reached, `$tables` its tables.
+/// The page that has the upper half of the first leaf that splits.
+const UPPER: usize = 3;
+
+/// The certificate of this serial is the first one there.
+const FIRST_UPPER: u32 = 21;
+
+/// A subject over a store of type `$store`; `$new` makes one of so many pages, and `$reach` is where its tables are.
 macro_rules! subject {
     ($subject:ident, $name:expr, $store:ty, $new:expr, $tables:ident => $reach:expr) => {
         pub struct $subject {
             store: $store,
+            /// A leaf of 40 was kept and then split, so that each half can be mended.
+            split: $store,
             keys: Vec<u64>,
             records: Vec<u32>,
         }
 
         impl $subject {
             pub fn new() -> $subject {
+                let mut split = ($new)(5);
+                for serial in 1..=41 {
+                    if serial == 41 {
+                        assert_eq!(split.sync(), DONE);
+                    }
+                    assert_eq!(split.insert(key(7, serial, 1), serial), DONE);
+                }
                 $subject {
-                    store: $new,
+                    store: ($new)(PAGES_MOST),
+                    split,
                     keys: vec![0; ROOM],
                     records: vec![0; ROOM],
                 }
@@ -35,7 +52,7 @@ macro_rules! subject {
             }
 
             fn clear(&mut self) {
-                self.store = $new;
+                self.store = ($new)(PAGES_MOST);
             }
 
             fn fill(&mut self, keys: &[u64], records: &[u32]) {
@@ -82,6 +99,16 @@ macro_rules! subject {
                 true
             }
 
+            fn mend(&mut self, count: usize) -> bool {
+                for _ in 0..count {
+                    let $tables = &mut self.split;
+                    $reach.working[UPPER * PAGE] = 0;
+                    let looked = self.split.lookup(key(7, FIRST_UPPER, 1));
+                    assert_eq!(looked, (DONE, FIRST_UPPER));
+                }
+                true
+            }
+
             fn refused(&mut self, count: usize) -> bool {
                 for _ in 0..count {
                     let $tables = &mut self.store;
@@ -97,6 +124,6 @@ macro_rules! subject {
     };
 }
 
-subject!(Second, "second program", Store, Store::fresh(PAGES_MOST), it => it);
+subject!(Second, "second program", Store, Store::fresh, it => it);
 #[cfg(store)]
-subject!(Proven, "proved store", Proved, Proved(Store::fresh(PAGES_MOST)), it => it.0);
+subject!(Proven, "proved store", Proved, |n| Proved(Store::fresh(n)), it => it.0);

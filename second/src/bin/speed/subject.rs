@@ -56,6 +56,11 @@ pub trait Subject {
         false
     }
 
+    /// Lookups of which each mends its leaf; false if it has no such thing.
+    fn mend(&mut self, _count: usize) -> bool {
+        false
+    }
+
     /// Calls that are refused at once; false if it has no such thing.
     fn refused(&mut self, _count: usize) -> bool {
         false

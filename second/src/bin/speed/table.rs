@@ -5,7 +5,7 @@ use super::Certificates;
 use std::fmt;
 use std::time::Instant;
 
-const ROWS: [&str; 8] = [
+const ROWS: [&str; 9] = [
     "lookup, present",
     "lookup, absent",
     "newest",
@@ -13,6 +13,7 @@ const ROWS: [&str; 8] = [
     "insert, all kept, each",
     "sync after one insert",
     "open",
+    "lookup that mends a leaf",
     "refused at once",
 ];
 
@@ -75,6 +76,8 @@ fn round(subject: &mut dyn Subject, all: &Certificates) -> [Option<f64>; ROWS.le
     let sync = each(1, || subject.sync());
     let mut opened = false;
     let open = each(1, || opened = subject.open());
+    let mut mends = false;
+    let mend = each(count, || mends = subject.mend(count));
     let mut refuses = false;
     let refused = each(count, || refuses = subject.refused(count));
     [
@@ -85,18 +88,19 @@ fn round(subject: &mut dyn Subject, all: &Certificates) -> [Option<f64>; ROWS.le
         Some(insert),
         Some(sync),
         opened.then_some(open),
+        mends.then_some(mend),
         refuses.then_some(refused),
     ]
 }
 
 impl fmt::Display for Table {
     fn fmt(&self, out: &mut fmt::Formatter) -> fmt::Result {
-        write!(out, "{:24}", "")?;
+        write!(out, "{:26}", "")?;
         for subject in &self.subjects {
             write!(out, "{:>20}", subject.name())?;
         }
         for (row, name) in ROWS.iter().enumerate() {
-            write!(out, "\n{name:24}")?;
+            write!(out, "\n{name:26}")?;
             let first = self.best[0][row];
             for best in &self.best {
                 match (best[row], first) {
