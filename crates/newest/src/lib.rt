@@ -5,8 +5,8 @@
 // mended on the way stays mended, also behind a refusal. A damaged page is never passed over: the newest certificate might
 // stand there.
 //
-// Of each leaf one certificate is looked at, the last that is not above the meter's keys. So the time goes with the
-// leaves of a meter, not with its certificates.
+// Of each leaf one certificate is looked at, the last that is not above the meter's keys. The others are read in the test
+// of the page alone.
 //
 // Below stand `tables`, which tests lengths, `keys`, and `leaves`, which steps from leaf to leaf.
 use leaves::Stepped;
