@@ -99,7 +99,8 @@ module _ {n c : ℕ} {t : List ℕ} (g : Ground n c t) where
       rw (ne-eqb (s .place .child) 0 (named s [] x), holdingIn, range-read k s [] x ∙ q, holding, q)
   held-cursor k (s ∷ (u ∷ [])) x l h = go (between (s .place .low) (s .place .high) k) refl
     where
-      go : (b : Bool) → between (s .place .low) (s .place .high) k ≡ b → holdingIn k t (cursorOf (s ∷ (u ∷ []))) ≡ cursorOf (holding k (s ∷ (u ∷ [])))
+      go : (b : Bool) → between (s .place .low) (s .place .high) k ≡ b
+          → holdingIn k t (cursorOf (s ∷ (u ∷ []))) ≡ cursorOf (holding k (s ∷ (u ∷ [])))
       go true q =
           rw (ne-eqb (s .place .child) 0 (named s (u ∷ []) x), holdingIn, range-read k s (u ∷ []) x ∙ q, holding, q)
       go false q =
@@ -116,7 +117,8 @@ module _ {n c k : ℕ} {t : List ℕ} (A : Ground n c t) (B : k ≤ lastKey) whe
   ready-kept s (u ∷ above) x p q =
       let r = range-above (x .0) (x .1 .0) p q in
       let e = enter-kept n c t u above (x .1 .0) in
-      let z = ready-next (ready-kept u above (x .1) (r .0) (r .1)) (rules.numbers above) (u .page) (ap (λ (y : entry.Entered). y .page) e) (s .place) (leads-here (x .0) (x .1 .0) p q) in
+      let z = ready-next (ready-kept u above (x .1) (r .0) (r .1)) (rules.numbers above) (u .page)
+      (ap (λ (y : entry.Entered). y .page) e) (s .place) (leads-here (x .0) (x .1 .0) p q) in
       subst (λ (y : entry.Entered). Ready n c k (y .table) (s .place)) e z
 
   leads-kept : (s : rules.Step) (above : List rules.Step) → KeptSteps n t (s ∷ above) → s .place .low ≤ k → k ≤ s .place .high

@@ -75,7 +75,8 @@ module _ {n c k : ℕ} {t : List ℕ} (A : Ground n c t) (B : k ≤ lastKey) whe
     ready-led : Ready n c k t e
     ready-led =
         let y = enter-kept n c t s above (x .0) in
-        let z = ready-next (ready-kept A B s above x (f .0) (f .1)) (rules.numbers above) (s .page) (ap (λ (w : entry.Entered). w .page) y) e led in
+        let z = ready-next (ready-kept A B s above x (f .0) (f .1)) (rules.numbers above) (s .page)
+        (ap (λ (w : entry.Entered). w .page) y) e led in
         subst (λ (w : entry.Entered). Ready n c k (w .table) e) y z
 
     -- below a kept page
@@ -127,7 +128,8 @@ module _ {n c k : ℕ} {t : List ℕ} (A : Ground n c t) (B : k ≤ lastKey) whe
         let s = K .short in
         let l = h .short in
         subst (λ (z : Above). Seeking n c k t t z e level) (sym held-is)
-        (begins-kept (holding k (K .steps)) (h .kept) (h .first) (omega arith) (resumed n c k t (K .steps) (K .kept) (omega arith)) e level (ap (placeIn k t) (sym held-is) ∙ p) (q ∙ ap levelsIn held-is))
+        (begins-kept (holding k (K .steps)) (h .kept) (h .first) (omega arith)
+        (resumed n c k t (K .steps) (K .kept) (omega arith)) e level (ap (placeIn k t) (sym held-is) ∙ p) (q ∙ ap levelsIn held-is))
 
 -- ── One turn of the loop ────────────────────────────────────────────────────────────────────────────────────────
 

@@ -107,7 +107,8 @@ descend-keeps (suc level) n c k t steps above e r a x h =
         rw (descend, f, q) (subst (λ (ss : List Step). KeptSteps n (left r above) (restOf ss)) g (kept-above r above x))
     below p f (some b) q ih =
         rw (descend, f, q)
-        (ih (record { place = e; page = p } ∷ above) b (ready-next r (numbers above) p f b q) (asks r above p f b q) (keeps r above p f b q a x) (rw (descend, f, q) at h))
+        (ih (record { place = e; page = p } ∷ above) b (ready-next r (numbers above) p f b q) (asks r above p f b q)
+        (keeps r above p f b q a x) (rw (descend, f, q) at h))
 
     found : (o : Option Page) → entry.enter n c (numbers above) t e .page ≡ o → Deeper level n c k (left r above) steps
         → KeptSteps n (descend (suc level) n c k above t e .table) (restOf steps)

@@ -85,7 +85,8 @@ module _ {n c k : ℕ} {t u : List ℕ} (g : Ground n c t) (h : k ≤ lastKey) (
       let s = go (rules.wayOf n c k t .steps) refl (ap (λ (y : Nexting). y .next) f) in
       way-same (sym (table-is Stepped.Damaged f)) s
     where
-      go : (o : Option (List rules.Step)) → rules.wayOf n c k t .steps ≡ o → Stepped.Damaged ≡ nextOr upto o → rules.wayOf n c k t .steps ≡ none
+      go : (o : Option (List rules.Step)) → rules.wayOf n c k t .steps ≡ o → Stepped.Damaged ≡ nextOr upto o
+          → rules.wayOf n c k t .steps ≡ none
       go none q e = q
       go (some []) q e = absurd (no-way-empty g k h q)
       go (some (s ∷ above)) q e = absurd (let z : _≡_ {A = ℕ} 0 1 = cc in omega arith)
@@ -132,7 +133,8 @@ module _ {n c k : ℕ} {t u : List ℕ} (g : Ground n c t) (h : k ≤ lastKey) (
           steps = told-here .above;
           are = ap (λ (y : Leaf). y .behind) (told-here .are);
           short = omega (arith, w .short);
-          kept = subst (λ (v : List ℕ). KeptSteps n v (told-here .above)) left (way-keeps g k h (told-here .leaf ∷ told-here .above) (told-here .steps));
+          kept = subst (λ (v : List ℕ). KeptSteps n v (told-here .above)) left
+              (way-keeps g k h (told-here .leaf ∷ told-here .above) (told-here .steps));
         }
 
     pub next-leaf : Reached n c k upto t u l

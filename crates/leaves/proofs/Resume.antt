@@ -96,5 +96,6 @@ resumed n c k t (s ∷ above) x h =
         → wayOf n c k t ≡ resume n c k t (holding k (s ∷ above))
     go true f ih =
         rw (f, holding)
-        (resumes n c k t s above x (between-low (s .place .low) (s .place .high) k f) (between-high (s .place .low) (s .place .high) k f) (omega arith))
+        (resumes n c k t s above x (between-low (s .place .low) (s .place .high) k f)
+        (between-high (s .place .low) (s .place .high) k f) (omega arith))
     go false f ih = rw (f, holding) ih

@@ -57,6 +57,7 @@ leafOf upto s above = record {
   behind = cursorOf above;
 }
 
+-- no steps: a damaged place was met; a way of none there never is
 unfoldable pub nextOr : ℕ → Option (List rules.Step) → Stepped
 nextOr upto none = Stepped.Damaged
 nextOr upto (some []) = Stepped.Damaged
@@ -89,9 +90,10 @@ placeIn k t x =
       | false ↦ pick k (placesBelow (headOf (read t (x .parent))) (read t (x .parent) .view))
     ]
 
--- the deepest page lies in the table, and leads on where its range holds the key
+-- the deepest page, if there is one, lies in the table
 abbrev pub Lies : List ℕ → Above → Type 0
 Lies t x = (x .parent ≡ 0 → ⊥) → (x .parent + 1) * pageSize ≤ length t
 
+-- and leads on, as one does whose range holds the key
 abbrev pub LeadsOn : ℕ → List ℕ → Above → Type 0
 LeadsOn k t x = (x .parent ≡ 0 → ⊥) → Leads k (headOf (read t (x .parent))) (read t (x .parent) .view)

@@ -26,14 +26,16 @@ returns-2 c =
     let args = c .before .before .before .before .before .before .before .args in
     let if1 = c .before .before .before .before .if1 in
     let head-at = c .before .before .head-at in
-    holding-here (args .key) (args .t .now) (args .cursor) (if1 .left) (head-at .result) (head-at .ensures) (c .before .holds .result) (c .before .holds .ensures) (c .if2 .taken)
+    holding-here (args .key) (args .t .now) (args .cursor) (if1 .left) (head-at .result) (head-at .ensures)
+    (c .before .holds .result) (c .before .holds .ensures) (c .if2 .taken)
 
 returns-3 : tie.Need-returns-3
 returns-3 c =
     let args = c .before .before .before .before .before .before .before .args in
     let if1 = c .before .before .before .before .if1 in
     let head-at = c .before .before .head-at in
-    holding-past (args .key) (args .t .now) (args .cursor) (if1 .left) (head-at .result) (head-at .ensures) (c .before .holds .result) (c .before .holds .ensures) (c .if2 .left)
+    holding-past (args .key) (args .t .now) (args .cursor) (if1 .left) (head-at .result) (head-at .ensures)
+    (c .before .holds .result) (c .before .holds .ensures) (c .if2 .left)
 
 pub holding-spec : {M : Type 1} → statement M
 holding-spec =

@@ -41,8 +41,11 @@ place-below-requires c κs =
     let pre = c .before .before .before .before .before .before .pre in
     let args = c .before .before .before .before .before .before .args in
     let if1 = c .before .before .before .if1 in
-    let q = head-read (args .t .now) (args .cursor .parent) (c .before .head-at .result) (c .before .head-at .ensures) in
-    (pre .1 (if1 .left), subst (λ (h : Head). Leads (args .key) h (read (args .t .now) (args .cursor .parent) .view)) (sym q) (pre .2 (if1 .left)))
+    let q = head-read (args .t .now) (args .cursor .parent) (c .before .head-at .result) (c .before .head-at .ensures) in (
+      pre .1 (if1 .left),
+      subst (λ (h : Head). Leads (args .key) h (read (args .t .now) (args .cursor .parent) .view)) (sym q)
+          (pre .2 (if1 .left)),
+    )
 
 returns-2 : tie.Need-returns-2
 unfolding placeIn
@@ -51,7 +54,9 @@ returns-2 c =
     let if1 = c .before .before .before .before .if1 in
     let head-at = c .before .before .head-at in
     let q = head-read (args .t .now) (args .cursor .parent) (head-at .result) (head-at .ensures) in
-    rw (ne-eqb (args .cursor .parent) 0 (if1 .left), placeIn) (ap (λ (h : Head). pick (args .key) (placesBelow h (read (args .t .now) (args .cursor .parent) .view))) (sym q) ∙ c .place-below .ensures)
+    rw (ne-eqb (args .cursor .parent) 0 (if1 .left), placeIn)
+    (ap (λ (h : Head). pick (args .key) (placesBelow h (read (args .t .now) (args .cursor .parent) .view))) (sym q)
+    ∙ c .place-below .ensures)
 
 pub place-spec : {M : Type 1} → statement M
 place-spec =

@@ -26,7 +26,9 @@ confirm-requires : tie.Need-confirm-requires
 confirm-requires c κs =
     let args = c .before .before .args in
     let pre = c .before .before .pre in
-    let l = length-pageAt (args .t .now) (args .child) (omega arith) in rw (page-part (args .t .now) (args .child)) (omega arith, omega (arith, l, pre .1), omega (arith, l), pre .2)
+    let l = length-pageAt (args .t .now) (args .child) (omega arith) in
+    rw (page-part (args .t .now) (args .child))
+    (omega arith, omega (arith, l, pre .1), omega (arith, l), pre .2)
 
 returns : tie.Need-returns
 returns c =
