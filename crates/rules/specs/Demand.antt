@@ -10,12 +10,15 @@ use lib.Dec.{leb}
 use Rattle.fields.specs.Field.{Bytes}
 use Rattle.rules.specs.Layout.{pageSize, fewestPages, mostPages, lastKey, lastNumber}
 use Rattle.rules.specs.Table.{number0}
+use Rattle.rules.specs.Call.{Left}
 use Rattle.rules.specs.Open.{opening}
+use Rattle.rules.specs.Insert.{insert}
 use Rattle.rules.specs.Lookup.{lookup}
 use Rattle.rules.specs.Newest.{newest}
 use Rattle.rules.specs.List.{ListLeft, list}
 use Rattle.rules.specs.History.{Event, State, looks, asksNewest, lists, step, run, start, AllProper, crashed, crashedInSync, content, latest, earliest}
 use Rattle.rules.specs.declared.Opened.{Opened}
+use Rattle.rules.specs.declared.Inserted.{Inserted}
 use Rattle.rules.specs.declared.Looked.{Looked}
 use Rattle.rules.specs.declared.Newest.{Newest}
 use Rattle.rules.specs.declared.Listed.{Listed}
@@ -31,6 +34,19 @@ pub data CrashOf (m : State) : List ℕ → Type 0 where
 pub data Among (x : Option ℕ) : List (Option ℕ) → Type 0 where
   first : {xs : List (Option ℕ)} → Among x (x ∷ xs)
   later : {y : Option ℕ} {xs : List (Option ℕ)} → Among x xs → Among x (y ∷ xs)
+
+-- a call on a store as it is now
+abbrev pub lookupNow : State → ℕ → ℕ → ℕ → Left Looked
+lookupNow m model serial issue = lookup (m .working) (m .stable) (m .session) model serial issue
+
+abbrev pub newestNow : State → ℕ → ℕ → Left Newest
+newestNow m model serial = newest (m .working) (m .stable) (m .session) model serial
+
+abbrev pub listNow : State → ℕ → List ℕ → List ℕ → ListLeft
+listNow m from ks xs = list (m .working) (m .stable) (m .session) from ks xs
+
+abbrev pub insertNow : State → ℕ → ℕ → ℕ → ℕ → Left Inserted
+insertNow m model serial issue x = insert (m .working) (m .stable) (m .session) model serial issue x
 
 -- the events that only read
 pub data Reads : Event → Type 0 where
@@ -76,16 +92,19 @@ pub record Survives (m : State) (w : List ℕ) : Type 0 where
 pub record Serves (m : State) : Type 0 where
   -- the store is a map: a lookup answers by what was inserted
   pub looks-up : (k : ℕ) → k ≤ lastKey → content (m .session) (m .working) (m .stable) k ≡ latest (m .past k)
-  -- no reading call meets damage, and none changes a later answer
-  pub lookup-whole : (model serial issue : ℕ) → lookup (m .working) (m .stable) (m .session) model serial issue .answer ≡ Looked.Damaged → ⊥
-  pub newest-whole : (model serial : ℕ) → newest (m .working) (m .stable) (m .session) model serial .answer ≡ Newest.Damaged → ⊥
-  pub list-whole : (from : ℕ) (ks xs : List ℕ) → list (m .working) (m .stable) (m .session) from ks xs .answer ≡ Listed.Damaged → ⊥
+  -- no reading call meets damage
+  pub lookup-whole : (model serial issue : ℕ) → lookupNow m model serial issue .answer ≡ Looked.Damaged → ⊥
+  pub newest-whole : (model serial : ℕ) → newestNow m model serial .answer ≡ Newest.Damaged → ⊥
+  pub list-whole : (from : ℕ) (ks xs : List ℕ) → listNow m from ks xs .answer ≡ Listed.Damaged → ⊥
+  -- none changes what a call answers after it: so the order of reading calls changes no answer of theirs, nor of an insert
+  pub lookup-stays : (e : Event) → Reads e → (model serial issue : ℕ)
+      → lookupNow (step e m) model serial issue .answer ≡ lookupNow m model serial issue .answer
   pub newest-stays : (e : Event) → Reads e → (model serial : ℕ)
-      → newest (step e m .working) (step e m .stable) (step e m .session) model serial .answer
-      ≡ newest (m .working) (m .stable) (m .session) model serial .answer
+      → newestNow (step e m) model serial .answer ≡ newestNow m model serial .answer
   pub list-stays : (e : Event) → Reads e → (from : ℕ) (ks xs : List ℕ)
-      → SameListing (list (step e m .working) (step e m .stable) (step e m .session) from ks xs)
-      (list (m .working) (m .stable) (m .session) from ks xs)
+      → SameListing (listNow (step e m) from ks xs) (listNow m from ks xs)
+  pub insert-stays : (e : Event) → Reads e → (model serial issue x : ℕ)
+      → insertNow (step e m) model serial issue x .answer ≡ insertNow m model serial issue x .answer
 
 -- ── The demand ──────────────────────────────────────────────────────────────────────────────────────────────────
 

@@ -21,8 +21,7 @@ use Rattle.rules.proofs.demand3.ways.Nodes.{node-range, tells}
 use Rattle.rules.proofs.demand3.epochs.Epochs.{widen, working-good}
 use Rattle.rules.proofs.demand3.epochs.Store.{Whole, Safe}
 use Rattle.rules.proofs.demand3.epochs.Openings.{raise, done}
-use Rattle.rules.proofs.demand3.steps.Mended.{node-last, steady-tells}
-use Rattle.rules.proofs.demand3.reads.Enters.{Calm}
+use Rattle.rules.proofs.demand3.steps.Mended.{Steady, node-last, steady-tells}
 use Rattle.rules.proofs.demand3.reads.Looks.{content-told}
 use Rattle.rules.proofs.demand3.histories.Pasts.{among-one, Settled, one}
 
@@ -112,14 +111,14 @@ over-refused n past w t f l h x g s = record {
 
 -- ── A call that only reads ──────────────────────────────────────────────────────────────────────────────────────
 
-pub alive-reading : {n : ℕ} {m : State} (w : List ℕ) → Alive n m
-    → Calm (m .session) (m .working) (m .stable) (λ k o. Among o (m .past k)) w → Alive n (afterReading m (m .session) w (m .stable))
+pub alive-reading : {n : ℕ} {m : State} (w : List ℕ) → Alive n m → Safe (m .session) w (m .stable) (λ k o. Among o (m .past k))
+    → Steady (m .session .n) (m .working) w → Alive n (afterReading m (m .session) w (m .stable))
 unfolding afterReading
-alive-reading {n} {m} w a c = record {
+alive-reading {n} {m} w a x y = record {
   pages = a .pages;
   opened = a .opened;
-  safe = c .safe;
+  safe = x;
   then = a .then;
-  now = λ k h. steady-tells (c .steady) (a .now k h);
+  now = λ k h. steady-tells y (a .now k h);
   settled = a .settled;
 }

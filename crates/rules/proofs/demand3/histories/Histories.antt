@@ -61,7 +61,7 @@ alive-refused : {n : ℕ} {m : State} (k x : ℕ) → Alive n m → (r : Left In
     → r .answer ≡ answer → Stays (m .session) (m .working) (m .stable) (λ j o. Among o (m .past j)) r → Alive n (afterInsert k x m r)
 unfolding afterReading
 alive-refused {n} {m} k x a r answer d h y =
-    subst (Alive n) (sym is) (alive-reading (r .working) a (record { safe = y .safe; steady = y .steady }))
+    subst (Alive n) (sym is) (alive-reading (r .working) a (y .safe) (y .steady))
   where
     is : afterInsert k x m r ≡ afterReading m (m .session) (r .working) (m .stable)
     is =

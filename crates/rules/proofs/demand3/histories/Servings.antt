@@ -3,15 +3,18 @@
 use Prim.Native.Nat.{ℕ}
 use mathlib.Core.Path.{_≡_, refl, sym, ap, _∙_, subst}
 use mathlib.Core.List.{List}
+use Rattle.rules.specs.Insert.{insert}
+use Rattle.rules.specs.Lookup.{lookup}
 use Rattle.rules.specs.Newest.{newest}
-use Rattle.rules.specs.List.{ListLeft, list}
+use Rattle.rules.specs.List.{list}
 use Rattle.rules.specs.History.{Event, looks, asksNewest, lists, State, afterReading, step}
-use Rattle.rules.specs.Demand.{Among, Reads, look, ask, listing, SameListing, Serves}
+use Rattle.rules.specs.Demand.{Among, lookupNow, newestNow, listNow, insertNow, Reads, look, ask, listing, SameListing, Serves}
 use Rattle.rules.specs.declared.Session.{Session}
 use Rattle.rules.proofs.demand1.Refusals.{lookup-mends, newest-mends, list-mends}
 use Rattle.rules.proofs.demand3.reads.Enters.{Calm, calm}
-use Rattle.rules.proofs.demand3.reads.Looks.{lookup-calm, never-lost, content-told}
+use Rattle.rules.proofs.demand3.reads.Looks.{lookup-calm, never-lost, lookup-same, content-told}
 use Rattle.rules.proofs.demand3.reads.Lists.{newest-answers, list-answers, never-damaged, never-refused, newest-same, list-same}
+use Rattle.rules.proofs.demand3.reads.InsertsSame.{insert-same}
 use Rattle.rules.proofs.demand3.histories.Fates.{Alive, alive-reading}
 
 -- session and stable table are handed back as they came, and of the working table lost pages are mended
@@ -26,7 +29,7 @@ module _ {n : ℕ} {m : State} (a : Alive n m) where
   unfolding step afterReading
   reading (looks model serial issue) look =
       let only = lookup-mends (m .working) (m .stable) (m .session) model serial issue in
-      record { session = only .session; stable = only .stable; left = lookup-calm (calm (a .safe)) model serial issue; is = refl }
+      record { session = only .session; stable = only .stable; left = lookup-calm (a .safe) (calm (a .safe)) model serial issue; is = refl }
   reading (asksNewest model serial) ask =
       let only = newest-mends (m .working) (m .stable) (m .session) model serial in
       record { session = only .session; stable = only .stable; left = newest-answers (a .safe) (calm (a .safe)) model serial .left; is = refl }
@@ -41,37 +44,34 @@ module _ {n : ℕ} {m : State} (a : Alive n m) where
       (sym (x .is
       ∙ (ap (λ (s : Session). afterReading m s (step e m .working) (step e m .stable)) (x .session)
       ∙ ap (afterReading m (m .session) (step e m .working)) (x .stable))))
-      (alive-reading (step e m .working) a (x .left))
+      (alive-reading (step e m .working) a (x .left .safe) (x .left .steady))
 
   -- ── Later answers ─────────────────────────────────────────────────────────────────────────────────────────────
 
-  newest-later : (e : Event) → Reads e → (model serial : ℕ)
-      → newest (step e m .working) (step e m .stable) (step e m .session) model serial .answer
-      ≡ newest (m .working) (m .stable) (m .session) model serial .answer
-  newest-later e r model serial =
-      let x = reading e r in
-      ap (λ (s : Session). newest (step e m .working) (step e m .stable) s model serial .answer) (x .session)
-      ∙ (ap (λ (t : List ℕ). newest (step e m .working) t (m .session) model serial .answer) (x .stable)
-      ∙ newest-same (a .safe) (x .left) model serial)
-
-  list-later : (e : Event) → Reads e → (from : ℕ) (ks xs : List ℕ)
-      → SameListing (list (step e m .working) (step e m .stable) (step e m .session) from ks xs)
-      (list (m .working) (m .stable) (m .session) from ks xs)
-  list-later e r from ks xs =
-      let x = reading e r in
-      subst (λ (s : Session). SameListing (list (step e m .working) (step e m .stable) s from ks xs) now) (sym (x .session))
-      (subst (λ (t : List ℕ). SameListing (list (step e m .working) t (m .session) from ks xs) now) (sym (x .stable))
-      (list-same (a .safe) (x .left) from ks xs))
-    where
-      now : ListLeft
-      now = list (m .working) (m .stable) (m .session) from ks xs
+  -- what holds of a call on the working table that is left holds of a call after the event
+  module _ (e : Event) (r : Reads e) (Goal : List ℕ → List ℕ → Session → Type 0) where
+    later : Goal (step e m .working) (m .stable) (m .session) → Goal (step e m .working) (step e m .stable) (step e m .session)
+    later g =
+        let x = reading e r in
+        subst (λ (s : Session). Goal (step e m .working) (step e m .stable) s) (sym (x .session))
+        (subst (λ (t : List ℕ). Goal (step e m .working) t (m .session)) (sym (x .stable)) g)
 
   pub alive-serves : Serves m
   alive-serves = record {
     looks-up = λ k h. content-told (a .safe) h (a .now k h);
-    lookup-whole = never-lost (calm (a .safe));
+    lookup-whole = never-lost (a .safe) (calm (a .safe));
     newest-whole = never-damaged (a .safe);
     list-whole = never-refused (a .safe);
-    newest-stays = newest-later;
-    list-stays = list-later;
+    lookup-stays = λ e r model serial issue.
+        later e r (λ w t s. lookup w t s model serial issue .answer ≡ lookupNow m model serial issue .answer)
+        (lookup-same (a .safe) (reading e r .left) model serial issue);
+    newest-stays = λ e r model serial.
+        later e r (λ w t s. newest w t s model serial .answer ≡ newestNow m model serial .answer)
+        (newest-same (a .safe) (reading e r .left) model serial);
+    list-stays = λ e r from ks xs.
+        later e r (λ w t s. SameListing (list w t s from ks xs) (listNow m from ks xs))
+        (list-same (a .safe) (reading e r .left) from ks xs);
+    insert-stays = λ e r model serial issue x.
+        later e r (λ w t s. insert w t s model serial issue x .answer ≡ insertNow m model serial issue x .answer)
+        (insert-same (a .safe) (reading e r .left) model serial issue x);
   }

@@ -2,9 +2,9 @@
 -- entered shows what the node showed before any mend.
 use Prim.Native.Nat.{ℕ, _<_}
 use native.Mathlib.Omega.{arith}
-use mathlib.Core.Path.{_≡_, sym, ap, _∙_}
+use mathlib.Core.Path.{_≡_, refl, sym, ap, _∙_}
 use mathlib.Core.Logic.{_⊎_, inl, inr}
-use mathlib.Core.Bool.{true}
+use mathlib.Core.Bool.{true, false}
 use mathlib.Core.List.{List, [], _∷_}
 use mathlib.Core.Option.{some, Option·some-injective}
 use Rattle.rules.specs.Test.{mem}
@@ -19,14 +19,16 @@ use Rattle.rules.proofs.demand3.ways.Invariant.{States}
 use Rattle.rules.proofs.demand3.ways.Sources.{show-found}
 use Rattle.rules.proofs.demand3.epochs.Store.{Safe}
 use Rattle.rules.proofs.demand3.steps.Mended.{Steady, steady-same, steady-node, steady-then, Enters, enters-node}
+use Rattle.rules.proofs.demand3.reads.Brings.{brought, brought-found, Brings, brings-then, enter-brings}
 
 -- a safe store that shows what t shows: t with some lost pages mended
 pub record Calm (s : Session) (t S : List ℕ) (Been : States) (u : List ℕ) : Type 0 where
   pub safe : Safe s u S Been
   pub steady : Steady (s .n) t u
+  pub brings : Brings (s .n) (s .c) t u
 
 pub calm : {s : Session} {W S : List ℕ} {Been : States} → Safe s W S Been → Calm s W S Been W
-calm x = record { safe = x; steady = steady-same }
+calm x = record { safe = x; steady = steady-same; brings = λ k e y. refl }
 
 -- ── The pages above ─────────────────────────────────────────────────────────────────────────────────────────────
 
@@ -67,21 +69,29 @@ more-higher {n} {t} {k} {e} above v kind x s h f i m = go (mem-cases i (e .child
 
 -- ── Entering ────────────────────────────────────────────────────────────────────────────────────────────────────
 
-pub record Entering (s : Session) (t S : List ℕ) (Been : States) (v : View) (r : Entered) : Type 0 where
+pub record Entering (s : Session) (t S : List ℕ) (Been : States) (e : Place) (v : View) (r : Entered) : Type 0 where
   pub found : Page
   pub page : r .page ≡ some found
   pub view : found .view ≡ v
+  pub same : found ≡ brought (s .n) (s .c) t e
   pub left : Calm s t S Been (r .table)
 
 -- e is a node of t that shows v there
 pub entering : {s : Session} {t u S : List ℕ} {Been : States} {k : ℕ} {e : Place} {v : View} → Calm s t S Been u
     → Node (s .n) t k e → show (s .n) t e ≡ some v → (above : List ℕ) → AllHigher (s .n) t (v .kind) above
-    → Entering s t S Been v (enter (s .n) (s .c) above u e)
+    → Entering s t S Been e v (enter (s .n) (s .c) above u e)
 entering {s} {t} {u} {S} {Been} {k} {e} {v} m node shows above higher = record {
   found = E .page;
   page = E .given;
   view = Option·some-injective (E .page .view) v (sym seen ∙ (E .steady .shows here ∙ (m .steady .shows node ∙ shows)));
-  left = record { safe = E .safe; steady = steady-then (m .steady) (E .steady) };
+  same =
+      sym (E .reads)
+      ∙ (sym (brought-found (s .n) (s .c) (enter (s .n) (s .c) above u e .table) e (E .found)) ∙ (brings k e here ∙ m .brings k e node));
+  left = record {
+    safe = E .safe;
+    steady = steady-then (m .steady) (E .steady);
+    brings = brings-then (s .n) (s .c) t u (enter (s .n) (s .c) above u e .table) (m .steady) (m .brings) brings;
+  };
 }
   where
     here : Node (s .n) u k e
@@ -93,8 +103,14 @@ entering {s} {t} {u} {S} {Been} {k} {e} {v} m node shows above higher = record {
         let w : y .view ≡ v = Option·some-injective (y .view) v (sym (y .shows) ∙ (ap (show (s .n) t) q ∙ shows)) in
         omega (arith, y .above, ap (λ (z : View). z .kind) w)
 
+    apart : mem (e .child) above ≡ false
+    apart = fails (mem (e .child) above) (λ a. clash (higher (e .child) a))
+
     E : Enters s u S Been e (enter (s .n) (s .c) above u e)
-    E = enters-node above (m .safe) here (fails (mem (e .child) above) (λ a. clash (higher (e .child) a)))
+    E = enters-node above (m .safe) here apart
+
+    brings : Brings (s .n) (s .c) u (enter (s .n) (s .c) above u e .table)
+    brings = enter-brings above (m .safe) here apart
 
     seen : show (s .n) (enter (s .n) (s .c) above u e .table) e ≡ some (E .page .view)
     seen =

@@ -32,65 +32,9 @@ use Rattle.rules.proofs.demand3.epochs.Epochs.{working-good}
 use Rattle.rules.proofs.demand3.epochs.Store.{Safe}
 use Rattle.rules.proofs.demand3.epochs.Syncs.{lengths-for}
 use Rattle.rules.proofs.demand3.steps.Mended.{steady-then, steady-tells}
-use Rattle.rules.proofs.demand3.reads.Enters.{Calm, calm, none-higher, Entering, entering}
+use Rattle.rules.proofs.demand3.reads.Enters.{Calm, calm}
+use Rattle.rules.proofs.demand3.reads.SameWay.{stepsTo, way-passes}
 use Rattle.rules.proofs.demand3.steps.Paths.{Descends, way-descends, way-tells}
-
--- ── The way of any key ──────────────────────────────────────────────────────────────────────────────────────────
-
--- no damage was met
-record Passed (s : Session) (t S : List ℕ) (Been : States) (w : Way) : Type 0 where
-  steps : List Step
-  given : w .steps ≡ some steps
-  left : Calm s t S Been (w .table)
-
-module _ {s : Session} {t u S : List ℕ} {Been : States} (m : Calm s t S Been u) where
-  -- a key that is none ends at the root
-  beyond : (k : ℕ) → lastKey < k → Passed s t S Been (wayOf (s .n) (s .c) k u)
-  unfolding wayOf rootPlace numbers descend
-  beyond k h =
-      rw (descend, e .page, go (pick k (kids (rootPlace u) (e .found .view))) refl)
-      (record { steps = record { place = rootPlace u; page = e .found } ∷ []; given = refl; left = after (e .left) })
-    where
-      x : Node (s .n) u 0 (rootPlace u)
-      x = node-root (s .n) u 0 (omega arith)
-
-      v : View
-      v = working-good (m .safe .inv) .whole x .view
-
-      q : show (s .n) u (rootPlace u) ≡ some v
-      q = working-good (m .safe .inv) .whole x .shows
-
-      e : Entering s u S Been v (enter (s .n) (s .c) [] u (rootPlace u))
-      e = entering (calm (m .safe)) x q [] (none-higher (s .n) u (v .kind))
-
-      after : {w : List ℕ} → Calm s u S Been w → Calm s t S Been w
-      after y = record { safe = y .safe; steady = steady-then (m .steady) (y .steady) }
-
-      go : (o : Option Place) → pick k (kids (rootPlace u) (e .found .view)) ≡ o → pick k (kids (rootPlace u) (e .found .view)) ≡ none
-      go none p = p
-      go (some d) p =
-          absurd
-          (omega (
-            arith,
-            pick-holds k (kids (rootPlace u) (e .found .view)) d p .1,
-            kid-within (s .n) u (rootPlace u) (e .found .view) (q ∙ ap some (sym (e .view))) k d p .1,
-          ))
-
-  way-whole : (k : ℕ) → Passed s t S Been (wayOf (s .n) (s .c) k u)
-  way-whole k = go (leb k lastKey) refl
-    where
-      go : (b : Bool) → leb k lastKey ≡ b → Passed s t S Been (wayOf (s .n) (s .c) k u)
-      go true h =
-          let d = way-descends (leb-true k lastKey h) u (m .safe) in
-          record {
-            steps = d .last ∷ d .above;
-            given = d .given;
-            left = record { safe = d .safe; steady = steady-then (m .steady) (d .steady) };
-          }
-      go false h = beyond k (leb-false k lastKey h)
-
-  pub way-calm : (k : ℕ) → Calm s t S Been (wayOf (s .n) (s .c) k u .table)
-  way-calm k = way-whole k .left
 
 -- ── Lookup ──────────────────────────────────────────────────────────────────────────────────────────────────────
 
@@ -123,7 +67,7 @@ found-whole k steps h = go (find k (certsAt steps)) refl
     go none o = omega (arith, ap lookedNo (rw (foundIn, o) at h))
     go (some y) o = omega (arith, ap lookedNo (rw (foundIn, o) at h))
 
-module _ {s : Session} {t u S : List ℕ} {Been : States} (m : Calm s t S Been u) where
+module _ {s : Session} {t u S : List ℕ} {Been : States} (x : Safe s t S Been) (m : Calm s t S Been u) where
   lookup-good : (model serial issue : ℕ) → goodParts model serial issue ≡ true
       → lookup u S s model serial issue ≡ lookupKey (keyOf model serial issue) s u S
   unfolding lookup
@@ -134,6 +78,15 @@ module _ {s : Session} {t u S : List ℕ} {Been : States} (m : Calm s t S Been u
   unfolding lookup
   lookup-bad model serial issue g = rw (lengths-for (m .safe), lookup) (rw g)
 
+  -- it answers by the steps of the way as the tree stands
+  lookup-steps : (model serial issue : ℕ) → goodParts model serial issue ≡ true
+      → lookup u S s model serial issue .answer
+      ≡ foundIn (keyOf model serial issue) (stepsTo (s .n) (s .c) (keyOf model serial issue) t)
+  lookup-steps model serial issue g =
+      let k = keyOf model serial issue in
+      ap (λ (r : Left Looked). r .answer) (lookup-good model serial issue g)
+      ∙ key-answer k s u S (stepsTo (s .n) (s .c) k t) (way-passes k x m .given)
+
   pub lookup-calm : (model serial issue : ℕ) → Calm s t S Been (lookup u S s model serial issue .working)
   unfolding lookupLeft
   lookup-calm model serial issue = go (goodParts model serial issue) refl
@@ -142,7 +95,7 @@ module _ {s : Session} {t u S : List ℕ} {Been : States} (m : Calm s t S Been u
       go true g =
           subst (Calm s t S Been)
           (sym (ap (λ (r : Left Looked). r .working) (lookup-good model serial issue g) ∙ key-table (keyOf model serial issue) s u S))
-          (way-calm m (keyOf model serial issue))
+          (way-passes (keyOf model serial issue) x m .left)
       go false g =
           subst (Calm s t S Been) (sym (ap (λ (r : Left Looked). r .working) (lookup-bad model serial issue g))) m
 
@@ -152,12 +105,22 @@ module _ {s : Session} {t u S : List ℕ} {Been : States} (m : Calm s t S Been u
     where
       go : (b : Bool) → goodParts model serial issue ≡ b → ⊥
       go true g =
-          let k = keyOf model serial issue in
-          let w = way-whole m k in
-          found-whole k (w .steps)
-          (sym (ap (λ (r : Left Looked). r .answer) (lookup-good model serial issue g) ∙ key-answer k s u S (w .steps) (w .given)) ∙ h)
+          found-whole (keyOf model serial issue) (stepsTo (s .n) (s .c) (keyOf model serial issue) t)
+          (sym (lookup-steps model serial issue g) ∙ h)
       go false g =
           omega (arith, ap lookedNo (sym (ap (λ (r : Left Looked). r .answer) (lookup-bad model serial issue g)) ∙ h))
+
+-- no mend changes a later answer
+pub lookup-same : {s : Session} {t u S : List ℕ} {Been : States} → Safe s t S Been → Calm s t S Been u → (model serial issue : ℕ)
+    → lookup u S s model serial issue .answer ≡ lookup t S s model serial issue .answer
+unfolding lookupLeft
+lookup-same {s} {t} {u} {S} {Been} x m model serial issue = go (goodParts model serial issue) refl
+  where
+    go : (b : Bool) → goodParts model serial issue ≡ b → lookup u S s model serial issue .answer ≡ lookup t S s model serial issue .answer
+    go true g = lookup-steps x m model serial issue g ∙ sym (lookup-steps x (calm x) model serial issue g)
+    go false g =
+        ap (λ (r : Left Looked). r .answer) (lookup-bad x m model serial issue g)
+        ∙ sym (ap (λ (r : Left Looked). r .answer) (lookup-bad x (calm x) model serial issue g))
 
 -- a leaf has no key with a part that is zero
 tells-good : {n : ℕ} {t : List ℕ} {k : ℕ} {state : Option ℕ} → Tells n t k state → goodKey k ≡ false → state ≡ none
@@ -184,10 +147,10 @@ content-told {s} {W} {S} {Been} {k} {state} x h told = go (goodKey k) refl
 
     go : (b : Bool) → goodKey k ≡ b → content s W S k ≡ state
     go true g =
-        ap (λ (r : Left Looked). recordIn (r .answer)) (lookup-good m (modelOf k) (serialOf k) (issueOf k) g)
+        ap (λ (r : Left Looked). recordIn (r .answer)) (lookup-good x m (modelOf k) (serialOf k) (issueOf k) g)
         ∙ (ap (λ (j : ℕ). recordIn (lookupKey j s W S .answer)) (keyOf-parts k)
         ∙ (ap recordIn (key-answer k s W S (d .last ∷ d .above) (d .given))
         ∙ (found-record k (d .last) (d .above) ∙ tells-one (way-tells h d) (steady-tells (d .steady) told))))
     go false g =
-        ap (λ (r : Left Looked). recordIn (r .answer)) (lookup-bad m (modelOf k) (serialOf k) (issueOf k) g)
+        ap (λ (r : Left Looked). recordIn (r .answer)) (lookup-bad x m (modelOf k) (serialOf k) (issueOf k) g)
         ∙ sym (tells-good told g)

@@ -89,7 +89,7 @@ module _ (s : Session) (t S : List ℕ) (Been : States) (a : Asked) where
 
   module _ {k : ℕ} {e : Place} {v : View} (node : Node (s .n) t k e) (shows : show (s .n) t e ≡ some v) (above : List ℕ)
       (higher : AllHigher (s .n) t (v .kind) above) (xs : List Cert) (w : Walked) (h : Walking xs w) where
-    here : Entering s t S Been v (enter (s .n) (s .c) above (w .table) e)
+    here : Entering s t S Been e v (enter (s .n) (s .c) above (w .table) e)
     here = entering (h .left) node shows above higher
 
     -- on entering
@@ -120,7 +120,7 @@ module _ (s : Session) (t S : List ℕ) (Been : States) (a : Asked) where
   walks x zero k e v above node shows low higher xs w h = absurd (omega (arith, shown-kind (s .n) t e v shows .0))
   walks x (suc level) k e v above node shows low higher xs w h = go (meets a e xs) refl (below v level above x node shows low higher (walks x level))
     where
-      r : Entering s t S Been v (enter (s .n) (s .c) above (w .table) e)
+      r : Entering s t S Been e v (enter (s .n) (s .c) above (w .table) e)
       r = here node shows above higher xs w h
 
       go : (b : Bool) → meets a e xs ≡ b → ((d : Place) → List·Memᴰ d (kids e v) → Walks level (e .child ∷ above) d)

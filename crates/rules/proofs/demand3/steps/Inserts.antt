@@ -87,17 +87,17 @@ along-done : (k x : ℕ) (s : Session) (way : List Step) (w t : List ℕ) → fi
 unfolding insertAlong
 along-done k x s way w t f q r = rw (f, insertAlong) (rw q (rw r))
 
-key-along : (k x : ℕ) (s : Session) (w t : List ℕ) (steps : List Step) → wayOf (s .n) (s .c) k w .steps ≡ some steps
+pub key-along : (k x : ℕ) (s : Session) (w t : List ℕ) (steps : List Step) → wayOf (s .n) (s .c) k w .steps ≡ some steps
     → insertKey k x s w t ≡ insertAlong k x s steps (wayOf (s .n) (s .c) k w .table) t
 unfolding insertKey
 key-along k x s w t steps h = rw (insertKey, h)
 
-insert-good : (w t : List ℕ) (s : Session) (model serial issue x : ℕ) → lengthsFor s w t ≡ true → goodParts model serial issue ≡ true
+pub insert-good : (w t : List ℕ) (s : Session) (model serial issue x : ℕ) → lengthsFor s w t ≡ true → goodParts model serial issue ≡ true
     → fit0 (s .n) w ≡ true → insert w t s model serial issue x ≡ insertKey (keyOf model serial issue) x s w t
 unfolding insert
 insert-good w t s model serial issue x l g f = rw (l, insert) (rw g (rw f))
 
-insert-bad : (w t : List ℕ) (s : Session) (model serial issue x : ℕ) → lengthsFor s w t ≡ true → goodParts model serial issue ≡ false
+pub insert-bad : (w t : List ℕ) (s : Session) (model serial issue x : ℕ) → lengthsFor s w t ≡ true → goodParts model serial issue ≡ false
     → insert w t s model serial issue x ≡ insertRefused Inserted.BadKey s w t
 unfolding insert
 insert-bad w t s model serial issue x l g = rw (l, insert) (rw g)

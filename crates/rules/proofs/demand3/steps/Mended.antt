@@ -196,6 +196,9 @@ module _ {s : Session} {W S : List ℕ} {Been : States} (x : Safe s W S Been) {k
   pub mend-reads : read mend-table (e .child) ≡ page
   mend-reads = written .here
 
+  pub mend-others : (i : ℕ) → i ≢ e .child → read mend-table i ≡ read W i
+  mend-others = written .others
+
   pub mend-enters : mend (s .n) (s .c) W e ≡ record { table = mend-table; page = some page }
   unfolding mend
   mend-enters = rw (mendable-of (s .n) e (read W (e .previous)) can, mend)
