@@ -25,9 +25,10 @@ use Rattle.rules.proofs.bytes.Lengths.{lengthsFor-true}
 use Rattle.rules.proofs.demand3.reads.Lists.{meter-whole, from-whole}
 use Rattle.reading.specs.Agreeing.{held, Passes, answerFor, Largest, listedFrom, Fills, ReadersAgree}
 use Rattle.reading.proofs.Soundly.{Passing, Shows}
-use Rattle.reading.proofs.TreeCerts.{all-ordered}
+use Rattle.rules.proofs.demand3.reads.TreeCerts.{all-ordered}
 use Rattle.reading.proofs.SameTree.{same-held}
-use Rattle.reading.proofs.Gathers.{gather, Walking, walk-gathers}
+use Rattle.rules.proofs.demand3.reads.Gathers.{gather}
+use Rattle.reading.proofs.Gathers.{Walking, walk-gathers}
 use Rattle.reading.proofs.Ends.{Finding, way-finds}
 use Rattle.reading.proofs.Passes.{good-of}
 use Rattle.reading.proofs.Largest.{gather-meter, largest}

@@ -20,7 +20,7 @@ use Rattle.rules.proofs.demand3.ways.Kids.{shown-kind, kid-some}
 use Rattle.rules.proofs.demand3.ways.Nodes.{node-root, node-range, node-below, kid-kind}
 use Rattle.rules.proofs.demand3.reads.Enters.{AllHigher, none-higher, more-higher}
 use Rattle.reading.proofs.Soundly.{Passing, Shows, shows-itself, Seen, enter-seen}
-use Rattle.reading.proofs.TreeCerts.{leaf-certs, finds-below}
+use Rattle.rules.proofs.demand3.reads.TreeCerts.{leaf-certs, finds-below}
 use Rattle.reading.proofs.Gathers.{apart}
 
 -- what is handed out finds o of the key

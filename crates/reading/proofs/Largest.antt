@@ -1,5 +1,5 @@
 -- The last of certificates that rise is the newest of its meter.
-use Prim.Native.Nat.{ℕ, suc, _-_, _^_, _≤_, _<_}
+use Prim.Native.Nat.{ℕ, _-_, _^_, _≤_, _<_}
 use native.Mathlib.Omega.{arith}
 use mathlib.Core.Path.{_≡_, refl, sym, ap, _∙_, subst}
 use mathlib.Core.Bool.{true}
@@ -8,72 +8,26 @@ use mathlib.Core.Option.{some, none}
 use lib.ListN.{length}
 use lib.Seq.{take-all}
 use Rattle.rules.specs.Layout.{lastKey}
-use Rattle.rules.specs.Test.{between, all}
+use Rattle.rules.specs.Test.{between}
 use Rattle.rules.specs.Key.{keyOf, issueOf}
-use Rattle.rules.specs.Entry.{Cert, keys, find, cut, risesFrom, rising}
+use Rattle.rules.specs.Entry.{Cert, keys, find, cut, rising}
 use Rattle.rules.specs.Newest.{meter, newestIn}
 use Rattle.rules.specs.declared.Asked.{Asked}
 use Rattle.rules.specs.declared.Newest.{Newest}
-use Rattle.rules.proofs.entries.Tests.{all-head, all-tail, all-imp, all-mem, between-wider, between-of, between-low, between-high}
-use Rattle.rules.proofs.entries.Rises.{rises-head, rises-tail, rises-mem, rising-from, rising-tail, length-keys}
-use Rattle.rules.proofs.entries.Entries.{find-head, find-tail, mem-find, find-cut, cut-within, cut-rising}
+use Rattle.rules.proofs.entries.Tests.{all-mem, between-of, between-low, between-high}
+use Rattle.rules.proofs.entries.Rises.{length-keys}
+use Rattle.rules.proofs.entries.Entries.{mem-find, find-cut, cut-within, cut-rising}
+use Rattle.rules.proofs.demand3.reads.Gathers.{gather}
+use Rattle.rules.proofs.demand3.reads.Shown.{length-rising, Last, last-of}
 use Rattle.reading.specs.Reading.{lastIssue}
 use Rattle.reading.specs.Agreeing.{Largest, found, missing}
 use Rattle.reading.proofs.Meters.{issues-fit, meter-high, key-of-issue, issue-from, issue-to}
-use Rattle.reading.proofs.Gathers.{gather}
-
--- ── How many keys a range has ───────────────────────────────────────────────────────────────────────────────────
-
-length-rises : (k high : ℕ) (xs : List ℕ) → risesFrom k xs ≡ true → all (between 0 high) xs ≡ true → k ≤ high → length xs ≤ high - k
-length-rises k high [] r w h = omega arith
-length-rises k high (x ∷ xs) r w h =
-    let a = rises-head k x xs r in
-    let b = between-high 0 high x (all-head (between 0 high) x xs w) in
-    let c = length-rises x high xs (rises-tail k x xs r) (all-tail (between 0 high) x xs w) b in
-    omega (arith, a, b, c)
-
-length-rising : (low high : ℕ) (xs : List ℕ) → rising xs ≡ true → all (between low high) xs ≡ true → length xs ≤ suc high - low
-length-rising low high [] r w = omega arith
-length-rising low high (x ∷ xs) r w =
-    let a = all-head (between low high) x xs w in
-    let b = between-low low high x a in
-    let c = between-high low high x a in
-    let d = length-rises x high xs (rising-from x xs r)
-    (all-imp (between low high) (between 0 high) (λ k y. between-wider low high 0 high k (omega arith) (omega arith) y) xs (all-tail (between low high) x xs w)) c in
-    omega (arith, b, c, d)
 
 -- where there is room for all
 pub gather-all : (a : Asked) (ys : List Cert) → length (cut (a .low) (a .high) ys) ≤ a .room → gather a [] ys ≡ cut (a .low) (a .high) ys
 gather-all a ys h =
     let q : a .room - 0 ≡ a .room = omega arith in
     rw q (take-all (a .room) (cut (a .low) (a .high) ys) h)
-
--- ── The last one ────────────────────────────────────────────────────────────────────────────────────────────────
-
-record Last (xs : List Cert) : Type 0 where
-  entry : Cert
-  answer : newestIn xs ≡ Newest.Found (issueOf (entry .key)) (entry .value)
-  finds : find (entry .key) xs ≡ some (entry .value)
-  none-above : (k : ℕ) → entry .key < k → find k xs ≡ none
-
-last-of : (x : Cert) (xs : List Cert) → rising (keys (x ∷ xs)) ≡ true → Last (x ∷ xs)
-unfolding newestIn keys find
-last-of x [] r = record {
-  entry = x;
-  answer = refl;
-  finds = find-head (x .key) x [] refl;
-  none-above = λ k h. find-tail k x [] (λ q. absurd (omega (arith, q, h)));
-}
-last-of x (y ∷ ys) r =
-    let l = last-of y ys (rising-tail (x .key) (keys (y ∷ ys)) r) in
-    let up = rises-mem (x .key) (l .entry .key) (keys (y ∷ ys)) (rising-from (x .key) (keys (y ∷ ys)) r)
-    (mem-find (l .entry .key) (y ∷ ys) (l .entry .value) (l .finds)) in
-    record {
-      entry = l .entry;
-      answer = l .answer;
-      finds = find-tail (l .entry .key) x (y ∷ ys) (λ q. absurd (omega (arith, q, up))) ∙ l .finds;
-      none-above = λ k h. find-tail k x (y ∷ ys) (λ q. absurd (omega (arith, q, h, up))) ∙ l .none-above k h;
-    }
 
 -- ── Of one meter ────────────────────────────────────────────────────────────────────────────────────────────────
 

@@ -27,7 +27,6 @@ pub mod Adds
 -- Tables whose tree passes opening's tests
 pub mod Passes
 pub mod Soundly
-pub mod TreeCerts
 pub mod SameTree
 -- the walks through them
 pub mod Gathers

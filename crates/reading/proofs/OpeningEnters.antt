@@ -29,9 +29,10 @@ use Rattle.rules.proofs.demand3.epochs.Opens.{kid-node}
 use Rattle.answers.specs.AsItStands.{InTree, at-root, below}
 use Rattle.reading.specs.Entering.{EnteredFrom, none-yet, one-more, Gives, Alike, OpeningEnters}
 use Rattle.reading.proofs.Soundly.{Passing, Shows, shows-itself, enter-seen}
-use Rattle.reading.proofs.TreeCerts.{all-ordered}
+use Rattle.rules.proofs.demand3.reads.TreeCerts.{all-ordered}
 use Rattle.reading.proofs.SameTree.{same-held}
-use Rattle.reading.proofs.Gathers.{gather, walk-gathers}
+use Rattle.rules.proofs.demand3.reads.Gathers.{gather}
+use Rattle.reading.proofs.Gathers.{walk-gathers}
 use Rattle.reading.proofs.Passes.{good-of}
 use Rattle.reading.proofs.Largest.{gather-all}
 

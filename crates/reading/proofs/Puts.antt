@@ -24,7 +24,7 @@ use Rattle.rules.proofs.entries.Puts.{find-put-same, find-put-other, put-rising
 use Rattle.reading.specs.Inserting.{InsertAdds}
 use Rattle.reading.specs.Agreeing.{held, Passes, answerFor, AgreeIn, HistoriesAgree, InsertPuts}
 use Rattle.reading.proofs.FoundThen.{done-good}
-use Rattle.reading.proofs.TreeCerts.{all-ordered, all-good}
+use Rattle.rules.proofs.demand3.reads.TreeCerts.{all-ordered, all-good}
 use Rattle.reading.proofs.Agrees.{passing}
 use Rattle.reading.proofs.HistoriesAgree.{histories-agree}
 use Rattle.reading.proofs.Adds.{run-then, proper-then, insert-adds, done-pages}

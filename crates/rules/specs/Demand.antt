@@ -1,21 +1,26 @@
 -- Demand 3 as a statement about histories: what holds of a store at every point of every history. Its proof is the
 -- theorem of that name in proofs/.
-use Prim.Native.Nat.{ℕ, _*_, _≤_}
+use Prim.Native.Nat.{ℕ, _*_, _≤_, _<_, min}
 use mathlib.Core.Path.{_≡_}
+use mathlib.Core.Logic.{_⊎_}
 use mathlib.Core.Bool.{Bool, true, false}
 use mathlib.Core.List.{List, _∷_}
-use mathlib.Core.Option.{Option, some}
+use mathlib.Core.Option.{Option, some, none}
 use lib.ListN.{length, replicate}
 use lib.Dec.{leb}
 use Rattle.fields.specs.Field.{Bytes}
 use Rattle.rules.specs.Layout.{pageSize, fewestPages, mostPages, lastKey, lastNumber}
+use Rattle.rules.specs.Test.{mem}
+use Rattle.rules.specs.Key.{keyOf, goodKey}
+use Rattle.rules.specs.Entry.{Cert, keys, find, rising}
+use Rattle.rules.specs.Page.{over}
 use Rattle.rules.specs.Table.{number0}
 use Rattle.rules.specs.Call.{Left}
 use Rattle.rules.specs.Open.{opening}
 use Rattle.rules.specs.Insert.{insert}
 use Rattle.rules.specs.Lookup.{lookup}
 use Rattle.rules.specs.Newest.{newest}
-use Rattle.rules.specs.List.{ListLeft, list}
+use Rattle.rules.specs.List.{ListLeft, recordsOf, list}
 use Rattle.rules.specs.History.{Event, State, looks, asksNewest, lists, step, run, start, AllProper, crashed, crashedInSync, content, latest, earliest}
 use Rattle.rules.specs.declared.Opened.{Opened}
 use Rattle.rules.specs.declared.Inserted.{Inserted}
@@ -60,6 +65,28 @@ pub record SameListing (a b : ListLeft) : Type 0 where
   pub keys : a .keys ≡ b .keys
   pub records : a .records ≡ b .records
 
+-- a list shows entries, each with the record that its key has now
+pub record ListTells (state : ℕ → Option ℕ) (from : ℕ) (ks xs : List ℕ) (r : ListLeft) : Type 0 where
+  pub entries : List Cert
+  pub answer : r .answer ≡ Listed.Filled (length entries)
+  pub in-keys : r .keys ≡ over (keys entries) ks
+  pub in-records : r .records ≡ over (recordsOf entries) xs
+  -- in key order, none twice
+  pub rise : rising (keys entries) ≡ true
+  -- none but those from the start on that a lookup finds
+  pub shown : (k x : ℕ) → find k entries ≡ some x → (from ≤ k) × (k ≤ lastKey) × (goodKey k ≡ true) × (state k ≡ some x)
+  -- and all of them: one that is not shown stands behind those that are, where a list is full
+  pub whole : (k x : ℕ) → from ≤ k → k ≤ lastKey → state k ≡ some x
+      → (find k entries ≡ some x)
+      ⊎ ((length entries ≡ min (length ks) (length xs)) × ((j : ℕ) → mem j (keys entries) ≡ true → j < k))
+
+-- newest shows the largest issue of a meter that has a record now, with it, or that none has
+pub data NewestTells (state : ℕ → Option ℕ) (model serial : ℕ) (answer : Newest) : Type 0 where
+  largest : (issue x : ℕ) → answer ≡ Newest.Found issue x → 1 ≤ issue → issue < 65536 → state (keyOf model serial issue) ≡ some x
+      → ((j : ℕ) → issue < j → j < 65536 → state (keyOf model serial j) ≡ none) → NewestTells state model serial answer
+  missing : answer ≡ Newest.Missing → ((j : ℕ) → 1 ≤ j → j < 65536 → state (keyOf model serial j) ≡ none)
+      → NewestTells state model serial answer
+
 -- done, or spent exactly where the number is too high
 unfoldable pub openAnswer : List ℕ → Opened
 openAnswer s = elim (leb (number0 s) lastNumber) [ true ↦ Opened.Done | false ↦ Opened.Spent ]
@@ -92,6 +119,10 @@ pub record Survives (m : State) (w : List ℕ) : Type 0 where
 pub record Serves (m : State) : Type 0 where
   -- the store is a map: a lookup answers by what was inserted
   pub looks-up : (k : ℕ) → k ≤ lastKey → content (m .session) (m .working) (m .stable) k ≡ latest (m .past k)
+  -- list and newest tell of the same entries, so what is said of lookups after a crash is said of them
+  pub list-tells : (from : ℕ) (ks xs : List ℕ) → ListTells (λ k. latest (m .past k)) from ks xs (listNow m from ks xs)
+  pub newest-tells : (model serial : ℕ) → 0 < model → model < 65536 → 0 < serial → serial < 4294967296
+      → NewestTells (λ k. latest (m .past k)) model serial (newestNow m model serial .answer)
   -- no reading call meets damage
   pub lookup-whole : (model serial issue : ℕ) → lookupNow m model serial issue .answer ≡ Looked.Damaged → ⊥
   pub newest-whole : (model serial : ℕ) → newestNow m model serial .answer ≡ Newest.Damaged → ⊥

@@ -7,13 +7,14 @@ use Rattle.rules.specs.Insert.{insert}
 use Rattle.rules.specs.Lookup.{lookup}
 use Rattle.rules.specs.Newest.{newest}
 use Rattle.rules.specs.List.{list}
-use Rattle.rules.specs.History.{Event, looks, asksNewest, lists, State, afterReading, step}
+use Rattle.rules.specs.History.{Event, looks, asksNewest, lists, State, latest, afterReading, step}
 use Rattle.rules.specs.Demand.{Among, lookupNow, newestNow, listNow, insertNow, Reads, look, ask, listing, SameListing, Serves}
 use Rattle.rules.specs.declared.Session.{Session}
 use Rattle.rules.proofs.demand1.Refusals.{lookup-mends, newest-mends, list-mends}
 use Rattle.rules.proofs.demand3.reads.Enters.{Calm, calm}
 use Rattle.rules.proofs.demand3.reads.Looks.{lookup-calm, never-lost, lookup-same, content-told}
 use Rattle.rules.proofs.demand3.reads.Lists.{newest-answers, list-answers, never-damaged, never-refused, newest-same, list-same}
+use Rattle.rules.proofs.demand3.reads.Tellings.{list-told, newest-told}
 use Rattle.rules.proofs.demand3.reads.InsertsSame.{insert-same}
 use Rattle.rules.proofs.demand3.histories.Fates.{Alive, alive-reading}
 
@@ -59,6 +60,8 @@ module _ {n : ℕ} {m : State} (a : Alive n m) where
   pub alive-serves : Serves m
   alive-serves = record {
     looks-up = λ k h. content-told (a .safe) h (a .now k h);
+    list-tells = list-told (a .safe) (λ k. latest (m .past k)) (a .now);
+    newest-tells = newest-told (a .safe) (λ k. latest (m .past k)) (a .now);
     lookup-whole = never-lost (a .safe) (calm (a .safe));
     newest-whole = never-damaged (a .safe);
     list-whole = never-refused (a .safe);

@@ -121,6 +121,11 @@ module _ {s : Session} {W S : List ℕ} {Been : States} (x : Safe s W S Been) wh
   never-damaged model serial h =
       newest-of (s .n) W model serial (sym (newest-answers x (calm x) model serial .answer) ∙ h)
 
+  pub newest-finds : (model serial : ℕ) → (ltb 0 model && ltb 0 serial) ≡ true
+      → newest W S s model serial .answer ≡ newestIn (sought (s .n) W (meter model serial))
+  unfolding newestOf
+  newest-finds model serial g = newest-answers x (calm x) model serial .answer ∙ rw (g, newestOf)
+
   pub never-refused : (start : ℕ) (ks xs : List ℕ) → list W S s start ks xs .answer ≡ Listed.Damaged → ⊥
   unfolding listedNo
   never-refused start ks xs h =

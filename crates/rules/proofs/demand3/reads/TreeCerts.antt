@@ -1,32 +1,32 @@
--- The certificates of a tree that passes opening's tests: they rise and lie in the place's range, and a key is found among them
--- where its way leads.
-use Prim.Native.Nat.{ℕ, zero, suc, _-_, _≤_, _<_}
+-- The certificates of a good table's tree: they rise and lie in the place's range, and a key is found among them where its way
+-- leads, so by what the table tells of it.
+use Prim.Native.Nat.{ℕ, zero, suc, _+_, _-_, _≤_, _<_}
 use native.Mathlib.Omega.{arith}
 use mathlib.Core.Path.{_≡_, refl, sym, ap, _∙_, subst}
 use mathlib.Core.Bool.{Bool, true, false}
 use mathlib.Core.List.{List, [], _∷_, _++_, append-nil, List·Memᴰ, List·Memᴰ·head, List·Memᴰ·tail}
 use mathlib.Core.Option.{Option, some, none, Option·some-injective, Option·none-ne-some}
 use Rattle.rules.specs.Layout.{topKind, lastKey}
 use Rattle.rules.specs.Test.{between, all, mem}
 use Rattle.rules.specs.Key.{goodKey}
 use Rattle.rules.specs.Entry.{Cert, Child, keys, find, rising}
 use Rattle.rules.specs.Page.{View, isLeaf}
 use Rattle.rules.specs.Place.{rootPlace, highBefore, placeOf, placesIn, kids, pick, show}
 use Rattle.rules.specs.Tree.{Tree, empty, join, here, treeEach, tree, treeOf}
 use Rattle.rules.specs.declared.Place.{Place}
 use Rattle.rules.proofs.entries.Tests.{fails, all-nil, all-append, all-imp, all-mem, between-low, between-high, between-below, between-wider}
 use Rattle.rules.proofs.entries.Rises.{rises-mem, rising-nil, rising-from, rising-append, keys-append}
 use Rattle.rules.proofs.entries.Entries.{find-outside, find-append-left, find-append-right}
-use Rattle.rules.proofs.entries.Views.{Shaped, leaf-kind}
+use Rattle.rules.proofs.entries.Views.{Shaped, leaf-kind, leaf-of-kind}
 use Rattle.rules.proofs.entries.Sounds.{Sound}
 use Rattle.rules.proofs.entries.Places.{show-some, shown-shaped}
 use Rattle.rules.proofs.entries.Picks.{Rising, rising-rest, kid-key, kid-rise, places-kids, pick-here, pick-later}
 use Rattle.rules.proofs.entries.Asks.{pick-leaf, kids-rising}
-use Rattle.rules.proofs.demand3.ways.Ways.{Node}
+use Rattle.rules.proofs.demand3.ways.Ways.{at, Node, Tells}
 use Rattle.rules.proofs.demand3.ways.Invariant.{Good}
 use Rattle.rules.proofs.demand3.ways.Kids.{shown-kind, sound-here, kid-within, leaf-kids}
-use Rattle.rules.proofs.demand3.ways.Nodes.{node-root, node-range, kid-kind}
+use Rattle.rules.proofs.demand3.ways.Nodes.{above, at-root, node-root, node-range, kid-kind}
 use Rattle.rules.proofs.demand3.epochs.Opens.{tree-shown, kid-node}
 
 -- ── Certificates in order within a range ────────────────────────────────────────────────────────────────────────
 
@@ -259,3 +259,35 @@ module _ {n : ℕ} {t : List ℕ} (g : Good n t) where
       let x = node-root n t 0 (omega arith) in
       let w = g .whole x in
       goods topKind 0 (rootPlace t) (w .view) x (w .shows) (shown-kind n t (rootPlace t) (w .view) (w .shows) .1)
+
+  -- ── What the table tells ────────────────────────────────────────────────────────────────────────────────────────
+
+  -- down the way of k, one level for each place
+  along : (k i : ℕ) (e : Place) (v : View) → at n t k i ≡ some e → show n t e ≡ some v
+      → (i + v .kind ≤ topKind) × ((level : ℕ) → level + i ≡ topKind → find k (treeOf n t .certs) ≡ find k (tree level n t e .certs))
+  unfolding treeOf
+  along k zero e v h s = (
+    omega (arith, shown-kind n t e v s .1),
+    λ level q.
+        let l : topKind ≡ level = omega (arith, q) in
+        ap (λ (d : Place). find k (tree topKind n t d .certs)) (at-root n t k e h) ∙ ap (λ (j : ℕ). find k (tree j n t e .certs)) l,
+  )
+  along k (suc i) e v h s =
+      let a = above n t k i e h in
+      let r = along k i (a .parent) (a .view) (a .stands) (a .shows) in
+      let z = kid-kind n t (a .parent) (a .view) (a .shows) k e (a .picks) v s in (
+        omega (arith, r .0, z),
+        λ level q.
+            r .1 (suc level) (omega (arith, q))
+            ∙ finds-below level k (a .parent) (a .view) (record { depth = i; here = a .stands }) (a .shows) (omega (arith, r .0, q)) e (a .picks),
+      )
+
+  pub tree-tells : {k : ℕ} {o : Option ℕ} → Tells n t k o → find k (treeOf n t .certs) ≡ o
+  tree-tells {k} {o} x =
+      let r = along k (x .node .depth) (x .place) (x .view) (x .node .here) (x .shows) in
+      let z = shown-kind n t (x .place) (x .view) (x .shows) .0 in
+      let level : ℕ = topKind - x .node .depth - 1 in
+      r .1 (suc level) (omega (arith, r .0, z))
+      ∙ (ap (find k)
+      (leaf-certs level k (x .place) (x .view) (x .node) (x .shows) (omega (arith, x .leaf)) (leaf-of-kind (x .view) (x .leaf)))
+      ∙ x .finds)
