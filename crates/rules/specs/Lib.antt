@@ -22,3 +22,4 @@ pub mod Sync
 pub mod Crash
 pub mod History
 pub mod Demand
+pub mod Cases
