@@ -9,7 +9,7 @@ use lib.ListN.{length}
 use Rattle.rules.specs.Layout.{lastNumber}
 use Rattle.rules.specs.Key.{keyOf}
 use Rattle.rules.specs.Entry.{find}
-use Rattle.rules.specs.Table.{pages, number0, fit0}
+use Rattle.rules.specs.Table.{pages, number0, fit0, Tables}
 use Rattle.rules.specs.Walk.{Step, numbers, certsAt, wayOf, walkOf}
 use Rattle.rules.specs.Marks.{freePages}
 use Rattle.rules.specs.Insert.{splitting, tooSoon, rootSplits, newPages, tooHigh}
@@ -17,7 +17,6 @@ use Rattle.rules.specs.Newest.{meter}
 use Rattle.rules.specs.List.{upFrom}
 use Rattle.rules.specs.declared.Session.{Session}
 use Rattle.rules.specs.declared.Asked.{Asked}
-use Rattle.rules.proofs.bytes.Lengths.{Tables}
 use Rattle.answers.specs.Given.{Cause, _when_}
 use Rattle.answers.specs.OneKey.{MeetsDamage}
 use Rattle.answers.specs.Range.{MeetsDamageIn}

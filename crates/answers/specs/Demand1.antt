@@ -8,7 +8,7 @@ use Rattle.rules.specs.Test.{mem}
 use Rattle.rules.specs.Key.{keyOf}
 use Rattle.rules.specs.Table.{fit0}
 use Rattle.rules.specs.Marks.{nobody}
-use Rattle.rules.specs.Call.{Left, formattedNo, openedNo, insertedNo, lookedNo, lookedRecord, newestNo, newestIssue, newestRecord, listedNo, listedCount, syncedNo}
+use Rattle.rules.specs.Call.{Left, formattedNo, openedNo, insertedNo, lookedNo, lookedRecord, newestNo, newestIssue, newestRecord, listedNo, listedCount, syncedNo, Unchanged}
 use Rattle.rules.specs.Format.{format}
 use Rattle.rules.specs.Open.{opening}
 use Rattle.rules.specs.Insert.{insert}
@@ -21,7 +21,6 @@ use Rattle.rules.specs.declared.Asked.{Asked}
 use Rattle.rules.specs.declared.Looked.{Looked}
 use Rattle.rules.specs.declared.Newest.{Newest}
 use Rattle.rules.specs.declared.Listed.{Listed}
-use Rattle.rules.proofs.demand1.Refusals.{Unchanged}
 use Rattle.answers.specs.OneKey.{EndsIn, MendedBy}
 use Rattle.answers.specs.Range.{StopsIn, MendedIn}
 use Rattle.answers.specs.Causes.{BeforeWalk}

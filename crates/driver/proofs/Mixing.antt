@@ -11,10 +11,9 @@ use lib.Seq.{getD-take}
 use borrow.Author.Tests.{eq-eqb, ne-eqb, eqb-true, eqb-false, ltb-true, ltb-false}
 use Rattle.rules.specs.Layout.{pageSize}
 use Rattle.rules.specs.Table.{pageAt, setPage}
-use Rattle.rules.specs.Crash.{mix, crash}
+use Rattle.rules.specs.Crash.{mix, crashed}
 use Rattle.rules.proofs.bytes.Tables.{Has, has-page, length-pageAt, length-setPage, pageAt-setPage-same, pageAt-setPage-other, pages-ext}
 use Rattle.rules.proofs.bytes.Mixes.{chosen, length-mix, pageAt-mix}
-use Rattle.driver.specs.Acts.{crashed}
 
 module _ (marks : List Bool) (i : ℕ) where
   -- the marks so far have none for page i
@@ -96,5 +95,5 @@ module _ (marks : List Bool) (n : ℕ) (w s : List ℕ) where
   crashed-not e = sym (rw (eq-eqb n 0 e, crashed))
 
   pub crashed-mix : n ≢ 0 → mix marks w s ≡ crashed marks n w s
-  unfolding crashed crash
+  unfolding crashed
   crashed-mix d = sym (rw (ne-eqb n 0 d, crashed))

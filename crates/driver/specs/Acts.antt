@@ -9,7 +9,7 @@ use Rattle.rules.specs.Open.{opening}
 use Rattle.rules.specs.Insert.{insert}
 use Rattle.rules.specs.Lookup.{lookup}
 use Rattle.rules.specs.Sync.{sync}
-use Rattle.rules.specs.Crash.{crash}
+use Rattle.rules.specs.Crash.{crashed}
 use Rattle.rules.specs.declared.Session.{Session}
 use Rattle.rules.specs.declared.Opened.{Opened}
 use Rattle.rules.specs.declared.Inserted.{Inserted}
@@ -54,10 +54,6 @@ lookedReply Looked.Missing = Reply.Answer (lookedNo Looked.Missing)
 -- what a call leaves, with its answer as a reply
 abbrev pub told : {A : Type 0} → (A → Reply) → Left A → Left Reply
 told reply r = record { answer = reply (r .answer); session = r .session; working = r .working; stable = r .stable }
-
--- what a crash leaves in the stable table. After an opening that was refused no page is written.
-unfoldable pub crashed : List Bool → ℕ → List ℕ → List ℕ → List ℕ
-crashed written n w s = elim (eqb n 0) [ true ↦ s | false ↦ crash written w s ]
 
 -- a line of any other shape does nothing
 unfoldable pub acted : Line → Session → List ℕ → List ℕ → Left Reply

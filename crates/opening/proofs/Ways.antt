@@ -7,13 +7,13 @@ use native.Mathlib.Omega.{arith}
 use borrow.Author.Tests.{le-leb, lt-leb}
 use lib.ListN.{length}
 use Rattle.rules.specs.Layout.{pageSize, fewestPages, mostPages, lastNumber}
-use Rattle.rules.specs.Table.{pages, goodLengths, fit0, number0, setNumber}
+use Rattle.rules.specs.Table.{pages, goodLengths, fit0, number0, setNumber, Tables}
 use Rattle.rules.specs.Tree.{treeOf, goodTree}
 use Rattle.rules.specs.Marks.{opened}
 use Rattle.rules.specs.Open.{openRefused, openDone, opening}
 use Rattle.rules.specs.declared.Opened.{Opened}
 use Rattle.rules.specs.declared.Session.{Session}
-use Rattle.rules.proofs.bytes.Lengths.{Tables, pages-of, goodLengths-true}
+use Rattle.rules.proofs.bytes.Lengths.{pages-of, goodLengths-true}
 use Rattle.marks.specs.Opened.{openedBy}
 use Rattle.marks.proofs.Opening.{openedBy-opened}
 use Rattle.seen.specs.Note.{note, nothing, goodMarks}

@@ -34,7 +34,7 @@ unfoldable pub splitsBy : List Head → ℕ
 splitsBy [] = 0
 splitsBy (h ∷ hs) = elim (fullBy h) [ true ↦ suc (splitsBy hs) | false ↦ 0 ]
 
--- an inner page that was touched since the last sync
+-- an inner page that was touched since the last sync or opening
 unfoldable pub lateBy : ℕ → Head → Bool
 lateBy c h = not (eqb (h .kind) leafKind) && eqb (h .touched) c
 

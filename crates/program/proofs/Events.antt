@@ -6,11 +6,11 @@ use mathlib.Core.List.{List, [], _∷_}
 use mathlib.Core.Option.{Option, some, none}
 use Rattle.rules.specs.Call.{Left}
 use Rattle.rules.specs.History.{Event, inserts, looks, syncs, crashes, State, step, afterInsert, afterSync, afterOpen, afterReading}
-use Rattle.rules.specs.History.{crashed as torn}
+use Rattle.rules.specs.Crash.{crashed}
 use Rattle.rules.specs.declared.Session.{Session}
 use Rattle.lines.specs.declared.Line.{Line}
 use Rattle.words.specs.declared.Reply.{Reply}
-use Rattle.driver.specs.Acts.{crashed, acted}
+use Rattle.driver.specs.Acts.{acted}
 
 -- the event that a line stands for; the bench lends the opening after a crash the working table that it has
 unfoldable pub eventOf : Line → List ℕ → Option Event
@@ -40,7 +40,7 @@ abbrev pub storeOf : State → Store
 storeOf m = store (m .session) (m .working) (m .stable)
 
 pub line-event : (line : Line) (m : State) → storeLeft (acted line (m .session) (m .working) (m .stable)) ≡ storeOf (happens (eventOf line (m .working)) m)
-unfolding acted crashed eventOf happens step afterInsert afterSync afterOpen afterReading torn
+unfolding acted crashed eventOf happens step afterInsert afterSync afterOpen afterReading
 line-event (Line.Insert model serial issue x) m = refl
 line-event (Line.Find model serial issue) m = refl
 line-event Line.Sync m = refl

@@ -6,7 +6,7 @@ use mathlib.Core.List.{List, [], _∷_}
 use Rattle.rules.proofs.cases.Computing.{rules}
 use Rattle.lines.specs.Line.{onto, words, isDigit, digits, value, numberIn, number, end, insertOf, findOf, crashOf, letterOf, asked, lineOf}
 use Rattle.words.specs.Words.{nine, wordOf, digitsOf, decimal, answerLine}
-use Rattle.driver.specs.Acts.{lookedReply, crashed, acted}
+use Rattle.driver.specs.Acts.{lookedReply, acted}
 use Rattle.program.specs.Program.{some-byte, linesFrom, linesOf, printed, started, program}
 
 -- i 7 1 1 900 / f 7 1 1 / f 7 2 1 / s / c / f 7 1 1 / f 0 1 1
@@ -32,5 +32,5 @@ output =
     ∷ 98 ∷ 97 ∷ 100 ∷ 107 ∷ 101 ∷ 121 ∷ 10 ∷ []
 
 pub transcript : program input ≡ output
-unfolding rules onto words isDigit digits value numberIn number end insertOf findOf crashOf letterOf asked lineOf nine wordOf digitsOf decimal answerLine lookedReply crashed acted some-byte linesFrom linesOf printed started program
+unfolding rules onto words isDigit digits value numberIn number end insertOf findOf crashOf letterOf asked lineOf nine wordOf digitsOf decimal answerLine lookedReply acted some-byte linesFrom linesOf printed started program
 transcript = refl

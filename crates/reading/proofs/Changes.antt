@@ -15,7 +15,7 @@ use Rattle.rules.specs.Test.{mem, distinct}
 use Rattle.rules.specs.Key.{keyOf, goodParts}
 use Rattle.rules.specs.Entry.{Cert, find}
 use Rattle.rules.specs.Page.{Page, isLeaf, touch}
-use Rattle.rules.specs.Table.{pageAt, read, fit0}
+use Rattle.rules.specs.Table.{pageAt, read, fit0, Tables}
 use Rattle.rules.specs.Place.{rootPlace}
 use Rattle.rules.specs.Walk.{Step, numbers, certsAt, wayOf}
 use Rattle.rules.specs.Marks.{freePages}
@@ -31,7 +31,7 @@ use Rattle.rules.proofs.entries.Puts.{length-put-le}
 use Rattle.rules.proofs.entries.Halves.{room}
 use Rattle.rules.proofs.bytes.Pages.{room-pageBytes}
 use Rattle.rules.proofs.bytes.Tables.{Has, Room, has-page, length-change, pageAt-change-other}
-use Rattle.rules.proofs.bytes.Lengths.{Tables, lengthsFor-true}
+use Rattle.rules.proofs.bytes.Lengths.{lengthsFor-true}
 use Rattle.way.proofs.Stood.{way-stands}
 use Rattle.apply.specs.Leads.{Whole, Leads, Fresh, Chosen}
 use Rattle.apply.proofs.Going.{Gone, apart-by}

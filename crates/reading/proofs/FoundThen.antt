@@ -11,7 +11,7 @@ use Rattle.rules.specs.Layout.{topKind, zeroKind}
 use Rattle.rules.specs.Key.{keyOf, goodParts, goodKey}
 use Rattle.rules.specs.Entry.{find}
 use Rattle.rules.specs.Page.{isLeaf}
-use Rattle.rules.specs.Table.{kind0, n0, fit0}
+use Rattle.rules.specs.Table.{kind0, n0, fit0, Tables}
 use Rattle.rules.specs.Place.{rootPlace}
 use Rattle.rules.specs.Walk.{Step, Way, certsAt, numbers, wayOf}
 use Rattle.rules.specs.Marks.{freePages}
@@ -22,7 +22,7 @@ use Rattle.rules.specs.declared.Session.{Session}
 use Rattle.rules.specs.declared.Inserted.{Inserted}
 use Rattle.rules.specs.declared.Looked.{Looked}
 use Rattle.rules.proofs.bytes.Keys.{goodKey-keyOf}
-use Rattle.rules.proofs.bytes.Lengths.{Tables, tables-lengthsFor}
+use Rattle.rules.proofs.bytes.Lengths.{tables-lengthsFor}
 use Rattle.rules.proofs.entries.Tests.{every-true}
 use Rattle.rules.proofs.bytes.PageZero.{Same0, same0, rootPlace-same}
 use Rattle.apply.specs.Leads.{Leads}

@@ -1,6 +1,7 @@
 -- What a call leaves: its answer, the session, both tables. And the paper's number for each answer, with the numbers
 -- beside it, which are 0 with any answer but 0.
 use Prim.Native.Nat.{ℕ}
+use mathlib.Core.Path.{_≡_}
 use mathlib.Core.Bool.{Bool, _&&_}
 use mathlib.Core.List.{List}
 use lib.Dec.{eqb}
@@ -19,6 +20,12 @@ pub record Left (A : Type 0) : Type 0 where
   pub session : Session
   pub working : List ℕ
   pub stable : List ℕ
+
+-- no byte changed, and the session is as it came
+pub record Unchanged {A : Type 0} (w t : List ℕ) (s : Session) (r : Left A) : Type 0 where
+  pub working : r .working ≡ w
+  pub stable : r .stable ≡ t
+  pub session : r .session ≡ s
 
 -- what a call with a session tests first
 unfoldable pub lengthsFor : Session → List ℕ → List ℕ → Bool

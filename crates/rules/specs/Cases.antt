@@ -22,7 +22,7 @@ use Rattle.rules.specs.Open.{opening}
 use Rattle.rules.specs.Insert.{insert, newPages}
 use Rattle.rules.specs.Lookup.{lookup}
 use Rattle.rules.specs.Sync.{sync}
-use Rattle.rules.specs.Crash.{crash}
+use Rattle.rules.specs.Crash.{mix}
 use Rattle.rules.specs.declared.Session.{Session}
 use Rattle.rules.specs.declared.Opened.{Opened}
 use Rattle.rules.specs.declared.Inserted.{Inserted}
@@ -117,7 +117,7 @@ synced41 = inserting (left synced40) 41
 
 -- and then a crash with some pages written, and an opening
 unfoldable pub reopened : List Bool → Left Opened
-reopened written = opening (synced41 .working) (crash written (synced41 .working) (synced41 .stable))
+reopened written = opening (synced41 .working) (mix written (synced41 .working) (synced41 .stable))
 
 -- the 41st insert in a store of 5 pages
 unfoldable pub split41 : Left Inserted

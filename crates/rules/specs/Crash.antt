@@ -2,8 +2,9 @@
 use Prim.Native.Nat.{ℕ, _+_}
 use mathlib.Core.Bool.{Bool, true, false}
 use mathlib.Core.List.{List, [], _∷_, _++_}
+use lib.Dec.{leb, eqb}
 use lib.ListN.{take, drop}
-use Rattle.rules.specs.Layout.{pageSize}
+use Rattle.rules.specs.Layout.{pageSize, lastNumber}
 use Rattle.rules.specs.Table.{setNumber}
 use Rattle.rules.specs.declared.Session.{Session}
 
@@ -14,10 +15,10 @@ mix (written ∷ more) w s =
     elim written [ true ↦ take pageSize w | false ↦ take pageSize s ]
     ++ mix more (drop pageSize w) (drop pageSize s)
 
--- between two calls
-unfoldable pub crash : List Bool → List ℕ → List ℕ → List ℕ
-crash written w s = mix written w s
+-- between two calls. An opening that was refused hands out a session of no pages, and the driver gets no page after it.
+unfoldable pub crashed : List Bool → ℕ → List ℕ → List ℕ → List ℕ
+crashed written n w s = elim (eqb n 0) [ true ↦ s | false ↦ mix written w s ]
 
--- inside a sync, when working's number is already c + 2
-unfoldable pub crashInSync : List Bool → Session → List ℕ → List ℕ → List ℕ
-crashInSync written session w s = mix written (setNumber w (session .c + 2)) s
+-- working's table inside a sync: its number is already c + 2. A sync that is refused writes no number.
+unfoldable pub insideSync : Session → List ℕ → List ℕ
+insideSync session w = elim (leb (session .c) lastNumber) [ true ↦ setNumber w (session .c + 2) | false ↦ w ]

@@ -21,7 +21,7 @@ use Rattle.rules.specs.Insert.{insert}
 use Rattle.rules.specs.Lookup.{lookup}
 use Rattle.rules.specs.Newest.{newest}
 use Rattle.rules.specs.List.{ListLeft, recordsOf, list}
-use Rattle.rules.specs.History.{Event, State, looks, asksNewest, lists, step, run, start, AllProper, crashed, crashedInSync, content, latest, earliest}
+use Rattle.rules.specs.History.{Event, State, looks, asksNewest, lists, step, run, start, AllProper, crashNow, crashInSyncNow, content, latest, earliest}
 use Rattle.rules.specs.declared.Opened.{Opened}
 use Rattle.rules.specs.declared.Inserted.{Inserted}
 use Rattle.rules.specs.declared.Looked.{Looked}
@@ -32,13 +32,13 @@ use Rattle.rules.specs.declared.Listed.{Listed}
 
 -- the stable tables that a crash of a store can leave, between two calls or inside a sync
 pub data CrashOf (m : State) : List ℕ → Type 0 where
-  betweenCalls : (written : List Bool) → CrashOf m (crashed written m)
-  insideSync : (written : List Bool) → CrashOf m (crashedInSync written m)
+  betweenCalls : (written : List Bool) → CrashOf m (crashNow written m)
+  inSync : (written : List Bool) → CrashOf m (crashInSyncNow written m)
 
--- a state is among those that a key has had
-pub data Among (x : Option ℕ) : List (Option ℕ) → Type 0 where
-  first : {xs : List (Option ℕ)} → Among x (x ∷ xs)
-  later : {y : Option ℕ} {xs : List (Option ℕ)} → Among x xs → Among x (y ∷ xs)
+-- a state is one of those that a key has had
+pub data OneOf (x : Option ℕ) : List (Option ℕ) → Type 0 where
+  first : {xs : List (Option ℕ)} → OneOf x (x ∷ xs)
+  later : {y : Option ℕ} {xs : List (Option ℕ)} → OneOf x xs → OneOf x (y ∷ xs)
 
 -- a call on a store as it is now
 abbrev pub lookupNow : State → ℕ → ℕ → ℕ → Left Looked
@@ -104,15 +104,15 @@ pub record Survives (m : State) (w : List ℕ) : Type 0 where
   pub opens : (s : List ℕ) → CrashOf m s → opening w s .answer ≡ openAnswer s
   -- every key shows one of the states it has had; one that was there at the last sync or opening is there
   pub shows : (s : List ℕ) → CrashOf m s → opening w s .answer ≡ Opened.Done
-      → (k : ℕ) → k ≤ lastKey → Among (after w s k) (m .past k)
+      → (k : ℕ) → k ≤ lastKey → OneOf (after w s k) (m .past k)
   pub keeps : (s : List ℕ) → CrashOf m s → opening w s .answer ≡ Opened.Done
       → (k x : ℕ) → k ≤ lastKey → earliest (m .past k) ≡ some x → after w s k ≡ some x
   -- no page written: the set of the sync or opening; all written: that of the crash
   pub nothing-written : opening w (m .stable) .answer ≡ Opened.Done
       → (k : ℕ) → k ≤ lastKey → after w (m .stable) k ≡ earliest (m .past k)
-  pub all-written : (s : List ℕ) → s ≡ crashed (replicate mostPages true) m → opening w s .answer ≡ Opened.Done
+  pub all-written : (s : List ℕ) → s ≡ crashNow (replicate mostPages true) m → opening w s .answer ≡ Opened.Done
       → (k : ℕ) → k ≤ lastKey → after w s k ≡ latest (m .past k)
-  pub all-written-in-sync : (s : List ℕ) → s ≡ crashedInSync (replicate mostPages true) m
+  pub all-written-in-sync : (s : List ℕ) → s ≡ crashInSyncNow (replicate mostPages true) m
       → opening w s .answer ≡ Opened.Done → (k : ℕ) → k ≤ lastKey → after w s k ≡ latest (m .past k)
 
 -- between crashes, while the last opening was done

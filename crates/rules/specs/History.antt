@@ -8,9 +8,9 @@ use mathlib.Core.Path.{_≡_}
 use mathlib.Core.Bool.{Bool, true, false}
 use mathlib.Core.List.{List, [], _∷_}
 use mathlib.Core.Option.{Option, some, none}
-use lib.Dec.{leb, eqb}
+use lib.Dec.{eqb}
 use lib.ListN.{length}
-use Rattle.rules.specs.Layout.{pageSize, lastNumber}
+use Rattle.rules.specs.Layout.{pageSize}
 use Rattle.rules.specs.Key.{keyOf, modelOf, serialOf, issueOf}
 use Rattle.rules.specs.Call.{Left}
 use Rattle.rules.specs.Format.{format}
@@ -20,7 +20,7 @@ use Rattle.rules.specs.Lookup.{lookup}
 use Rattle.rules.specs.Newest.{newest}
 use Rattle.rules.specs.List.{list}
 use Rattle.rules.specs.Sync.{sync}
-use Rattle.rules.specs.Crash.{crash, crashInSync}
+use Rattle.rules.specs.Crash.{crashed, insideSync}
 use Rattle.rules.specs.declared.Session.{Session}
 use Rattle.rules.specs.declared.Opened.{Opened}
 use Rattle.rules.specs.declared.Inserted.{Inserted}
@@ -133,23 +133,12 @@ afterReading m s w t = record { session = s; working = w; stable = t; opened = m
 
 -- ── Crashes ─────────────────────────────────────────────────────────────────────────────────────────────────────
 
--- what a crash leaves in the stable table. After an opening that was refused the driver gets no page.
-unfoldable pub crashed : List Bool → State → List ℕ
-crashed written m =
-    elim (eqb (m .session .n) 0)
-    [ true ↦ m .stable | false ↦ crash written (m .working) (m .stable) ]
+-- what a crash of a store leaves in the stable table, between two calls or inside a sync
+abbrev pub crashNow : List Bool → State → List ℕ
+crashNow written m = crashed written (m .session .n) (m .working) (m .stable)
 
--- inside a sync that would be done; a sync that is refused writes no number
-unfoldable pub crashedInSync : List Bool → State → List ℕ
-crashedInSync written m =
-    elim (eqb (m .session .n) 0) [
-      | true ↦ m .stable
-      | false ↦
-          elim (leb (m .session .c) lastNumber) [
-            | true ↦ crashInSync written (m .session) (m .working) (m .stable)
-            | false ↦ crash written (m .working) (m .stable)
-          ]
-    ]
+abbrev pub crashInSyncNow : List Bool → State → List ℕ
+crashInSyncNow written m = crashed written (m .session .n) (insideSync (m .session) (m .working)) (m .stable)
 
 unfoldable pub step : Event → State → State
 step (inserts model serial issue x) m =
@@ -165,8 +154,8 @@ step (lists start ks xs) m =
     afterReading m (r .session) (r .working) (r .stable)
 step syncs m = afterSync m (sync (m .working) (m .stable) (m .session))
 step opens m = afterOpen (m .past) (opening (m .working) (m .stable))
-step (crashes written w) m = afterOpen (m .past) (opening w (crashed written m))
-step (crashesInSync written w) m = afterOpen (m .past) (opening w (crashedInSync written m))
+step (crashes written w) m = afterOpen (m .past) (opening w (crashNow written m))
+step (crashesInSync written w) m = afterOpen (m .past) (opening w (crashInSyncNow written m))
 
 -- ── Whole histories ─────────────────────────────────────────────────────────────────────────────────────────────
 

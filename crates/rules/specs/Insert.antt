@@ -30,7 +30,7 @@ unfoldable pub splitting : List Step → List Step
 splitting [] = []
 splitting (s ∷ above) = elim (full (s .page .view)) [ true ↦ s ∷ splitting above | false ↦ [] ]
 
--- a full parent that must split was touched since the last sync
+-- a full parent that must split was touched since the last sync or opening
 unfoldable pub tooSoon : ℕ → List Step → Bool
 tooSoon c [] = false
 tooSoon c (s ∷ ss) = (not (isLeaf (s .page .view)) && eqb (s .page .touched) c) || tooSoon c ss
@@ -71,14 +71,14 @@ upperHalf v = record {
 unfoldable pub divide : View → ℕ
 divide v = getD (keys (v .certs) ++ keys (v .children)) (elim (isLeaf v) [ true ↦ leafHalf | false ↦ innerHalf ]) 0
 
--- a leaf that was built since the last sync is nobody's previous page: its halves inherit the entry's
+-- a leaf that was built since the last sync or opening is nobody's previous page: its halves inherit the entry's
 unfoldable pub heirs : ℕ → Step → Bool
 heirs c s = isLeaf (s .page .view) && eqb (s .page .built) c
 
 unfoldable pub previousOf : ℕ → Step → ℕ
 previousOf c s = elim (heirs c s) [ true ↦ s .place .previous | false ↦ s .place .child ]
 
--- the split page waits; one that was born since the last sync too is freed at once
+-- the split page waits; one that was born since the last sync or opening too is freed at once
 unfoldable pub retire : ℕ → Step → Session → Session
 retire c s m =
     elim (heirs c s && eqb (s .page .birth) c)
@@ -109,7 +109,8 @@ twins c s lower upper v =
 
 -- ── A new root ──────────────────────────────────────────────────────────────────────────────────────────────────
 
--- one kind higher, at first over the old root alone
+-- one kind higher, at first over the old root alone: that entry is written over at once, when the old root is halved below
+-- it and its two halves take its place
 unfoldable pub rootOver : Step → View
 rootOver s = record {
   kind = s .page .view .kind + 1;
@@ -117,7 +118,7 @@ rootOver s = record {
   children = newChild (s .place .birth) (s .place .low) (s .place .child) (s .place .previous) ∷ [];
 }
 
--- page 0's previous becomes the old root, or stays if that was built since the last sync
+-- page 0's previous becomes the old root, or stays if that was built since the last sync or opening
 unfoldable pub rootPrevious : ℕ → Step → ℕ
 rootPrevious c s = elim (eqb (s .page .built) c) [ true ↦ s .place .previous | false ↦ s .place .child ]
 

@@ -1,4 +1,8 @@
 -- Document 01 as definitions, in its own order. Each file is one notion; a file uses only those above it.
+--
+-- The types that code has too are declared in src/lib.rt, and come here as declared.NAME: a place (what an entry asks of its
+-- child; want is the kind asked for, and want = 0 asks for any kind, as page 0 does of the root), what a walk is asked for,
+-- the session, and for each call its answers.
 pub mod Layout
 pub mod Test
 pub mod Key

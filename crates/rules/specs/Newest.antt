@@ -13,7 +13,7 @@ use Rattle.rules.specs.declared.Session.{Session}
 use Rattle.rules.specs.declared.Newest.{Newest}
 use Rattle.rules.specs.declared.Asked.{Asked}
 
--- the asked range: issues 1 to 65,535 of one meter, with more room than there are keys
+-- the asked range: issues 1 to 65,535 of one meter, with room for all of them
 unfoldable pub meter : ℕ → ℕ → Asked
 meter model serial = record { low = keyOf model serial 1; high = keyOf model serial 65535; room = lastKey }
 

@@ -14,7 +14,8 @@ use Rattle.rules.specs.declared.Place.{Place}
 
 -- ── The places that a table asks for ────────────────────────────────────────────────────────────────────────────
 
--- the root counts as a child, and page 0's root, previous and birth as its entry; its range is every key
+-- the root counts as a child, and page 0's root, previous and birth as its entry; its range is every key, and it may be of
+-- any kind, which is what want = 0 asks for
 unfoldable pub rootPlace : List ℕ → Place
 rootPlace t = record {
   child = root0 t;
@@ -96,7 +97,8 @@ cutView low high v = record {
 unfoldable pub mended : ℕ → Place → Page → Page
 mended c e q = fresh c (e .birth) (e .low) (e .high) (cutView (e .low) (e .high) (q .view))
 
--- what a place shows, mending nothing: none where it is damaged
+-- what a place shows, mending nothing: none where it is damaged. That a child with the number of a page above it is damaged
+-- too is asked where the pages above are known: in Enter.enter, and in Tree.goodTree, as a number named twice.
 unfoldable pub show : ℕ → List ℕ → Place → Option View
 show n t e =
     elim (fits n e (read t (e .child))) [

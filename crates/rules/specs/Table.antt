@@ -1,7 +1,8 @@
 -- A table of n pages, and page 0, which names the root.
 --
 --   page 0:   0 kind 9 (2)   2 n (2)   4 number (4)   8 root (2)   10 root's previous (2)   12 root's birth (4)
-use Prim.Native.Nat.{ℕ, _*_, _/_, _%_, _-_}
+use Prim.Native.Nat.{ℕ, _*_, _/_, _%_, _-_, _≤_}
+use mathlib.Core.Path.{_≡_}
 use mathlib.Core.Bool.{Bool}
 use mathlib.Core.List.{List, [], _∷_, _++_}
 use lib.ListN.{length, take, drop}
@@ -43,6 +44,13 @@ goodLengths w s =
     ∷ eqb (length w % pageSize) 0
     ∷ between fewestPages mostPages (pages w)
     ∷ [])
+
+-- two tables of n whole pages each, as many as a table may have
+pub record Tables (n : ℕ) (w s : List ℕ) : Type 0 where
+  pub least : fewestPages ≤ n
+  pub most : n ≤ mostPages
+  pub working : length w ≡ n * pageSize
+  pub stable : length s ≡ n * pageSize
 
 -- ── Page 0 ──────────────────────────────────────────────────────────────────────────────────────────────────────
 

@@ -24,7 +24,7 @@ stepAt t e = record { place = e; page = read t (e .child) }
 
 -- ── By the header ───────────────────────────────────────────────────────────────────────────────────────────────
 
--- a leaf that was built since the last sync: its halves inherit the entry's previous page
+-- a leaf that was built since the last sync or opening: its halves inherit the entry's previous page
 unfoldable pub heirsBy : ℕ → Head → Bool
 heirsBy c h = eqb (h .kind) leafKind && eqb (h .built) c
 

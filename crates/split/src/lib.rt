@@ -24,7 +24,7 @@ pub struct Made {
     pub at: u16,
 }
 
-// A leaf that was built since the last sync is nobody's previous page.
+// A leaf that was built since the last sync or opening is nobody's previous page.
 fn heirs(c: u32, head: Head) -> bool
     ensures { λ r. ⌜ r ≡ heirsBy c head ⌝ }
 {
@@ -44,7 +44,7 @@ fn previous_of(c: u32, e: Place, head: Head) -> u16
     e.child
 }
 
-// A split page that was born and built since the last sync is in no stable table's way.
+// A split page that was born and built since the last sync or opening is in no stable table's way.
 fn frees(c: u32, head: Head) -> bool
     ensures { λ r. ⌜ r ≡ freesBy c head ⌝ }
 {
@@ -121,7 +121,7 @@ pub fn halve(
     }
 }
 
-// Page 0's previous: the old root, or what stands there if that was built since the last sync.
+// Page 0's previous: the old root, or what stands there if that was built since the last sync or opening.
 fn root_previous(c: u32, e: Place, head: Head) -> u16
     ensures { λ r. ⌜ r ≡ rootPreviousBy c e head ⌝ }
 {

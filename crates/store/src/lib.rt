@@ -26,8 +26,8 @@
 //     Done, Found, Filled   none of these: the call did what it is for
 //
 // What a refused call leaves: the session as it was handed in, the stable table and the lists as they were, and in the
-// working table nothing changed but pages that the call mended on its way; a mended page holds what it held before the
-// crash. Pages reach the stable table in `sync`, in `format`, in one page write of `open`, and at a crash.
+// working table nothing changed but pages that the call mended on its way; a mended page holds those entries of its previous
+// page that lie in its range. Pages reach the stable table in `sync`, in `format`, in one page write of `open`, and at a crash.
 //
 // Each contract is one equation with the rule of that name: answer, session and every byte lent are the rule's. What
 // the rules promise of crashes is the theorem `demand3` of `rules`. Stack: no call holds more

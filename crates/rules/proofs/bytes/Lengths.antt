@@ -9,17 +9,10 @@ use lib.Dec.{eqb}
 use lib.ListN.{length}
 use Rattle.rules.specs.Layout.{pageSize, fewestPages, mostPages}
 use Rattle.rules.specs.Test.{between, every}
-use Rattle.rules.specs.Table.{pages, goodLengths}
+use Rattle.rules.specs.Table.{pages, goodLengths, Tables}
 use Rattle.rules.specs.Call.{lengthsFor}
 use Rattle.rules.specs.declared.Session.{Session}
 use Rattle.rules.proofs.entries.Tests.{and-left, and-right, every-true, between-low, between-high}
-
--- two tables of n whole pages each, as many as a table may have
-pub record Tables (n : ℕ) (w s : List ℕ) : Type 0 where
-  pub least : fewestPages ≤ n
-  pub most : n ≤ mostPages
-  pub working : length w ≡ n * pageSize
-  pub stable : length s ≡ n * pageSize
 
 pub pages-of : (t : List ℕ) (n : ℕ) → length t ≡ n * pageSize → pages t ≡ n
 unfolding pages

@@ -12,7 +12,7 @@ use Rattle.rules.specs.Table.{pages, goodLengths, fit0, number0}
 use Rattle.rules.specs.Walk.{Step, numbers, certsAt, wayOf, walkOf}
 use Rattle.rules.specs.Tree.{treeOf, goodTree}
 use Rattle.rules.specs.Marks.{nobody, freePages}
-use Rattle.rules.specs.Call.{Left, lengthsFor}
+use Rattle.rules.specs.Call.{Left, Unchanged, lengthsFor}
 use Rattle.rules.specs.Format.{format}
 use Rattle.rules.specs.Open.{opening, openRefused, openDone}
 use Rattle.rules.specs.Insert.{insert, insertKey, insertAlong, insertDone, insertRefused, splitting, tooSoon, noRoom}
@@ -30,12 +30,6 @@ use Rattle.rules.specs.declared.Synced.{Synced}
 use Rattle.rules.proofs.demand1.Mending.{Mends, same, way-mends, walkOf-mends}
 
 -- ── Words ───────────────────────────────────────────────────────────────────────────────────────────────────────
-
--- no byte changed, and the session is as it came
-pub record Unchanged {A : Type 0} (w t : List ℕ) (s : Session) (r : Left A) : Type 0 where
-  pub working : r .working ≡ w
-  pub stable : r .stable ≡ t
-  pub session : r .session ≡ s
 
 -- nothing changed but what a walk mended
 pub record OnlyMended {A : Type 0} (w t : List ℕ) (s : Session) (r : Left A) : Type 0 where

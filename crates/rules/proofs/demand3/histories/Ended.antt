@@ -19,8 +19,9 @@ use Rattle.rules.specs.Lookup.{lookup, lookupLeft}
 use Rattle.rules.specs.Newest.{newest, newestLeft}
 use Rattle.rules.specs.List.{ListLeft, list, listRefused}
 use Rattle.rules.specs.Sync.{sync, syncRefused}
-use Rattle.rules.specs.History.{Event, inserts, looks, asksNewest, lists, syncs, opens, crashes, crashesInSync, State, afterInsert, afterSync, afterOpen, afterReading, crashed, crashedInSync, step, Proper}
-use Rattle.rules.specs.Demand.{CrashOf, betweenCalls, insideSync, openAnswer, Survives}
+use Rattle.rules.specs.Crash.{crashed, insideSync}
+use Rattle.rules.specs.History.{Event, inserts, looks, asksNewest, lists, syncs, opens, crashes, crashesInSync, State, afterInsert, afterSync, afterOpen, afterReading, step, Proper}
+use Rattle.rules.specs.Demand.{CrashOf, betweenCalls, inSync, openAnswer, Survives}
 use Rattle.rules.specs.declared.Opened.{Opened}
 use Rattle.rules.specs.declared.Inserted.{Inserted}
 use Rattle.rules.specs.declared.Looked.{Looked}
@@ -93,17 +94,13 @@ module _ {n : ℕ} {m : State} (o : Over n m) where
         subst (λ (r : Left Opened). Over n (afterOpen (m .past) r)) (sym opening-again)
         (over-refused n (m .past) w (m .stable) (o .few) (o .most) h (o .stable) (o .good) (o .spent))
 
-  crashed-stays : (written : List Bool) → crashed written m ≡ m .stable
+  crashed-stays : (written : List Bool) (w : List ℕ) → crashed written (m .session .n) w (m .stable) ≡ m .stable
   unfolding crashed
-  crashed-stays written = rw (eq-eqb (m .session .n) 0 no-pages, crashed)
-
-  in-sync-stays : (written : List Bool) → crashedInSync written m ≡ m .stable
-  unfolding crashedInSync
-  in-sync-stays written = rw (eq-eqb (m .session .n) 0 no-pages, crashedInSync)
+  crashed-stays written w = rw (eq-eqb (m .session .n) 0 no-pages, crashed)
 
   crash-stays : {t : List ℕ} → CrashOf m t → t ≡ m .stable
-  crash-stays (betweenCalls written) = crashed-stays written
-  crash-stays (insideSync written) = in-sync-stays written
+  crash-stays (betweenCalls written) = crashed-stays written (m .working)
+  crash-stays (inSync written) = crashed-stays written (insideSync (m .session) (m .working))
 
   module _ (w : List ℕ) (h : length w ≡ n * pageSize) where
     never-done : opening w (m .stable) .answer ≡ Opened.Done → ⊥
@@ -124,8 +121,8 @@ module _ {n : ℕ} {m : State} (o : Over n m) where
       shows = λ t c d k b. absurd (not-done (crash-stays c) d);
       keeps = λ t c d k y b e. absurd (not-done (crash-stays c) d);
       nothing-written = λ d k b. absurd (never-done d);
-      all-written = λ t q d k b. absurd (not-done (q ∙ crashed-stays _) d);
-      all-written-in-sync = λ t q d k b. absurd (not-done (q ∙ in-sync-stays _) d);
+      all-written = λ t q d k b. absurd (not-done (q ∙ crashed-stays _ (m .working)) d);
+      all-written-in-sync = λ t q d k b. absurd (not-done (q ∙ crashed-stays _ (insideSync (m .session) (m .working))) d);
     }
 
   -- ── Any event ─────────────────────────────────────────────────────────────────────────────────────────────────
@@ -143,6 +140,6 @@ module _ {n : ℕ} {m : State} (o : Over n m) where
   over-step syncs p = subst (λ (r : Left Synced). Over n (afterSync m r)) (sym syncing) o
   over-step opens p = over-opens (m .working) (o .working)
   over-step (crashes written w) p =
-      subst (λ (t : List ℕ). Over n (afterOpen (m .past) (opening w t))) (sym (crashed-stays written)) (over-opens w p)
+      subst (λ (t : List ℕ). Over n (afterOpen (m .past) (opening w t))) (sym (crashed-stays written (m .working))) (over-opens w p)
   over-step (crashesInSync written w) p =
-      subst (λ (t : List ℕ). Over n (afterOpen (m .past) (opening w t))) (sym (in-sync-stays written)) (over-opens w p)
+      subst (λ (t : List ℕ). Over n (afterOpen (m .past) (opening w t))) (sym (crashed-stays written (insideSync (m .session) (m .working)))) (over-opens w p)

@@ -12,7 +12,7 @@ use Rattle.rules.specs.Tree.{treeOf}
 use Rattle.rules.specs.Marks.{opened, nobody}
 use Rattle.rules.specs.Open.{openRefused}
 use Rattle.rules.specs.History.{State, latest, earliest, content, afterOpen, afterReading}
-use Rattle.rules.specs.Demand.{Among}
+use Rattle.rules.specs.Demand.{OneOf}
 use Rattle.rules.specs.declared.Opened.{Opened}
 use Rattle.rules.specs.declared.Session.{Session}
 use Rattle.rules.proofs.demand3.ways.Ways.{Tells}
@@ -23,12 +23,12 @@ use Rattle.rules.proofs.demand3.epochs.Store.{Whole, Safe}
 use Rattle.rules.proofs.demand3.epochs.Openings.{raise, done}
 use Rattle.rules.proofs.demand3.steps.Mended.{Steady, node-last, steady-tells}
 use Rattle.rules.proofs.demand3.reads.Looks.{content-told}
-use Rattle.rules.proofs.demand3.histories.Pasts.{among-one, Settled, one}
+use Rattle.rules.proofs.demand3.histories.Pasts.{oneOf-only, Settled, one}
 
 pub record Alive (n : ℕ) (m : State) : Type 0 where
   pub pages : m .session .n ≡ n
   pub opened : m .opened ≡ Opened.Done
-  pub safe : Safe (m .session) (m .working) (m .stable) (λ k o. Among o (m .past k))
+  pub safe : Safe (m .session) (m .working) (m .stable) (λ k o. OneOf o (m .past k))
   pub then : (k : ℕ) → k ≤ lastKey → Tells (m .session .n) (m .stable) k (earliest (m .past k))
   pub now : (k : ℕ) → k ≤ lastKey → Tells (m .session .n) (m .working) k (latest (m .past k))
   pub settled : (k : ℕ) → Settled (m .past k)
@@ -78,7 +78,7 @@ unfolding latest earliest
 alive-anew s t last state d x f = record {
   pages = refl;
   opened = d;
-  safe = safe-widen (λ k o. Among o (state k ∷ [])) (λ k o y. among-one (f k o y)) x;
+  safe = safe-widen (λ k o. OneOf o (state k ∷ [])) (λ k o y. oneOf-only (f k o y)) x;
   then = told;
   now = told;
   settled = λ k. one (state k) refl;
@@ -111,7 +111,7 @@ over-refused n past w t f l h x g s = record {
 
 -- ── A call that only reads ──────────────────────────────────────────────────────────────────────────────────────
 
-pub alive-reading : {n : ℕ} {m : State} (w : List ℕ) → Alive n m → Safe (m .session) w (m .stable) (λ k o. Among o (m .past k))
+pub alive-reading : {n : ℕ} {m : State} (w : List ℕ) → Alive n m → Safe (m .session) w (m .stable) (λ k o. OneOf o (m .past k))
     → Steady (m .session .n) (m .working) w → Alive n (afterReading m (m .session) w (m .stable))
 unfolding afterReading
 alive-reading {n} {m} w a x y = record {

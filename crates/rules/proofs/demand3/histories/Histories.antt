@@ -19,8 +19,8 @@ use Rattle.rules.specs.Format.{formatted, format}
 use Rattle.rules.specs.Open.{opening}
 use Rattle.rules.specs.Insert.{insertRefused, insert}
 use Rattle.rules.specs.Sync.{sync, syncDone, syncRefused}
-use Rattle.rules.specs.History.{Event, inserts, looks, asksNewest, lists, syncs, opens, crashes, crashesInSync, State, latest, earliest, gains, afterInsert, afterSync, afterOpen, afterReading, crashed, crashedInSync, step, start, run, Proper, AllProper}
-use Rattle.rules.specs.Demand.{betweenCalls, insideSync, Among, Reads, look, ask, listing, Survives, Serves, Lent, Demand3, SessionTells, OpenedTold}
+use Rattle.rules.specs.History.{Event, inserts, looks, asksNewest, lists, syncs, opens, crashes, crashesInSync, State, latest, earliest, gains, afterInsert, afterSync, afterOpen, afterReading, crashNow, crashInSyncNow, step, start, run, Proper, AllProper}
+use Rattle.rules.specs.Demand.{betweenCalls, inSync, OneOf, Reads, look, ask, listing, Survives, Serves, Lent, Demand3, SessionTells, OpenedTold}
 use Rattle.rules.specs.declared.Opened.{Opened}
 use Rattle.rules.specs.declared.Inserted.{Inserted}
 use Rattle.rules.specs.declared.Synced.{Synced}
@@ -58,7 +58,7 @@ refused-past k x m Inserted.Full h s w t = refl
 
 -- so it is like a call that only reads
 alive-refused : {n : ℕ} {m : State} (k x : ℕ) → Alive n m → (r : Left Inserted) (answer : Inserted) → (answer ≡ Inserted.Done → ⊥)
-    → r .answer ≡ answer → Stays (m .session) (m .working) (m .stable) (λ j o. Among o (m .past j)) r → Alive n (afterInsert k x m r)
+    → r .answer ≡ answer → Stays (m .session) (m .working) (m .stable) (λ j o. OneOf o (m .past j)) r → Alive n (afterInsert k x m r)
 unfolding afterReading
 alive-refused {n} {m} k x a r answer d h y =
     subst (Alive n) (sym is) (alive-reading (r .working) a (y .safe) (y .steady))
@@ -78,7 +78,7 @@ alive-refused {n} {m} k x a r answer d h y =
 
 -- the key was absent and has its record, every other key is as it was
 module _ {n : ℕ} {m : State} (a : Alive n m) (k x : ℕ) (bound : k ≤ lastKey) (r : Left Inserted)
-    (i : Added (m .session) (m .working) (m .stable) (λ j o. Among o (m .past j)) k x r) where
+    (i : Added (m .session) (m .working) (m .stable) (λ j o. OneOf o (m .past j)) k x r) where
   abbrev inserted : State
   inserted = record { session = r .session; working = r .working; stable = r .stable; opened = m .opened; past = gains k x (m .past) }
 
@@ -89,11 +89,11 @@ module _ {n : ℕ} {m : State} (a : Alive n m) (k x : ℕ) (bound : k ≤ lastKe
       (λ (b : Inserted). afterInsert k x m (record { answer = b; session = r .session; working = r .working; stable = r .stable }))
       (i .answer)
 
-  gained : (j : ℕ) (o : Option ℕ) → Also (λ j o. Among o (m .past j)) k x j o → Among o (gains k x (m .past) j)
+  gained : (j : ℕ) (o : Option ℕ) → Also (λ j o. OneOf o (m .past j)) k x j o → OneOf o (gains k x (m .past) j)
   gained j o (inl h) = gains-more k x (m .past) j o h
   gained j o (inr h) =
-      subst (λ (p : Option ℕ). Among p (gains k x (m .past) j)) (sym (h .1))
-      (subst (λ (l : ℕ). Among (some x) (gains k x (m .past) l)) (sym (h .0)) (gains-new k x (m .past)))
+      subst (λ (p : Option ℕ). OneOf p (gains k x (m .past) j)) (sym (h .1))
+      (subst (λ (l : ℕ). OneOf (some x) (gains k x (m .past) l)) (sym (h .0)) (gains-new k x (m .past)))
 
   first-state : (j : ℕ) → earliest (m .past j) ≡ earliest (gains k x (m .past) j)
   first-state j = go (eqb j k) refl
@@ -135,8 +135,8 @@ module _ {n : ℕ} {m : State} (a : Alive n m) (k x : ℕ) (bound : k ≤ lastKe
         pages = i .pages ∙ a .pages;
         opened = a .opened;
         safe =
-            subst (λ (t : List ℕ). Safe (r .session) (r .working) t (λ j o. Among o (gains k x (m .past) j))) (sym (i .stable))
-            (safe-widen (λ j o. Among o (gains k x (m .past) j)) gained (i .safe));
+            subst (λ (t : List ℕ). Safe (r .session) (r .working) t (λ j o. OneOf o (gains k x (m .past) j))) (sym (i .stable))
+            (safe-widen (λ j o. OneOf o (gains k x (m .past) j)) gained (i .safe));
         then = λ j h.
             subst (λ (l : ℕ). Tells l (r .stable) j (earliest (gains k x (m .past) j))) (sym (i .pages))
             (subst (λ (t : List ℕ). Tells (m .session .n) t j (earliest (gains k x (m .past) j))) (sym (i .stable))
@@ -181,7 +181,7 @@ alive-insert {n} {m} a model serial issue x t = go (goodParts model serial issue
     other : (answer : Inserted) → 1 ≤ insertedNo answer → answer ≡ Inserted.Done → ⊥
     other answer l e = omega (arith, ap insertedNo e)
 
-    came : Inserts (m .session) (m .working) (m .stable) (λ j o. Among o (m .past j)) k x r → Alive n (afterInsert k x m r)
+    came : Inserts (m .session) (m .working) (m .stable) (λ j o. OneOf o (m .past j)) k x r → Alive n (afterInsert k x m r)
     came (present y told h z) = alive-refused k x a r Inserted.Present (other Inserted.Present (omega arith)) h z
     came (sync-first told h z) = alive-refused k x a r Inserted.SyncFirst (other Inserted.SyncFirst (omega arith)) h z
     came (no-room told h z) = alive-refused k x a r Inserted.Full (other Inserted.Full (omega arith)) h z
@@ -204,8 +204,8 @@ alive-step a (asksNewest model serial) t = alive (alive-reads a (asksNewest mode
 alive-step a (lists from ks xs) t = alive (alive-reads a (lists from ks xs) listing)
 alive-step a syncs t = alive (alive-sync a)
 alive-step a opens t = fate-opens a
-alive-step {n} {m} a (crashes written w) t = fate-crashes a w t (crashed written m) (betweenCalls written)
-alive-step {n} {m} a (crashesInSync written w) t = fate-crashes a w t (crashedInSync written m) (insideSync written)
+alive-step {n} {m} a (crashes written w) t = fate-crashes a w t (crashNow written m) (betweenCalls written)
+alive-step {n} {m} a (crashesInSync written w) t = fate-crashes a w t (crashInSyncNow written m) (inSync written)
 
 fate-step : {n : ℕ} {m : State} → Fate n m → (e : Event) → Proper n e → Fate n (step e m)
 fate-step (alive a) e t = alive-step a e t

@@ -9,20 +9,20 @@ use lib.Dec.{eqb}
 use lib.ListN.{length}
 use borrow.Author.Tests.{eq-eqb, ne-eqb}
 use Rattle.rules.specs.History.{latest, earliest, gains}
-use Rattle.rules.specs.Demand.{Among, first, later}
+use Rattle.rules.specs.Demand.{OneOf, first, later}
 
 -- ── One state ───────────────────────────────────────────────────────────────────────────────────────────────────
 
-pub among-one : {x o : Option ℕ} → x ≡ o → Among x (o ∷ [])
-among-one {x} {o} h = subst (λ (y : Option ℕ). Among x (y ∷ [])) h first
+pub oneOf-only : {x o : Option ℕ} → x ≡ o → OneOf x (o ∷ [])
+oneOf-only {x} {o} h = subst (λ (y : Option ℕ). OneOf x (y ∷ [])) h first
 
-none-among : {x : Option ℕ} {xs : List (Option ℕ)} → Among x xs → xs ≡ [] → ⊥
-none-among first h = omega (arith, ap length h)
-none-among (later a) h = omega (arith, ap length h)
+nonly-oneOf : {x : Option ℕ} {xs : List (Option ℕ)} → OneOf x xs → xs ≡ [] → ⊥
+nonly-oneOf first h = omega (arith, ap length h)
+nonly-oneOf (later a) h = omega (arith, ap length h)
 
-pub one-among : {x o : Option ℕ} → Among x (o ∷ []) → x ≡ o
-one-among first = refl
-one-among (later a) = absurd (none-among a refl)
+pub only-oneOf : {x o : Option ℕ} → OneOf x (o ∷ []) → x ≡ o
+only-oneOf first = refl
+only-oneOf (later a) = absurd (nonly-oneOf a refl)
 
 -- ── Without withdrawals ─────────────────────────────────────────────────────────────────────────────────────────
 
@@ -31,10 +31,10 @@ pub data Settled (xs : List (Option ℕ)) : Type 0 where
   gained : (x : ℕ) → xs ≡ some x ∷ (none ∷ []) → Settled xs
 
 -- what was there at the last sync or opening is there
-pub settled-keeps : (xs : List (Option ℕ)) (x : ℕ) (o : Option ℕ) → Settled xs → earliest xs ≡ some x → Among o xs → o ≡ some x
+pub settled-keeps : (xs : List (Option ℕ)) (x : ℕ) (o : Option ℕ) → Settled xs → earliest xs ≡ some x → OneOf o xs → o ≡ some x
 unfolding earliest
 settled-keeps xs x o (one p h) e a =
-    one-among (subst (Among o) h a) ∙ (sym (ap earliest h) ∙ e)
+    only-oneOf (subst (OneOf o) h a) ∙ (sym (ap earliest h) ∙ e)
 settled-keeps xs x o (gained y h) e a = absurd (Option·none-ne-some x (sym (ap earliest h) ∙ e))
 
 pub settled-gains : (xs : List (Option ℕ)) (x : ℕ) → Settled xs → latest xs ≡ none → Settled (some x ∷ xs)
@@ -60,13 +60,13 @@ module _ (k x : ℕ) (past : ℕ → List (Option ℕ)) where
   gains-other j h = rw (ne-eqb j k h, gains)
 
   -- it has had what it had before
-  pub gains-more : (j : ℕ) (o : Option ℕ) → Among o (past j) → Among o (gains k x past j)
+  pub gains-more : (j : ℕ) (o : Option ℕ) → OneOf o (past j) → OneOf o (gains k x past j)
   unfolding gains
   gains-more j o a = go (eqb j k) refl
     where
-      go : (b : Bool) → eqb j k ≡ b → Among o (gains k x past j)
+      go : (b : Bool) → eqb j k ≡ b → OneOf o (gains k x past j)
       go true h = rw (h, gains) (later a)
       go false h = rw (h, gains) a
 
-  pub gains-new : Among (some x) (gains k x past k)
-  gains-new = subst (Among (some x)) (sym (gains-here k refl)) first
+  pub gains-new : OneOf (some x) (gains k x past k)
+  gains-new = subst (OneOf (some x)) (sym (gains-here k refl)) first

@@ -8,7 +8,7 @@ use Rattle.rules.specs.Lookup.{lookup}
 use Rattle.rules.specs.Newest.{newest}
 use Rattle.rules.specs.List.{list}
 use Rattle.rules.specs.History.{Event, looks, asksNewest, lists, State, latest, afterReading, step}
-use Rattle.rules.specs.Demand.{Among, lookupNow, newestNow, listNow, insertNow, Reads, look, ask, listing, SameListing, Serves}
+use Rattle.rules.specs.Demand.{OneOf, lookupNow, newestNow, listNow, insertNow, Reads, look, ask, listing, SameListing, Serves}
 use Rattle.rules.specs.declared.Session.{Session}
 use Rattle.rules.proofs.demand1.Refusals.{lookup-mends, newest-mends, list-mends}
 use Rattle.rules.proofs.demand3.reads.Enters.{Calm, calm}
@@ -22,7 +22,7 @@ use Rattle.rules.proofs.demand3.histories.Fates.{Alive, alive-reading}
 record Reading (m : State) (e : Event) : Type 0 where
   session : step e m .session ≡ m .session
   stable : step e m .stable ≡ m .stable
-  left : Calm (m .session) (m .working) (m .stable) (λ k o. Among o (m .past k)) (step e m .working)
+  left : Calm (m .session) (m .working) (m .stable) (λ k o. OneOf o (m .past k)) (step e m .working)
   is : step e m ≡ afterReading m (step e m .session) (step e m .working) (step e m .stable)
 
 module _ {n : ℕ} {m : State} (a : Alive n m) where

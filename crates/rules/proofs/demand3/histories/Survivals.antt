@@ -13,10 +13,10 @@ use Rattle.rules.specs.Table.{number0, setNumber}
 use Rattle.rules.specs.Tree.{treeOf}
 use Rattle.rules.specs.Marks.{opened}
 use Rattle.rules.specs.Call.{Left, openedNo}
-use Rattle.rules.specs.Crash.{mix, crash, crashInSync}
+use Rattle.rules.specs.Crash.{mix, crashed, insideSync}
 use Rattle.rules.specs.Open.{opening, openRefused}
-use Rattle.rules.specs.History.{State, latest, earliest, content, afterOpen, crashed, crashedInSync}
-use Rattle.rules.specs.Demand.{CrashOf, betweenCalls, insideSync, Among, openAnswer, after, Survives}
+use Rattle.rules.specs.History.{State, latest, earliest, content, afterOpen, crashInSyncNow}
+use Rattle.rules.specs.Demand.{CrashOf, betweenCalls, inSync, OneOf, openAnswer, after, Survives}
 use Rattle.rules.specs.declared.Opened.{Opened}
 use Rattle.rules.proofs.demand3.ways.Ways.{Tells}
 use Rattle.rules.proofs.demand3.ways.Invariant.{Good}
@@ -56,7 +56,7 @@ record Written (m : State) (t : List ℕ) : Type 0 where
   left : mix pages source (m .stable) ≡ t
 
 module _ {n : ℕ} {m : State} (a : Alive n m) where
-  x : Safe (m .session) (m .working) (m .stable) (λ k o. Among o (m .past k))
+  x : Safe (m .session) (m .working) (m .stable) (λ k o. OneOf o (m .past k))
   x = a .safe
 
   some-pages : eqb (m .session .n) 0 ≡ false
@@ -83,25 +83,25 @@ module _ {n : ℕ} {m : State} (a : Alive n m) where
     left = refl;
   }
 
-  crashed-is : (pages : List Bool) → crashed pages m ≡ mix pages (m .working) (m .stable)
-  unfolding crashed crash
-  crashed-is pages = rw (some-pages, crashed)
+  crashed-is : (pages : List Bool) (u : List ℕ) → crashed pages (m .session .n) u (m .stable) ≡ mix pages u (m .stable)
+  unfolding crashed
+  crashed-is pages u = rw (some-pages, crashed)
 
   in-sync-is : (pages : List Bool) → leb (m .session .c) lastNumber ≡ true
-      → crashedInSync pages m ≡ mix pages (setNumber (m .working) (m .session .c + 2)) (m .stable)
-  unfolding crashedInSync crashInSync
-  in-sync-is pages h = rw (some-pages, crashedInSync) (rw h)
+      → crashInSyncNow pages m ≡ mix pages (setNumber (m .working) (m .session .c + 2)) (m .stable)
+  unfolding insideSync
+  in-sync-is pages h = crashed-is pages (insideSync (m .session) (m .working)) ∙ rw (h, insideSync)
 
   in-sync-spent : (pages : List Bool) → leb (m .session .c) lastNumber ≡ false
-      → crashedInSync pages m ≡ mix pages (m .working) (m .stable)
-  unfolding crashedInSync crash
-  in-sync-spent pages h = rw (some-pages, crashedInSync) (rw h)
+      → crashInSyncNow pages m ≡ mix pages (m .working) (m .stable)
+  unfolding insideSync
+  in-sync-spent pages h = crashed-is pages (insideSync (m .session) (m .working)) ∙ rw (h, insideSync)
 
   crash-written : {t : List ℕ} → CrashOf m t → Written m t
-  crash-written (betweenCalls pages) = subst (Written m) (sym (crashed-is pages)) (plainly pages)
-  crash-written (insideSync pages) = go (leb (m .session .c) lastNumber) refl
+  crash-written (betweenCalls pages) = subst (Written m) (sym (crashed-is pages (m .working))) (plainly pages)
+  crash-written (inSync pages) = go (leb (m .session .c) lastNumber) refl
     where
-      go : (b : Bool) → leb (m .session .c) lastNumber ≡ b → Written m (crashedInSync pages m)
+      go : (b : Bool) → leb (m .session .c) lastNumber ≡ b → Written m (crashInSyncNow pages m)
       go true h = subst (Written m) (sym (in-sync-is pages h)) (in-sync (leb-true (m .session .c) lastNumber h) pages)
       go false h = subst (Written m) (sym (in-sync-spent pages h)) (plainly pages)
 
@@ -152,7 +152,7 @@ module _ {n : ℕ} {m : State} (a : Alive n m) where
         (w .left)
         (recovery-safe x (w .source) (w .alike) (w .whole) (w .above) (w .pages))
 
-    opened-told : {k : ℕ} {o : Option ℕ} → Tells (m .session .n) (raise t) k o → Among o (m .past k)
+    opened-told : {k : ℕ} {o : Option ℕ} → Tells (m .session .n) (raise t) k o → OneOf o (m .past k)
     opened-told {k} {o} y =
         recovery-told x (w .source) (w .alike) (w .whole) (w .above) (w .pages)
         (subst (λ (u : List ℕ). Tells (m .session .n) (raise u) k o) (sym (w .left)) y)
@@ -164,12 +164,12 @@ module _ {n : ℕ} {m : State} (a : Alive n m) where
         ap (λ (r : Left Opened). content (r .session) (r .working) (r .stable) k) (opens-done l)
         ∙ content-told (opened-safe l) h y
 
-    shows : opening lent t .answer ≡ Opened.Done → (k : ℕ) → k ≤ lastKey → Among (after lent t k) (m .past k)
+    shows : opening lent t .answer ≡ Opened.Done → (k : ℕ) → k ≤ lastKey → OneOf (after lent t k) (m .past k)
     unfolding opened
     shows d k h =
         let l = low-enough d in
         let y = tells (working-good (opened-safe l .inv)) k h in
-        subst (λ (o : Option ℕ). Among o (m .past k)) (sym (found l h (y .1))) (opened-told (y .1))
+        subst (λ (o : Option ℕ). OneOf o (m .past k)) (sym (found l h (y .1))) (opened-told (y .1))
 
     fate-after : Fate n (afterOpen (m .past) (opening lent t))
     fate-after = subst (λ (i : ℕ). Fate i (afterOpen (m .past) (opening lent t))) (a .pages) (go (leb (number0 t) lastNumber) refl)
@@ -226,7 +226,7 @@ module _ {n : ℕ} {m : State} (a : Alive n m) where
         → (k : ℕ) → k ≤ lastKey → after lent t k ≡ latest (m .past k)
     everything = all-from (m .working) alike-self (x .working) (omega (arith, x .number-working))
 
-    everything-in-sync : (t : List ℕ) → t ≡ crashedInSync (replicate mostPages true) m → opening lent t .answer ≡ Opened.Done
+    everything-in-sync : (t : List ℕ) → t ≡ crashInSyncNow (replicate mostPages true) m → opening lent t .answer ≡ Opened.Done
         → (k : ℕ) → k ≤ lastKey → after lent t k ≡ latest (m .past k)
     everything-in-sync t q = go (leb (m .session .c) lastNumber) refl
       where
@@ -245,7 +245,7 @@ module _ {n : ℕ} {m : State} (a : Alive n m) where
       keeps = λ t c d k y h e.
           settled-keeps (m .past k) y (after lent t k) (a .settled k) e (shows lent sized (crash-written c) d k h);
       nothing-written = nothing;
-      all-written = λ t q. everything t (q ∙ crashed-is (replicate mostPages true));
+      all-written = λ t q. everything t (q ∙ crashed-is (replicate mostPages true) (m .working));
       all-written-in-sync = everything-in-sync;
     }
 

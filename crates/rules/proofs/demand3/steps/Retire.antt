@@ -1,5 +1,5 @@
 -- The session's marks over a split: the new pages are taken, and the split page waits, or is free at once if it was built and
--- born since the last sync.
+-- born since the last sync or opening.
 use Prim.Native.Nat.{ℕ, _≤_, _<_}
 use mathlib.Core.Path.{_≡_, refl, sym, ap, _∙_, subst}
 use mathlib.Core.Logic.{_⊎_, inl, inr, _≢_}

@@ -128,7 +128,7 @@ pub record Cleft (n : ℕ) (S W W′ : List ℕ) (c : ℕ) (P L U : Place) (top 
   pub key : ℕ
   pub node : Node n W key P
   pub found : Found n W P
-  -- an inner page that is split was not touched since the last sync
+  -- an inner page that is split was not touched since the last sync or opening
   pub late : read W (P .child) .view .kind ≢ leafKind → read W (P .child) .touched ≢ c
   pub lower : Half n W W′ c P L
   pub upper : Half n W W′ c P U

@@ -132,7 +132,7 @@ module _ {n : ℕ} {S W W′ : List ℕ} {c : ℕ} {Been : States} {P L U : Plac
 
 -- ── The marks ───────────────────────────────────────────────────────────────────────────────────────────────────
 
--- a page that is free after a split: one that was free and not taken, or the split page, born since the last sync
+-- a page that is free after a split: one that was free and not taken, or the split page, born since the last sync or opening
 pub data Free (c : ℕ) (P L U : Place) (top : ℕ) (free : ℕ → Bool) (i : ℕ) : Type 0 where
   left : free i ≡ true → i ≢ L .child → i ≢ U .child → i ≢ top → Free c P L U top free i
   given-back : i ≡ P .child → P .birth ≡ c → Free c P L U top free i
@@ -147,7 +147,7 @@ module _ {n : ℕ} {S W W′ : List ℕ} {c : ℕ} {Been : States} {P L U : Plac
     (I : Inv n S W c Been) (C : Cleft n S W W′ c P L U top) (G : Goes n S W W′ P L U top)
     (M : Marks n S W free waiting) (R : Retired c P L U top free waiting free′ waiting′)
     (taken : (waiting (L .child) ≡ false) × (waiting (U .child) ≡ false) × (waiting top ≡ false)) where
-  -- P where it was born since the last sync
+  -- P where it was born since the last sync or opening
   born-now : P .birth ≡ c → New n S W c Been (C .key) P
   born-now b = go (I .node (C .node))
     where
