@@ -10,7 +10,7 @@ use Rattle.rules.specs.Entry.{find}
 use Rattle.rules.specs.Table.{fit0}
 use Rattle.rules.specs.Walk.{Step, numbers, certsAt, wayOf}
 use Rattle.rules.specs.Marks.{freePages}
-use Rattle.rules.specs.Call.{insertedNo, lengthsFor}
+use Rattle.rules.specs.Call.{Unchanged, insertedNo, lengthsFor}
 use Rattle.rules.specs.Insert.{insert, insertKey, insertAlong, insertDone, insertRefused, splitting, tooSoon, noRoom}
 use Rattle.rules.specs.Lookup.{lookup, lookupKey, lookupLeft}
 use Rattle.rules.specs.declared.Session.{Session}
@@ -76,12 +76,12 @@ module _ (w t : List ℕ) (s : Session) (model serial issue x : ℕ) where
       record { working = insert-left h; stable = r .stable; session = r .session }
 
   -- nothing before the walk
-  pub insert-unwalked : BeforeWalk w t s model serial issue → rules.Unchanged w t s (insert w t s model serial issue x)
+  pub insert-unwalked : BeforeWalk w t s model serial issue → Unchanged w t s (insert w t s model serial issue x)
   unfolding insert insertRefused
   insert-unwalked h = go (lengthsFor s w t) refl (goodParts model serial issue) refl (fit0 (s .n) w) refl h
     where
       go : (a : Bool) → lengthsFor s w t ≡ a → (b : Bool) → goodParts model serial issue ≡ b → (c : Bool) → fit0 (s .n) w ≡ c
-          → BeforeWalk w t s model serial issue → rules.Unchanged w t s (insert w t s model serial issue x)
+          → BeforeWalk w t s model serial issue → Unchanged w t s (insert w t s model serial issue x)
       go false p b q c o h = rw (insert, p) (record { working = refl; stable = refl; session = refl })
       go true p false q c o h = rw (insert, p, q) (record { working = refl; stable = refl; session = refl })
       go true p true q false o h = rw (insert, p, q, o) (record { working = refl; stable = refl; session = refl })
