@@ -8,15 +8,19 @@ use lib.ListN.{length}
 use lib.Seq.{take-nil}
 use Rattle.rules.specs.Layout.{pageSize, leafKind}
 use Rattle.rules.specs.Test.{mem}
-use Rattle.rules.specs.Entry.{Cert}
+use Rattle.rules.specs.Test.{all}
+use Rattle.rules.specs.Sound.{namesPages}
+use Rattle.rules.specs.Entry.{Cert, Child, cut}
 use Rattle.rules.specs.Page.{View}
-use Rattle.rules.specs.Place.{cutView}
+use Rattle.rules.specs.Place.{kids, placeOf, placesIn, cutView}
 use Rattle.rules.specs.Table.{pageAt, read}
 use Rattle.rules.specs.declared.Asked.{Asked}
 use Rattle.rules.specs.declared.Place.{Place}
-use Rattle.rules.proofs.entries.Sounds.{Sound, sound-same}
+use Rattle.rules.proofs.entries.Sounds.{Sound, sound-same, names-true}
 use Rattle.rules.proofs.entries.Places.{fits-true, mendable-true}
-use Rattle.rules.proofs.entries.Entries.{cut-nil}
+use Rattle.rules.proofs.bytes.All.{All, nil, cons}
+use Rattle.rules.proofs.entries.Tests as tests
+use Rattle.rules.proofs.entries.Entries.{cut-nil, all-cut}
 use Rattle.head.specs.Head.{headIn}
 use Rattle.head.proofs.Headers.{headOf, headIn-page, certs-inner}
 use Rattle.head.specs.declared.Head.{Head}
@@ -28,11 +32,19 @@ use Rattle.seen.proofs.Shows.{fits-inside}
 use Rattle.dry.specs.Walk.{keeps, helps, sighted, meets, asks, takes, dryEach, dry}
 use Rattle.dry.specs.Source.{source, markedBy}
 use Rattle.dry.specs.Count.{Leaf}
+use Rattle.dry.specs.Cursor.{Names}
 use Rattle.dry.specs.declared.Source.{Source}
 use Rattle.dry.proofs.Sources.{source-above, source-child, source-previous, source-none, same-page, never, keeps-fits, helps-mendable}
 use Rattle.dry.proofs.Steps.{step-goes}
 
 -- ── The source of a place ───────────────────────────────────────────────────────────────────────────────────────
+
+names-places : (n want high : ℕ) (xs : List Child) → all (namesPages n) xs ≡ true → All (Names n) (placesIn want high xs)
+unfolding placesIn placeOf
+names-places n want high [] h = nil
+names-places n want high (x ∷ xs) h =
+    cons (names-true n x (tests.all-head (namesPages n) x xs h) .child-below)
+    (names-places n want high xs (tests.all-tail (namesPages n) x xs h))
 
 -- a sound page of the table
 pub record Sourced (n : ℕ) (t : List ℕ) (i : ℕ) : Type 0 where
@@ -77,6 +89,14 @@ module _ (n : ℕ) (t : List ℕ) (long : length t ≡ n * pageSize) where
 
     pub source-runs : Runs t i
     source-runs = runs-sound n (read t i .low) (read t i .high) t i (s .sound) (s .inside) long
+
+    -- each entry in a range names a page
+    pub source-names : (e : Place) → All (Names n) (places t (e .high) (runOf t i (e .low) (e .high)))
+    unfolding kids cutView
+    source-names e =
+        subst (All (Names n)) (places-sound n (read t i .low) (read t i .high) t i (s .sound) e)
+        (names-places n (read t i .view .kind - 1) (e .high) (cut (e .low) (e .high) (read t i .view .children))
+        (all-cut (namesPages n) (e .low) (e .high) (read t i .view .children) (s .sound .names)))
 
     pub source-lies : (low high : ℕ) (r : Run) → r ≡ runOf t i low high → Lies n r
     source-lies low high r h = subst (Lies n) (sym h) (lies-sound n (read t i .low) (read t i .high) t i (s .sound) low high (s .inside))

@@ -3,8 +3,8 @@ pub mod Chains
 pub mod Passed
 pub mod Sights
 pub mod Decides
-pub mod Answers
 pub mod Marks
+pub mod Answers
 pub mod Sources
 pub mod Meets
 pub mod Tallies
@@ -14,4 +14,5 @@ pub mod Turns
 pub mod Ways
 pub mod Leads
 pub mod Going
+pub mod Sures
 pub mod Tight

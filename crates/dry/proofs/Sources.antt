@@ -100,6 +100,20 @@ module _ (n : ℕ) (above t : List ℕ) (m : List Bool) (e : Place) where
           subst (λ (j : ℕ). shownBy j) (same-page (e .previous) i (source-previous p q r ∙ s)) (shown-previous p q r)
       go false p false q false r = absurd (never i (source-none p q r ∙ s))
 
+  -- a child that is its own source fits
+  pub source-fits : source n above t m e ≡ Source.Page (e .child) → fits n e (read t (e .child)) ≡ true
+  source-fits s = go (mem (e .child) above) refl (keeps n t m e) refl (helps n t m e) refl
+    where
+      go : (a : Bool) → mem (e .child) above ≡ a → (b : Bool) → keeps n t m e ≡ b → (d : Bool) → helps n t m e ≡ d
+          → fits n e (read t (e .child)) ≡ true
+      go true p b q d r = absurd (never (e .child) (source-above p ∙ s))
+      go false p true q d r = keeps-fits q
+      go false p false q true r =
+          absurd
+          (mendable-true n e (read t (e .previous)) (helps-mendable r) .other
+          (same-page (e .previous) (e .child) (source-previous p q r ∙ s)))
+      go false p false q false r = absurd (never (e .child) (source-none p q r ∙ s))
+
   pub sight-damaged : source n above t m e ≡ Source.Damaged → sight n above t m e ≡ none
   unfolding sight sightMended
   sight-damaged s = go (mem (e .child) above) refl (keeps n t m e) refl (helps n t m e) refl

@@ -12,4 +12,7 @@ at-root-tight κs a pre z z′ l l′ p q = (p ∙ sym q, refl)
 pub next-tight : Tight this.next.Kinds.ps this.next.Kinds.r this.next.Reads.Pre this.next.Reads.Post
 next-tight κs a pre z z′ l l′ p q =
     let e = p ∙ sym q in
-    ((λ i. e i .step), (λ i. (l .0, (l .1 .0, (l .1 .1 .0, (l .1 .1 .1 .0, (e i .marks, l .1 .1 .1 .1 .1)))))))
+    ((λ i. e i .step), (λ i. (l .0, (l .1 .0, (l .1 .1 .0, (l .1 .1 .1 .0, (l .1 .1 .1 .1 .0, (e i .marks, l .1 .1 .1 .1 .1 .1))))))))
+
+pub mends-nothing-tight : Tight this.mends_nothing.Kinds.ps this.mends_nothing.Kinds.r this.mends_nothing.Reads.Pre this.mends_nothing.Reads.Post
+mends-nothing-tight κs a pre z z′ l l′ p q = (p ∙ sym q, refl)

@@ -66,7 +66,7 @@ module _ (n : ℕ) (a : Asked) (t : List ℕ) where
       go true = k 2 0 0 (rootPlace t)
       go false = refl
 
-  ahead-halts : (c : Cursor) (d : Sighted) → d .whole ≡ false → ahead n a t c d ≡ d
+  pub ahead-halts : (c : Cursor) (d : Sighted) → d .whole ≡ false → ahead n a t c d ≡ d
   ahead-halts c d h = ahead-same c d (λ level parent top e. dry-halts n a parent top t (suc level) e d h)
 
   pub ahead-full : (c : Cursor) (d : Sighted) → a .room ≤ length (d .found) → ahead n a t c d ≡ d
@@ -86,7 +86,7 @@ module _ (n : ℕ) (a : Asked) (t : List ℕ) where
   -- ── The place that is next ──────────────────────────────────────────────────────────────────────────────────────
 
   -- a place is the next of a way: it is walked, then the rest
-  abbrev Next : Cursor → Spot → ℕ → Type 0
+  abbrev pub Next : Cursor → Spot → ℕ → Type 0
   Next c s level = (d : Sighted) → ahead n a t c d ≡ ahead n a t (s .rest) (dry (suc level) n a (s .parent) (s .top) t (s .place) d)
 
   -- and entries of that place stand before the rest
@@ -99,7 +99,7 @@ module _ (n : ℕ) (a : Asked) (t : List ℕ) where
     abbrev upper : Sighted → Sighted
     upper d = dryEach (dry 2 n a (c .root) 0 t) (places t lastKey (c .upper)) d
 
-    lower-next : (c .lower .left ≡ 0 → ⊥) → Next c (dueLower t c) 0
+    pub lower-next : (c .lower .left ≡ 0 → ⊥) → Next c (dueLower t c) 0
     unfolding ahead dueLower
     lower-next h d =
         ap (λ (x : Sighted). aheadRoot n a t (c .fresh) (upper x))
@@ -138,7 +138,7 @@ module _ (n : ℕ) (a : Asked) (t : List ℕ) where
       passed : (d : Sighted) → dryEach (dry 1 n a (c .parent) (c .root) t) (places t (c .high) (c .lower)) d ≡ d
       passed d = run-none (dry 1 n a (c .parent) (c .root) t) t (c .high) (c .lower) d z
 
-      upper-next : (c .upper .left ≡ 0 → ⊥) → Next c (dueUpper t c) 1
+      pub upper-next : (c .upper .left ≡ 0 → ⊥) → Next c (dueUpper t c) 1
       unfolding ahead dueUpper
       upper-next h d =
           ap (λ (x : Sighted). aheadRoot n a t (c .fresh) (upper x)) (passed d)
@@ -170,7 +170,7 @@ module _ (n : ℕ) (a : Asked) (t : List ℕ) where
   root-rest : (d : Sighted) → ahead n a t (underRoot 0 noRun) d ≡ d
   root-rest d = emptied 0 noRun d ∙ run-none (dry 2 n a 0 0 t) t lastKey noRun d no-run
 
-  root-next : (c : Cursor) → c .lower .left ≡ 0 → c .upper .left ≡ 0 → c .fresh ≡ true → Next c (dueRoot t) 2
+  pub root-next : (c : Cursor) → c .lower .left ≡ 0 → c .upper .left ≡ 0 → c .fresh ≡ true → Next c (dueRoot t) 2
   unfolding aheadRoot dueRoot
   root-next c z y f d =
       nothing c z y d

@@ -1,15 +1,19 @@
 -- The dry walk step by step: one place of the way at a time, from leaf to leaf.
-use Prim.Native.Nat.{ℕ}
+use Prim.Native.Nat.{ℕ, _≤_, _<_}
+use mathlib.Core.Path.{_≡_}
 use mathlib.Core.Bool.{Bool, true, false, _&&_}
 use mathlib.Core.List.{List, [], _∷_}
 use lib.Dec.{leb, eqb}
+use lib.ListN.{length}
 use Rattle.rules.specs.Layout.{leafKind, lastKey}
+use Rattle.rules.specs.Entry.{Cert}
 use Rattle.rules.specs.Place.{rootPlace}
 use Rattle.rules.specs.declared.Asked.{Asked}
 use Rattle.rules.specs.declared.Place.{Place}
+use Rattle.rules.proofs.bytes.All.{All}
 use Rattle.seen.specs.Run.{runOf, kindAt, placeIn, places, restOf, Lies}
 use Rattle.seen.specs.declared.Run.{Run}
-use Rattle.dry.specs.Walk.{Sighted, dryEach, dry}
+use Rattle.dry.specs.Walk.{marked, Sighted, sighted, dryEach, dry}
 use Rattle.dry.specs.Source.{source, markedBy}
 use Rattle.dry.specs.declared.Source.{Source}
 use Rattle.dry.specs.declared.Met.{Met}
@@ -156,10 +160,17 @@ stepOf n a t c m = stepAt n a t m (dueOf t c)
 
 -- ── What is left to walk ────────────────────────────────────────────────────────────────────────────────────────
 
--- both runs lie in their pages
-pub record Leads (n : ℕ) (c : Cursor) : Type 0 where
+-- a place asks for a page of the table
+abbrev pub Names : ℕ → Place → Type 0
+Names n e = e .child < n
+
+-- a way that can be gone: both runs lie in their pages, and each place names a page
+pub record Leads (n : ℕ) (t : List ℕ) (c : Cursor) : Type 0 where
+  pub root-names : Names n (rootPlace t)
   pub upper : Lies n (c .upper)
+  pub upper-names : All (Names n) (places t lastKey (c .upper))
   pub lower : Lies n (c .lower)
+  pub lower-names : All (Names n) (places t (c .high) (c .lower))
 
 unfoldable pub aheadRoot : ℕ → Asked → List ℕ → Bool → Sighted → Sighted
 aheadRoot n a t true d = dry 3 n a 0 0 t (rootPlace t) d
@@ -171,3 +182,11 @@ ahead n a t c d =
     aheadRoot n a t (c .fresh)
     (dryEach (dry 2 n a (c .root) 0 t) (places t lastKey (c .upper))
     (dryEach (dry 1 n a (c .parent) (c .root) t) (places t (c .high) (c .lower)) d))
+
+-- it is known that the walk ahead meets no damaged place and would mend nothing
+pub record Sure (n : ℕ) (a : Asked) (t : List ℕ) (c : Cursor) (m : List Bool) : Type 0 where
+  pub marks : n ≤ length m
+  pub found : List Cert
+  pub room : length found < a .room
+  pub whole : ahead n a t c (sighted true found m) .whole ≡ true
+  pub still : (i : ℕ) → marked (ahead n a t c (sighted true found m) .mended) i ≡ false

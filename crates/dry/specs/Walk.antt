@@ -105,5 +105,10 @@ dryOver n a t = dry topKind n a 0 0 t (rootPlace t) untouched
 unfoldable pub counted : Sighted → Dry
 counted d = record { whole = d .whole; count = length (d .found); mended = d .mended }
 
+-- no number is marked
+unfoldable pub noneMarked : List Bool → Bool
+noneMarked [] = true
+noneMarked (x ∷ xs) = not x && noneMarked xs
+
 unfoldable pub dryOf : ℕ → Asked → List ℕ → Dry
 dryOf n a t = counted (dryOver n a t)

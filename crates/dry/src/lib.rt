@@ -38,10 +38,11 @@ ghost use Rattle.rules.specs.Test.{mem};
 ghost use Rattle.rules.specs.Page.{readEach, certIn};
 ghost use Rattle.rules.specs.Table.{pageAt, fit0};
 ghost use Rattle.seen.specs.Run.{Lies};
-ghost use Rattle.dry.specs.Walk.{keeps, helps, dryOf};
+ghost use Rattle.dry.specs.Walk.{keeps, helps, noneMarked, dryOf};
 ghost use Rattle.dry.specs.Source.{source, markedBy};
 ghost use Rattle.dry.specs.Count.{larger, smaller, tallied, tally, tallyAll, liesIn, Leaf, tallyAt};
-ghost use Rattle.dry.specs.Cursor.{inReach, meeting, meetOf, noRun, atRoot, underRoot, withLower, dueLower, dueUpper, dueRoot, dueOf, underOf, settleOf, stepping, stepOf, Leads};
+ghost use Rattle.dry.specs.Cursor.{inReach, meeting, meetOf, noRun, atRoot, underRoot, withLower, dueLower, dueUpper, dueRoot, dueOf, underOf, settleOf, stepping, stepOf, Leads, Sure};
+ghost use Rattle.dry.specs.declared.Source.{Source};
 
 // What a dry walk has found so far: whether it met no damaged place, how many certificates there are, and which numbers
 // it would have mended.
@@ -137,11 +138,23 @@ fn stands_above(parent: u16, top: u16, child: u16) -> bool
     child == top
 }
 
-// The page that shows a place in the course of a walk.
-fn source_at(table: &[u8], n: usize, parent: u16, top: u16, marks: &[bool], e: Place) -> Source
-    requires { ⌜ length (now table) ≡ n * pageSize ⌝ }
+// The page that shows a place in the course of a walk. Where it is known to be the child, nothing is tested.
+fn source_at(
+    table: &[u8],
+    n: usize,
+    parent: u16,
+    top: u16,
+    known: bool,
+    marks: &[bool],
+    e: Place,
+) -> Source
+    requires { ⌜ (length (now table) ≡ n * pageSize)
+        × (known ≡ true → source n (parent ∷ top ∷ []) (now table) (now marks) e ≡ Source.Page (e .child)) ⌝ }
     ensures { λ r. ⌜ r ≡ source n (parent ∷ top ∷ []) (now (table .entry)) (now (marks .entry)) e ⌝ }
 {
+    if known {
+        return Source::Page(e.child);
+    }
     if stands_above(parent, top, e.child) {
         return Source::Damaged;
     }
@@ -277,15 +290,17 @@ fn meet(
     parent: u16,
     top: u16,
     e: Place,
+    known: bool,
     marks: &mut [bool],
 ) -> Met
-    requires { ⌜ length (now table) ≡ n * pageSize ⌝ }
+    requires { ⌜ (length (now table) ≡ n * pageSize)
+        × (known ≡ true → inReach a e ≡ true → source n (parent ∷ top ∷ []) (now table) (now marks) e ≡ Source.Page (e .child)) ⌝ }
     ensures { λ r. ⌜ meeting r (now (marks .exit)) ≡ meetOf n a (parent ∷ top ∷ []) (now (table .entry)) (now (marks .entry)) e ⌝ }
 {
     if !in_reach(a, e) {
         return Met::Passed;
     }
-    let Source::Page(page) = source_at(table, n, parent, top, marks, e) else {
+    let Source::Page(page) = source_at(table, n, parent, top, known, marks, e) else {
         return Met::Damaged;
     };
     mark_by(marks, page, e);
@@ -393,7 +408,7 @@ fn due_root(table: &[u8]) -> Spot
 
 // The place that is next on a way: of the lowest page that has entries left.
 fn next_spot(table: &[u8], n: usize, c: Cursor) -> Due
-    requires { ⌜ (length (now table) ≡ n * pageSize) × (0 < n) × Leads n c ⌝ }
+    requires { ⌜ (length (now table) ≡ n * pageSize) × Leads n (now table) c ⌝ }
     ensures { λ r. ⌜ r ≡ dueOf (now (table .entry)) c ⌝ }
 {
     if c.lower.left != 0 {
@@ -438,15 +453,15 @@ fn settle(s: Spot, met: Met) -> Step
     }
 }
 
-// One step: the next place of the way.
-pub fn next(table: &[u8], n: usize, a: Asked, c: Cursor, marks: &mut [bool]) -> Step
-    requires { ⌜ (length (now table) ≡ n * pageSize) × (0 < n) × Leads n c ⌝ }
+// One step: the next place of the way. Where it is known that every place ahead fits, no page is tested again.
+pub fn next(table: &[u8], n: usize, a: Asked, c: Cursor, known: bool, marks: &mut [bool]) -> Step
+    requires { ⌜ (length (now table) ≡ n * pageSize) × Leads n (now table) c × (known ≡ true → Sure n a (now table) c (now marks)) ⌝ }
     ensures { λ r. ⌜ stepping r (now (marks .exit)) ≡ stepOf n a (now (table .entry)) c (now (marks .entry)) ⌝ }
 {
     let Due::At(s) = next_spot(table, n, c) else {
         return Step::End;
     };
-    let met = meet(table, n, a, s.parent, s.top, s.place, marks);
+    let met = meet(table, n, a, s.parent, s.top, s.place, known, marks);
     settle(s, met)
 }
 
@@ -459,7 +474,7 @@ pub fn dry_of(table: &[u8], n: usize, a: Asked) -> Dry
     let mut count = 0;
     let mut mended = [false; MOST];
     while count < a.room {
-        let s = next(table, n, a, c, &mut mended);
+        let s = next(table, n, a, c, false, &mut mended);
         match s {
             Step::On(way) => {
                 c = way;
@@ -490,4 +505,17 @@ pub fn dry_of(table: &[u8], n: usize, a: Asked) -> Dry
         count,
         mended,
     }
+}
+
+// Whether the walk would mend nothing: then it leaves the table as it lies, and every place that it enters fits.
+pub fn mends_nothing(d: Dry) -> bool
+    ensures { λ r. ⌜ r ≡ noneMarked (d .mended) ⌝ }
+{
+    let mut none = true;
+    let mut i = 0;
+    while i < MOST {
+        none = none & !d.mended[i];
+        i += 1;
+    }
+    none
 }

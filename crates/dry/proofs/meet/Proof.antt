@@ -17,7 +17,10 @@ returns c =
     met-passed (args .n) (args .a) _ (args .table .now) (args .marks .now) (args .e) (sym (c .before .in-reach .ensures) ∙ not-true (c .before .in-reach .result) (c .if1 .taken))
 
 source-at-requires : tie.Need-source-at-requires
-source-at-requires c κs = search needs
+source-at-requires c κs =
+    let pre = c .before .before .before .before .before .pre in
+    let in-reach = c .before .before .in-reach in
+    (pre .0, λ k. pre .1 k (sym (in-reach .ensures) ∙ not-false (in-reach .result) (c .before .if1 .left)))
 
 enum-known-page : tie.Need-enum-known-page
 enum-known-page c = search needs
@@ -47,7 +50,7 @@ head-at-requires c κs =
     let pre = c .before .before .before .before .before .before .before .before .before .before .before .before .before .pre in
     let source-at = c .before .before .before .before .before .before .before .source-at in
     let page = c .before .before .before .before .before .page in
-    source-inside (args .n) (args .table .now) (pre) (page .given .0 .0) (sourced (args .n) (args .table .now) (pre) (args .parent ∷ args .top ∷ []) (args .marks .now) (args .e) (page .given .0 .0) (sym (source-at .ensures) ∙ page .given .1))
+    source-inside (args .n) (args .table .now) (pre .0) (page .given .0 .0) (sourced (args .n) (args .table .now) (pre .0) (args .parent ∷ args .top ∷ []) (args .marks .now) (args .e) (page .given .0 .0) (sym (source-at .ensures) ∙ page .given .1))
 
 same-length-2 : tie.Need-same-length-2
 same-length-2 c = search needs
@@ -69,7 +72,7 @@ run-in-requires c κs =
     let pre = c .before .before .before .before .before .before .before .before .before .before .before .before .before .before .before .before .pre in
     let source-at = c .before .before .before .before .before .before .before .before .before .before .source-at in
     let page = c .before .before .before .before .before .before .before .before .page in
-    source-runs (args .n) (args .table .now) (pre) (page .given .0 .0) (sourced (args .n) (args .table .now) (pre) (args .parent ∷ args .top ∷ []) (args .marks .now) (args .e) (page .given .0 .0) (sym (source-at .ensures) ∙ page .given .1))
+    source-runs (args .n) (args .table .now) (pre .0) (page .given .0 .0) (sourced (args .n) (args .table .now) (pre .0) (args .parent ∷ args .top ∷ []) (args .marks .now) (args .e) (page .given .0 .0) (sym (source-at .ensures) ∙ page .given .1))
 
 same-length-3 : tie.Need-same-length-3
 same-length-3 c = search needs

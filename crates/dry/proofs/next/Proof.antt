@@ -1,5 +1,7 @@
 -- `dry::next`: the place that is next, as it is met. Assumes nothing.
+use mathlib.Core.Path.{sym, _∙_}
 use Rattle.dry.proofs.Turns.{step-ends, step-settles}
+use Rattle.dry.proofs.Sures.{sure-own}
 use borrow.Author.Needs.{needs}
 use Rattle.dry.proofs.next.Statement.{statement}
 use Rattle.dry.proofs.next.Tie as tie
@@ -20,7 +22,12 @@ returns c =
     step-ends (args .n) (args .a) (args .table .now) (args .c) (args .marks .now) (next-spot .result) (next-spot .ensures) (c .enum-told .given .1)
 
 meet-requires : tie.Need-meet-requires
-meet-requires c κs = search needs
+meet-requires c κs =
+    let pre = c .before .before .before .before .before .before .before .pre in
+    let args = c .before .before .before .before .before .before .before .args in
+    let next-spot = c .before .before .before .before .next-spot in
+    let s′ = c .before .before .s in
+    (pre .0, λ k h. sure-own (args .n) (args .a) (args .table .now) (args .c) (args .marks .now) (pre .1) (pre .2 k) (s′ .given .0 .0) (sym (next-spot .ensures) ∙ s′ .given .1) h)
 
 settle-requires : tie.Need-settle-requires
 settle-requires c κs = search needs
@@ -34,7 +41,7 @@ returns-2 c =
     let next-spot = c .before .before .before .before .before .before .before .before .next-spot in
     let s′ = c .before .before .before .before .before .before .s in
     let meet = c .before .before .before .meet in
-    step-settles (args .n) (args .a) (args .table .now) (args .c) (args .marks .now) (next-spot .result) (next-spot .ensures) (s′ .given .0 .0) (s′ .given .1) (meet .result) (meet .last .1 .1 .1 .1 .1 .1 .0) (meet .ensures) (c .settle .result) (c .settle .ensures)
+    step-settles (args .n) (args .a) (args .table .now) (args .c) (args .marks .now) (next-spot .result) (next-spot .ensures) (s′ .given .0 .0) (s′ .given .1) (meet .result) (meet .last .1 .1 .1 .1 .1 .1 .1 .0) (meet .ensures) (c .settle .result) (c .settle .ensures)
 
 pub next-spec : {M : Type 1} → statement M
 next-spec =
