@@ -2,21 +2,21 @@
 use mathlib.Core.Path.{_≡_, refl, sym, ap, _∙_}
 use mathlib.Core.List.{List, [], _∷_, _++_}
 use Prim.Native.Nat.{ℕ, zero, suc, _+_, _-_, _*_, _≤_, _<_}
-use native.Mathlib.Nat.{add-zero, mul-add, add-assoc}
+use native.Mathlib.Nat.{mul-add, add-assoc}
 use native.Mathlib.Numerals.{add-one}
 use native.Mathlib.Omega.{arith}
 use lib.ListN.{length, take, drop, getD, set, length-append}
-use lib.Seq.{paste, paste-zero, paste-suc, take-nil, take-length, drop-drop}
+use lib.Seq.{paste, paste-suc, take-length, drop-drop}
 use Rattle.rules.specs.Layout.{headerSize, certSize}
-use Rattle.rules.specs.Entry.{Cert, keys, cut}
+use Rattle.rules.specs.Entry.{Cert, keys}
 use Rattle.rules.specs.Page.{certIn, over}
 use Rattle.rules.specs.List.{recordsOf}
-use Rattle.rules.specs.declared.Asked.{Asked}
 use Rattle.rules.proofs.bytes.Each.{length-readEach, readEach-at}
 use Rattle.rules.proofs.bytes.Over.{take-over, drop-over-behind}
 use Rattle.rules.proofs.entries.Rises.{length-keys, getD-keys, keys-append}
 use Rattle.head.specs.Head.{certAt}
-use Rattle.fill.specs.Fills.{Lists, listing, listsOf, certsFrom, listed, asked}
+use Rattle.rules.specs.declared.Asked.{Asked}
+use Rattle.fill.specs.Fills.{Lists, listing, listsOf, certsFrom, listed, Roomy}
 
 -- ── The records of certificates ─────────────────────────────────────────────────────────────────────────────────
 
@@ -79,20 +79,17 @@ module _ (b : List ℕ) (first many : ℕ) where
 
 -- ── A page's certificates ───────────────────────────────────────────────────────────────────────────────────────
 
-asked-nil : (a : Asked) (filled : ℕ) → asked a filled [] ≡ []
-unfolding asked cut
-asked-nil a filled = take-nil (a .room - filled)
-
 same-lists : {m n : ℕ} {us vs ks xs : List ℕ} → m ≡ n → us ≡ ks → vs ≡ xs → listing m us vs ≡ listing n ks xs
 same-lists p q r = cc
 
--- nothing changes where there are none
-pub listed-none : (a : Asked) (filled : ℕ) (ks xs : List ℕ) (certs : List Cert) → certs ≡ []
-    → listing filled ks xs ≡ listed (asked a filled certs) filled ks xs
-unfolding listed keys recordsOf
-listed-none a filled ks xs certs e =
-    rw (e, asked-nil a filled)
-    (same-lists (sym (add-zero filled)) (paste-zero ks filled []) (paste-zero xs filled []))
+-- nothing was found
+pub lists-none : (ks xs : List ℕ) → listing 0 ks xs ≡ listsOf ks xs []
+unfolding listsOf over keys recordsOf
+lists-none ks xs = refl
+
+pub lists-count : (ks xs : List ℕ) (found : List Cert) (filled : ℕ) (us vs : List ℕ) → listing filled us vs ≡ listsOf ks xs found → filled ≡ length found
+unfolding listsOf
+lists-count ks xs found filled us vs e = ap (λ (l : Lists). l .filled) e
 
 -- new ones behind those that stand over the start of a list stand over it with them
 paste-over : (found new old : List ℕ) → paste (over found old) (length found) new (length new) ≡ over (found ++ new) old
@@ -125,3 +122,6 @@ lists-more ks xs filled us vs found new e =
     second =
         stands-over (recordsOf found) (recordsOf new) xs vs filled (length new) (ap (λ (l : Lists). l .records) e) (count ∙ sym (length-records found)) (sym (length-records new))
         ∙ ap (λ (l : List ℕ). over l xs) (sym (records-append found new))
+
+pub roomy-kept : {a : Asked} {us vs ms ns : List ℕ} → Roomy a us vs → length ms ≡ length us → length ns ≡ length vs → Roomy a ms ns
+roomy-kept r p q = record { keys = omega (arith, r .keys, p); records = omega (arith, r .records, q) }

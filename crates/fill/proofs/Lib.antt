@@ -1,6 +1,7 @@
 pub mod Spots
 pub mod Copies
 pub mod Leaves
-pub mod Walks
-pub mod Steps
+pub mod Calms
+pub mod Climbing
+pub mod Fills
 pub mod Tight

@@ -1,17 +1,18 @@
--- The rules' walk over a range as the code keeps it: the certificates found stand in two lists, and how many there are.
+-- What was found as the code keeps it: two lists, and how many certificates stand in them.
 use Prim.Native.Nat.{ℕ, _+_, _-_, _*_, _≤_}
 use mathlib.Core.Path.{_≡_}
-use mathlib.Core.Bool.{true}
+use mathlib.Core.Bool.{true, false}
 use mathlib.Core.List.{List}
 use lib.ListN.{length, take, drop}
 use lib.Seq.{paste}
-use Rattle.rules.specs.Layout.{headerSize, certSize, leafRoom}
+use Rattle.rules.specs.Layout.{pageSize, mostPages, headerSize, certSize, leafRoom}
 use Rattle.rules.specs.Entry.{Cert, keys, cut, rising}
 use Rattle.rules.specs.Page.{readEach, certIn, over}
 use Rattle.rules.specs.Walk.{Walked}
 use Rattle.rules.specs.List.{recordsOf}
 use Rattle.rules.specs.declared.Asked.{Asked}
-use Rattle.sweep.specs.declared.Sofar.{Sofar}
+use Rattle.rules.specs.Table.{fit0}
+use Rattle.dry.specs.Walk.{marked, dryOver}
 
 -- ── What was found ──────────────────────────────────────────────────────────────────────────────────────────────
 
@@ -41,29 +42,20 @@ filledIn ks xs w = record { table = w .table; lists = listsOf ks xs (w .found) }
 
 -- ── What lies ahead ─────────────────────────────────────────────────────────────────────────────────────────────
 
--- what the code keeps is what some walk has filled in, and no damaged place lies ahead of it
-pub record Known (ahead : Walked → Walked) (x : Fill) : Type 0 where
-  pub keys : List ℕ
-  pub records : List ℕ
-  pub walked : Walked
-  pub is : x ≡ filledIn keys records walked
-  pub whole : ahead walked .whole ≡ true
-
--- where no damaged place lies ahead of a walk, it fills in what it finds there
-abbrev pub Fills : (Walked → Walked) → Fill → Fill → Type 0
-Fills ahead x y =
-    (ks xs : List ℕ) (w : Walked) → x ≡ filledIn ks xs w → ahead w .whole ≡ true → y ≡ filledIn ks xs (ahead w)
-
 -- both lists hold as many as there is room for
 pub record Roomy (a : Asked) (ks xs : List ℕ) : Type 0 where
   pub keys : a .room ≤ length ks
   pub records : a .room ≤ length xs
 
--- ── One page ────────────────────────────────────────────────────────────────────────────────────────────────────
+-- the walk ahead meets no damaged place and would mend nothing
+pub record Calm (n : ℕ) (a : Asked) (t : List ℕ) : Type 0 where
+  pub long : length t ≡ n * pageSize
+  pub most : n ≤ mostPages
+  pub fit : fit0 n t ≡ true
+  pub whole : dryOver n a t .whole ≡ true
+  pub still : (i : ℕ) → marked (dryOver n a t .mended) i ≡ false
 
--- what the tests of `sweep` look at: the walk is whole, and the last certificate plays no part in them
-abbrev pub sofar : ℕ → Sofar
-sofar filled = record { whole = true; count = filled; key = 0; value = 0 }
+-- ── One page ────────────────────────────────────────────────────────────────────────────────────────────────────
 
 -- so many certificates of a leaf, from one on
 unfoldable pub certsFrom : List ℕ → ℕ → ℕ → List Cert

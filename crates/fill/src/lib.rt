@@ -1,50 +1,30 @@
-// The walk over a range of keys that writes what it finds into two lent lists, as it goes.
+// What a list does with the leaves of its range, once it is known whether damage lies ahead: their certificates are
+// written into two lent lists, in key order, or the pages are only mended.
 //
 // `fill` leaves the table as the rules' `walkOf` leaves it. The certificates that the rules find stand in the lists from
-// the start on, their keys in one and their records in the other, and the places behind them stay. It is the walk of
-// `sweep`: which places are entered, and which places a page asks for, is told by functions and laws of that crate. The
-// one difference is what becomes of a leaf's certificates. `sweep` keeps the last of them, this walk writes them all.
-// The two lists go down with the walk, so it has a cycle of its own.
+// the start on, their keys in one and their records in the other, and the places behind them stay. It asks that no
+// damaged place lies ahead, which `dry` finds out before a place of the lists is written. `fill_known` does the same
+// where nothing is to be mended, over the steps of the dry walk, and `mend` goes as far as the damage and writes no list.
+// Each is one loop from leaf to leaf.
 //
-// It asks that no damaged place lies ahead, which `dry` finds out before a place of the lists is written. So whether the
-// walk is whole need not be carried along, nor is level 0 ever reached: all that goes down and comes back is one number,
-// how many certificates stand in the lists.
-//
-// Below stand `sweep`, `enter`, which enters one place, `seek`, which finds a key on a page, and `head`.
-use enter::Above;
-use enter::Entered;
+// Below stand `leaves` and `dry`, which step from leaf to leaf, `seek`, which finds a key on a page, and `head`.
+use dry::Step;
+use leaves::Stepped;
 use rules::Asked;
 use rules::CERT;
-use rules::LEAF;
-use rules::LEVELS;
+use rules::MOST;
 use rules::PAGE;
-use rules::Place;
-use sweep::Run;
-use sweep::Sofar;
 ghost use mathlib.Core.Path.{_≡_};
-ghost use mathlib.Core.Bool.{true};
+ghost use mathlib.Core.Bool.{true, false};
 ghost use Prim.Native.Nat.{min, _+_, _-_, _*_, _≤_};
 ghost use lib.ListN.{length};
-ghost use Rattle.rules.specs.Layout.{pageSize, headerSize, certSize, leafRoom};
+ghost use Rattle.rules.specs.Layout.{pageSize, headerSize, certSize, leafRoom, lastKey};
 ghost use Rattle.rules.specs.Entry.{rising};
 ghost use Rattle.rules.specs.Table.{pageAt, fit0};
-ghost use Rattle.rules.specs.Walk.{walk, walkEach, walkOf};
+ghost use Rattle.rules.specs.Walk.{walkOf};
 ghost use Rattle.entries.specs.Spot.{keysIn, spotOf, startOf};
-ghost use Rattle.sweep.specs.Sweeps.{entersBy, aboveAt, Deep, Ready, placesLeft, Lies};
-ghost use Rattle.fill.specs.Fills.{listing, filling, filledIn, Known, Fills, Roomy, sofar, certsFrom, listed, asked};
-
-// Whether a place is entered, told by `sweep`: no damaged place was met, and the last certificate plays no part in it.
-fn enters(a: Asked, e: Place, filled: usize) -> bool
-    ensures { λ r. ⌜ r ≡ entersBy a e (sofar filled) ⌝ }
-{
-    let seen = Sofar {
-        whole: true,
-        count: filled,
-        key: 0,
-        value: 0,
-    };
-    sweep::enters(a, e, seen)
-}
+ghost use Rattle.dry.specs.Walk.{dryOver};
+ghost use Rattle.fill.specs.Fills.{listing, listsOf, filling, filledIn, Roomy, Calm, certsFrom, listed, asked};
 
 // How many of a leaf's keys are not above one. As a rule that is none or all of them, so both ends are tried first.
 fn spot(page: &[u8], count: usize, key: u64) -> usize
@@ -152,74 +132,40 @@ fn fill_leaf_at(
     fill_leaf(&t[from..to], count, a, keys, records, filled)
 }
 
-// The page walk: a place is entered. The certificates of a leaf are written, and it has no entries; those of an inner
-// page are walked one level lower.
-fn walk_page(
-    t: &mut [u8],
-    n: usize,
-    c: u32,
-    level: usize,
-    a: Asked,
-    above: Above,
-    e: Place,
-    keys: &mut [u64],
-    records: &mut [u32],
-    filled: usize,
-) -> usize
-    requires { ⌜ (length (now t) ≡ n * pageSize) × Deep level above × Ready n c e × Roomy a (now keys) (now records)
-        × Known (walk level n c a (aboveAt level above) e) (filling (now t) filled (now keys) (now records)) ⌝ }
-    ensures { λ r. ⌜ Fills (walk level n c a (aboveAt level above) e)
-        (filling (now (t .entry)) filled (now (keys .entry)) (now (records .entry)))
-        (filling (now (t .exit)) r (now (keys .exit)) (now (records .exit))) ⌝ }
+// Where it is known that the walk would mend nothing: the table stays as it lies and every page ahead fits its place, so
+// none is tested again.
+pub fn fill_known(t: &[u8], n: usize, a: Asked, keys: &mut [u64], records: &mut [u32]) -> usize
+    requires { ⌜ Calm n a (now t) × Roomy a (now keys) (now records) ⌝ }
+    ensures { λ r. ⌜ listing r (now (keys .exit)) (now (records .exit))
+        ≡ listsOf (now (keys .entry)) (now (records .entry)) (dryOver n a (now (t .entry)) .found) ⌝ }
 {
-    if !enters(a, e, filled) {
-        return filled;
+    let mut c = dry::at_root();
+    let mut filled = 0;
+    let mut mended = [false; MOST];
+    while filled < a.room {
+        let s = dry::next(t, n, a, c, true, &mut mended);
+        match s {
+            Step::On(way) => {
+                c = way;
+            }
+            Step::Leaf(leaf) => {
+                let page = leaf.page as usize;
+                let head = head::head_at(t, page);
+                filled = fill_leaf_at(t, page, head.count as usize, a, keys, records, filled);
+                c = leaf.after;
+            }
+            Step::End => {
+                return filled;
+            }
+            Step::Damaged => {
+                return filled;
+            }
+        }
     }
-    let Entered::Page(head) = enter::enter(t, n, c, above, e) else {
-        return filled;
-    };
-    let page = e.child as usize;
-    if head.kind == LEAF {
-        return fill_leaf_at(t, page, head.count as usize, a, keys, records, filled);
-    }
-    let below = Above {
-        parent: e.child,
-        top: above.parent,
-    };
-    let run = sweep::run_of(e, head);
-    walk_entries(t, n, c, level - 1, a, below, run, keys, records, filled)
+    filled
 }
 
-// The entry walk: the first entry's page, then the entries behind it.
-fn walk_entries(
-    t: &mut [u8],
-    n: usize,
-    c: u32,
-    level: usize,
-    a: Asked,
-    above: Above,
-    run: Run,
-    keys: &mut [u64],
-    records: &mut [u32],
-    filled: usize,
-) -> usize
-    requires { ⌜ (length (now t) ≡ n * pageSize) × Deep level above × (level ≤ 2) × Lies n c (now t) (above .parent) run
-        × Roomy a (now keys) (now records)
-        × Known (walkEach (walk level n c a (aboveAt level above)) (placesLeft (now t) (above .parent) run)) (filling (now t) filled (now keys) (now records)) ⌝ }
-    ensures { λ r. ⌜ Fills (walkEach (walk level n c a (aboveAt level above)) (placesLeft (now (t .entry)) (above .parent) run))
-        (filling (now (t .entry)) filled (now (keys .entry)) (now (records .entry)))
-        (filling (now (t .exit)) r (now (keys .exit)) (now (records .exit))) ⌝ }
-{
-    if run.left == 0 {
-        return filled;
-    }
-    let e = sweep::first_of(t, above.parent as usize, run);
-    let more = walk_page(t, n, c, level, a, above, e, keys, records, filled);
-    let rest = sweep::rest_of(run);
-    walk_entries(t, n, c, level, a, above, rest, keys, records, more)
-}
-
-// The whole walk, from the root on.
+// Mending on the way, where no damaged place lies ahead.
 pub fn fill(
     t: &mut [u8],
     n: usize,
@@ -228,12 +174,50 @@ pub fn fill(
     keys: &mut [u64],
     records: &mut [u32],
 ) -> usize
-    requires { ⌜ (length (now t) ≡ n * pageSize) × (fit0 n (now t) ≡ true) × Roomy a (now keys) (now records)
-        × (walkOf n c a (now t) .whole ≡ true) ⌝ }
+    requires { ⌜ (length (now t) ≡ n * pageSize) × (fit0 n (now t) ≡ true) × (a .low ≤ a .high) × (a .high ≤ lastKey)
+        × Roomy a (now keys) (now records) × (walkOf n c a (now t) .whole ≡ true) ⌝ }
     ensures { λ r. ⌜ filling (now (t .exit)) r (now (keys .exit)) (now (records .exit))
         ≡ filledIn (now (keys .entry)) (now (records .entry)) (walkOf n c a (now (t .entry))) ⌝ }
 {
-    let above = Above { parent: 0, top: 0 };
-    let root = head::root_place(t);
-    walk_page(t, n, c, LEVELS, a, above, root, keys, records, 0)
+    let mut key = a.low;
+    let mut cursor = leaves::start();
+    let mut filled = 0;
+    while filled < a.room {
+        let Stepped::Leaf(leaf) = leaves::next(t, n, c, key, key, cursor) else {
+            return filled;
+        };
+        let page = leaf.child as usize;
+        let asked = Asked {
+            low: key,
+            high: a.high,
+            room: a.room,
+        };
+        filled = fill_leaf_at(t, page, leaf.count as usize, asked, keys, records, filled);
+        if leaf.high >= a.high {
+            return filled;
+        }
+        key = leaf.high + 1;
+        cursor = leaf.behind;
+    }
+    filled
+}
+
+// The walk that only mends, up to the damaged place that lies ahead. So there is room to the end, and nothing is counted.
+pub fn mend(t: &mut [u8], n: usize, c: u32, a: Asked)
+    requires { ⌜ (length (now t) ≡ n * pageSize) × (fit0 n (now t) ≡ true) × (a .low ≤ a .high) × (a .high ≤ lastKey)
+        × (walkOf n c a (now t) .whole ≡ false) ⌝ }
+    ensures { λ r. ⌜ now (t .exit) ≡ walkOf n c a (now (t .entry)) .table ⌝ }
+{
+    let mut key = a.low;
+    let mut cursor = leaves::start();
+    while key <= a.high {
+        let Stepped::Leaf(leaf) = leaves::next(t, n, c, key, key, cursor) else {
+            return;
+        };
+        if leaf.high >= a.high {
+            return;
+        }
+        key = leaf.high + 1;
+        cursor = leaf.behind;
+    }
 }

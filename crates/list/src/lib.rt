@@ -3,10 +3,10 @@
 // `list` asks nothing and tests everything, in document 01's order: lengths, page 0, then the walk. Answer, session,
 // every byte lent and both lists are those of the rules' `list`. A refused list changes neither list, and what was found
 // cannot be kept elsewhere, so damage is known before the first place is written: the dry walk goes first. Where it is
-// whole the filling walk follows. Where it is not, the walk that only mends does, up to the damage, since mends made
-// before a refusal stand.
+// whole the lists are filled, without another test of any page if nothing is to be mended. Where it is not, the pages are
+// only mended, up to the damage, since mends made before a refusal stand.
 //
-// Below stand `tables`, which tests lengths, `dry`, `sweep` and `fill`, the three walks.
+// Below stand `tables`, which tests lengths, `dry`, the dry walk, and `fill`, which fills and mends.
 use rules::Asked;
 use rules::LAST_KEY;
 use rules::Listed;
@@ -14,7 +14,7 @@ use rules::Listing;
 use rules::Session;
 ghost use mathlib.Core.Path.{_≡_};
 ghost use mathlib.Core.Bool.{true};
-ghost use Prim.Native.Nat.{ℕ, min, _*_, _^_, _≤_, _<_};
+ghost use Prim.Native.Nat.{min, _*_, _≤_};
 ghost use lib.ListN.{length};
 ghost use Rattle.rules.specs.Layout.{pageSize, mostPages, lastKey};
 ghost use Rattle.rules.specs.Table.{fit0};
@@ -41,24 +41,21 @@ fn up_from(start: u64, keys: usize, records: usize) -> Asked
     }
 }
 
-// Whether the walk will meet no damaged place, known before a byte is written.
-fn whole_ahead(t: &[u8], n: usize, a: Asked) -> bool
-    requires { ⌜ (length (now t) ≡ n * pageSize) × (n ≤ mostPages) × (fit0 n (now t) ≡ true) ⌝ }
-    ensures { λ r. ⌜ ((c : ℕ) → c < 256 ^ 4 → r ≡ walkOf n c a (now (t .entry)) .whole) ⌝ }
-{
-    let ahead = dry::dry_of(t, n, a);
-    ahead.whole
-}
-
-// The certificates of a range.
+// The certificates of a range. What lies ahead is known before a byte is written.
 fn look(t: &mut [u8], n: usize, c: u32, a: Asked, keys: &mut [u64], records: &mut [u32]) -> Listed
-    requires { ⌜ (length (now t) ≡ n * pageSize) × (n ≤ mostPages) × (fit0 n (now t) ≡ true) × Roomy a (now keys) (now records) ⌝ }
+    requires { ⌜ (length (now t) ≡ n * pageSize) × (n ≤ mostPages) × (fit0 n (now t) ≡ true) × (a .low ≤ a .high) × (a .high ≤ lastKey)
+        × Roomy a (now keys) (now records) ⌝ }
     ensures { λ r. ⌜ telling (now (t .exit)) r (now (keys .exit)) (now (records .exit))
         ≡ told (now (keys .entry)) (now (records .entry)) (walkOf n c a (now (t .entry))) ⌝ }
 {
-    if !whole_ahead(t, n, a) {
-        sweep::sweep(t, n, c, a);
+    let ahead = dry::dry_of(t, n, a);
+    if !ahead.whole {
+        fill::mend(t, n, c, a);
         return Listed::Damaged;
+    }
+    if dry::mends_nothing(ahead) {
+        let known = fill::fill_known(t, n, a, keys, records);
+        return Listed::Filled(known);
     }
     let filled = fill::fill(t, n, c, a, keys, records);
     Listed::Filled(filled)

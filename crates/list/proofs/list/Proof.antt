@@ -64,7 +64,10 @@ look-requires c κs =
     let zero = sym (fit0 .ensures) ∙ not-false (fit0 .result) (if2 .left) in
     let sizes = lengthsFor-true (args .session) (args .working .now) (args .stable .now) lengths in
     let room = ap (λ (a : Asked). a .room) (up-from .ensures) in
-    (sizes .working, sizes .most, zero, roomy (up-from .result) (args .keys .now) (args .records .now) room)
+    let low = ap (λ (a : Asked). a .low) (up-from .ensures) in
+    let high = ap (λ (a : Asked). a .high) (up-from .ensures) in
+    let fits = c .before .before .before .before .before .before .before .before .before .before .before .before .before .before .before .fits in
+    (sizes .working, sizes .most, zero, omega (arith, low, high, fits .start), omega (arith, high), roomy (up-from .result) (args .keys .now) (args .records .now) room)
 
 same-length-3 : tie.Need-same-length-3
 same-length-3 c = search needs

@@ -1,43 +1,52 @@
--- `list::look`: what lies ahead tells which of the two walks is right.
--- Assumes nothing.
+-- `list::look`: what lies ahead tells which of the three loops is right. Assumes nothing.
 use mathlib.Core.Path.{sym, _∙_}
 use borrow.Author.Tests.{not-true, not-false}
 use Rattle.rules.specs.Walk.{walkOf}
-use Rattle.list.proofs.Tells.{tell-damaged, tell-filled}
+use Rattle.list.proofs.Tells.{known-ahead, calm-ahead, tell-calm, tell-damaged, tell-filled}
 use native.Mathlib.Omega.{arith}
 use borrow.Author.Needs.{needs}
 use Rattle.list.proofs.look.Statement.{statement}
 use Rattle.list.proofs.look.Tie as tie
 
-whole-ahead-requires : tie.Need-whole-ahead-requires
-whole-ahead-requires c κs = search needs
+dry-of-requires : tie.Need-dry-of-requires
+dry-of-requires c κs = search needs
 
-sweep-requires : tie.Need-sweep-requires
-sweep-requires c κs = search needs
+mend-requires : tie.Need-mend-requires
+mend-requires c κs =
+    let args = c .before .before .before .before .before .before .before .before .args in
+    let pre = c .before .before .before .before .before .before .before .before .pre in
+    let fits = c .before .before .before .before .before .before .before .before .fits in
+    let slice-known = c .before .before .before .before .before .before .before .slice-known in
+    let dry-of = c .before .before .before .dry-of in
+    let whole = known-ahead (args .n) (args .a) (args .t .now) (pre .2) (pre .0) (pre .1) (dry-of .result) (dry-of .ensures) (args .c) (slice-known .given) (omega (arith, fits .c)) in
+    (pre .0, pre .2, pre .3, pre .4, sym whole ∙ not-true (dry-of .result .whole) (c .before .if1 .taken))
 
 same-length : tie.Need-same-length
 same-length c = search needs
 
 returns : tie.Need-returns
 returns c =
-    let fits = c .before .before .before .before .before .before .before .before .before .before .fits in
+    let args = c .before .before .before .before .before .before .before .before .before .before .before .args in
+    let pre = c .before .before .before .before .before .before .before .before .before .before .before .pre in
+    let fits = c .before .before .before .before .before .before .before .before .before .before .before .fits in
+    let slice-known = c .before .before .before .before .before .before .before .before .before .before .slice-known in
+    let dry-of = c .before .before .before .before .before .before .dry-of in
     let if1 = c .before .before .before .before .if1 in
-    let sweep = c .before .before .sweep in
-    let args = c .before .before .before .before .before .before .before .before .before .before .args in
-    let ahead = c .before .before .before .before .before .whole-ahead in
-    let damaged = sym (ahead .ensures (args .c) (omega (arith, fits .c))) ∙ not-true (ahead .result) (if1 .taken) in
-    tell-damaged (args .keys .now) (args .records .now) (walkOf (args .n) (args .c) (args .a) (args .t .now)) damaged
-    (sweep .last .0) (sweep .result) (sweep .ensures)
+    let mend = c .before .before .mend in
+    let whole = known-ahead (args .n) (args .a) (args .t .now) (pre .2) (pre .0) (pre .1) (dry-of .result) (dry-of .ensures) (args .c) (slice-known .given) (omega (arith, fits .c)) in
+    tell-damaged (args .keys .now) (args .records .now) (walkOf (args .n) (args .c) (args .a) (args .t .now)) (sym whole ∙ not-true (dry-of .result .whole) (if1 .taken)) (mend .last .0) (mend .ensures)
 
-fill-requires : tie.Need-fill-requires
-fill-requires c κs =
-    let fits = c .before .before .before .before .before .before .before .before .before .fits in
-    let whole-ahead = c .before .before .before .before .whole-ahead in
-    let args = c .before .before .before .before .before .before .before .before .before .args in
-    let pre = c .before .before .before .before .before .before .before .before .before .pre in
-    let whole = sym (whole-ahead .ensures (args .c) (omega (arith, fits .c)))
-    ∙ not-false (whole-ahead .result) (c .before .before .before .if1 .left) in
-    (pre .0, pre .2, pre .3, whole)
+mends-nothing-requires : tie.Need-mends-nothing-requires
+mends-nothing-requires c κs = search needs
+
+fill-known-requires : tie.Need-fill-known-requires
+fill-known-requires c κs =
+    let args = c .before .before .before .before .before .before .before .before .before .before .before .before .args in
+    let pre = c .before .before .before .before .before .before .before .before .before .before .before .before .pre in
+    let dry-of = c .before .before .before .before .before .before .before .dry-of in
+    let if1 = c .before .before .before .before .before .if1 in
+    let mends-nothing = c .before .before .before .before .mends-nothing in
+    (calm-ahead (args .n) (args .a) (args .t .now) (pre .2) (pre .0) (pre .1) (dry-of .result) (dry-of .ensures) (not-false (dry-of .result .whole) (if1 .left)) (sym (mends-nothing .ensures) ∙ c .before .before .before .if2 .taken), pre .5)
 
 same-length-2 : tie.Need-same-length-2
 same-length-2 c = search needs
@@ -50,26 +59,65 @@ same-length-4 c = search needs
 
 returns-2 : tie.Need-returns-2
 returns-2 c =
-    let fits = c .before .before .before .before .before .before .before .before .before .before .before .before .before .before .before .before .fits in
+    let args = c .before .before .before .before .before .before .before .before .before .before .before .before .before .before .before .before .before .args in
+    let pre = c .before .before .before .before .before .before .before .before .before .before .before .before .before .before .before .before .before .pre in
+    let fits = c .before .before .before .before .before .before .before .before .before .before .before .before .before .before .before .before .before .fits in
+    let slice-known = c .before .before .before .before .before .before .before .before .before .before .before .before .before .before .before .before .slice-known in
+    let dry-of = c .before .before .before .before .before .before .before .before .before .before .before .before .dry-of in
     let if1 = c .before .before .before .before .before .before .before .before .before .before .if1 in
-    let args = c .before .before .before .before .before .before .before .before .before .before .before .before .before .before .before .before .args in
-    let ahead = c .before .before .before .before .before .before .before .before .before .before .before .whole-ahead in
-    let whole = sym (ahead .ensures (args .c) (omega (arith, fits .c))) ∙ not-false (ahead .result) (if1 .left) in
-    let filled = c .before .before .before .before .before .before .fill in
-    tell-filled (args .keys .now) (args .records .now) (walkOf (args .n) (args .c) (args .a) (args .t .now)) whole
-    (filled .last .0) (filled .result) (filled .last .1 .1 .1 .1 .0) (filled .last .1 .1 .1 .1 .1 .0)
-    (filled .ensures)
+    let mends-nothing = c .before .before .before .before .before .before .before .before .before .mends-nothing in
+    let if2 = c .before .before .before .before .before .before .before .before .if2 in
+    let fill-known = c .before .before .before .before .fill-known in
+    tell-calm (args .n) (args .a) (args .t .now) (pre .2) (pre .0) (pre .1) (dry-of .result) (dry-of .ensures) (not-false (dry-of .result .whole) (if1 .left)) (sym (mends-nothing .ensures) ∙ if2 .taken) (args .c) (slice-known .given) (omega (arith, fits .c)) (args .keys .now) (args .records .now) (fill-known .result) (fill-known .last .1 .1 .1 .0) (fill-known .last .1 .1 .1 .1 .0) (fill-known .ensures)
+
+fill-requires : tie.Need-fill-requires
+fill-requires c κs =
+    let args = c .before .before .before .before .before .before .before .before .before .before .before .before .args in
+    let pre = c .before .before .before .before .before .before .before .before .before .before .before .before .pre in
+    let fits = c .before .before .before .before .before .before .before .before .before .before .before .before .fits in
+    let slice-known = c .before .before .before .before .before .before .before .before .before .before .before .slice-known in
+    let dry-of = c .before .before .before .before .before .before .before .dry-of in
+    let if1 = c .before .before .before .before .before .if1 in
+    let whole = known-ahead (args .n) (args .a) (args .t .now) (pre .2) (pre .0) (pre .1) (dry-of .result) (dry-of .ensures) (args .c) (slice-known .given) (omega (arith, fits .c)) in
+    (pre .0, pre .2, pre .3, pre .4, pre .5, sym whole ∙ not-false (dry-of .result .whole) (if1 .left))
+
+same-length-5 : tie.Need-same-length-5
+same-length-5 c = search needs
+
+same-length-6 : tie.Need-same-length-6
+same-length-6 c = search needs
+
+same-length-7 : tie.Need-same-length-7
+same-length-7 c = search needs
+
+returns-3 : tie.Need-returns-3
+returns-3 c =
+    let args = c .before .before .before .before .before .before .before .before .before .before .before .before .before .before .before .before .before .before .before .args in
+    let pre = c .before .before .before .before .before .before .before .before .before .before .before .before .before .before .before .before .before .before .before .pre in
+    let fits = c .before .before .before .before .before .before .before .before .before .before .before .before .before .before .before .before .before .before .before .fits in
+    let slice-known = c .before .before .before .before .before .before .before .before .before .before .before .before .before .before .before .before .before .before .slice-known in
+    let dry-of = c .before .before .before .before .before .before .before .before .before .before .before .before .before .before .dry-of in
+    let if1 = c .before .before .before .before .before .before .before .before .before .before .before .before .if1 in
+    let fill = c .before .before .before .before .before .before .fill in
+    let whole = known-ahead (args .n) (args .a) (args .t .now) (pre .2) (pre .0) (pre .1) (dry-of .result) (dry-of .ensures) (args .c) (slice-known .given) (omega (arith, fits .c)) in
+    tell-filled (args .keys .now) (args .records .now) (walkOf (args .n) (args .c) (args .a) (args .t .now)) (sym whole ∙ not-false (dry-of .result .whole) (if1 .left)) (fill .last .0) (fill .result) (fill .last .1 .1 .1 .1 .0) (fill .last .1 .1 .1 .1 .1 .0) (fill .ensures)
 
 pub look-spec : {M : Type 1} → statement M
 look-spec =
     tie.close
     (tie.spec
-    whole-ahead-requires
-    sweep-requires
+    dry-of-requires
+    mend-requires
     same-length
     returns
-    fill-requires
+    mends-nothing-requires
+    fill-known-requires
     same-length-2
     same-length-3
     same-length-4
-    returns-2)
+    returns-2
+    fill-requires
+    same-length-5
+    same-length-6
+    same-length-7
+    returns-3)
