@@ -81,6 +81,7 @@ extern "C" {
 #define KH_PAGE_BYTES 512 /* bytes of a page */
 #define KH_PAGES_LEAST 4  /* pages of a table */
 #define KH_PAGES_MOST 128
+#define KH_LAST_FINAL 32767 /* the last issue that is not provisional */
 #define KH_LAST_NUMBER 4294967293u /* the last number that opens; it starts at 2, openings and syncs add 1 each */
 #define KH_SESSION_BYTES 264       /* sizeof(KhSession); grows with the fields of later versions */
 
@@ -212,7 +213,8 @@ KH_KEEP KhAnswered kh_insert(uint8_t *working, size_t working_len, const uint8_t
 KH_KEEP KhLooked kh_lookup(uint8_t *working, size_t working_len, const uint8_t *stable, size_t stable_len,
                            KhSession session, uint16_t model, uint32_t serial, uint16_t issue);
 
-/* The largest issue of a meter, and its record. Answers 0, 1, 2, 3, 4. */
+/* The largest issue of a meter from 1 to KH_LAST_FINAL, and its record. Issues above are provisional: a meter with
+ * those only has none here, though look-ups and lists show them. Answers 0, 1, 2, 3, 4. */
 KH_KEEP KhNewest kh_newest(uint8_t *working, size_t working_len, const uint8_t *stable, size_t stable_len,
                            KhSession session, uint16_t model, uint32_t serial);
 

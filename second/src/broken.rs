@@ -1,6 +1,6 @@
 //! Rules that a run may break, one at a time, to see that the checks notice.
 
-/// A rule of document 01 on which demand 3 rests.
+/// A rule of document 01 on which demand 3 rests, or one of document 02.
 #[derive(Clone, Copy, PartialEq, Eq, Debug)]
 pub enum Rule {
     /// A child fits only with the birth that its parent names.
@@ -31,8 +31,12 @@ pub enum Rule {
     MendBuilt,
     /// Mending sets touched.
     MendTouched,
+
+    /// Newest ends with issue 32,767.
+    FinalIssues,
 }
 
+/// Those on which demand 3 rests.
 pub const RULES: [Rule; 14] = [
     Rule::BirthsCompared,
     Rule::OpenRaises,
@@ -49,6 +53,9 @@ pub const RULES: [Rule; 14] = [
     Rule::MendBuilt,
     Rule::MendTouched,
 ];
+
+/// Those that came with document 02.
+pub const LATER: [Rule; 1] = [Rule::FinalIssues];
 
 /// Whether this run breaks the rule.
 #[cfg(not(feature = "broken"))]

@@ -1,4 +1,4 @@
-//! Every number of document 01, named once.
+//! Every number of document 01 and of the requests of document 02, named once.
 
 /// Bytes of a page.
 pub const PAGE: usize = 512;
@@ -80,6 +80,9 @@ pub const FIRST_BIRTH: u32 = 1;
 pub const FIRST_ROOT: u16 = 1;
 /// The last number that opens, and the last counter that syncs.
 pub const LAST_NUMBER: u32 = 4_294_967_293;
+
+/// The last issue that newest asks for: those above are provisional.
+pub const LAST_FINAL: u16 = 32_767;
 
 /// Pages of the bench program's tables.
 pub const BENCH_PAGES: usize = 5;

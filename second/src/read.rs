@@ -1,7 +1,9 @@
 //! Lookup, newest and list.
 
 use crate::answer::{DAMAGED, DONE, NONE};
-use crate::key::{key, parts, whole};
+use crate::broken::{broken, Rule};
+use crate::key::{issues, key, parts, whole};
+use crate::layout::LAST_FINAL;
 use crate::page::{self, LeafEntry};
 use crate::session::Session;
 use crate::walk::{begin, descend, Visit};
@@ -72,11 +74,13 @@ pub fn newest(
     if answer != DONE {
         return refused(answer);
     }
+    // Issues above are provisional: their pages are not entered.
+    let end = LAST_FINAL + u16::from(broken(Rule::FinalIssues));
     let mut last: Option<LeafEntry> = None;
     let walked = Visit {
         working,
         session: &session,
-        asked: key(model, serial, 1)..=key(model, serial, u16::MAX),
+        asked: issues(model, serial, end),
         room: usize::MAX,
         seen: |entry| last = Some(entry),
     }

@@ -1,7 +1,7 @@
-//! Each rule that demand 3 rests on, broken alone, is noticed.
+//! Each rule that demand 3 rests on, and each that came with document 02, broken alone, is noticed.
 #![cfg(feature = "broken")]
 
-use second::broken::{break_rule, Rule, RULES};
+use second::broken::{break_rule, Rule, LATER, RULES};
 use second::histories::{run, Counters, Failure, Watch};
 use std::time::Duration;
 
@@ -25,7 +25,7 @@ fn noticed(rule: Rule, watch: Watch) -> Option<Failure> {
 
 #[test]
 fn each_is_noticed() {
-    for rule in RULES {
+    for rule in RULES.into_iter().chain(LATER) {
         assert!(
             noticed(rule, Watch::Invariants).is_some(),
             "{rule:?} goes unnoticed"

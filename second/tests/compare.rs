@@ -21,11 +21,11 @@ fn a_change_in_one_store_is_told_of() {
 ))]
 #[test]
 fn each_broken_rule_is_told_of() {
-    use second::broken::{break_rule, RULES};
+    use second::broken::{break_rule, LATER, RULES};
     use second::compare::{run, Counters};
     use std::time::{Duration, Instant};
 
-    for rule in RULES {
+    for rule in RULES.into_iter().chain(LATER) {
         break_rule(Some(rule));
         let start = Instant::now();
         let told = run(1, Duration::from_secs(60), &mut Counters::default());

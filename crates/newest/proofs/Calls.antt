@@ -6,7 +6,7 @@ use Prim.Native.Nat.{ℕ, _+_, _≤_, _<_}
 use native.Mathlib.Omega.{arith}
 use lib.Dec.{ltb}
 use borrow.Author.Tests.{lt-ltb, le-ltb}
-use Rattle.rules.specs.Layout.{lastKey}
+use Rattle.rules.specs.Layout.{lastKey, lastFinal}
 use Rattle.rules.specs.Key.{keyOf}
 use Rattle.rules.specs.Table.{fit0}
 use Rattle.rules.specs.Walk.{walkOf}
@@ -23,7 +23,7 @@ left s w t answer = record { answer = answer; session = s; working = w; stable =
 
 -- ── The keys of a meter ─────────────────────────────────────────────────────────────────────────────────────────
 
-module _ (model serial low high : ℕ) (f : low ≡ keyOf model serial 1) (g : high ≡ keyOf model serial 65535) where
+module _ (model serial low high : ℕ) (f : low ≡ keyOf model serial 1) (g : high ≡ keyOf model serial lastFinal) where
   pub meter-range : range low high ≡ rules.meter model serial
   unfolding rules.meter
   meter-range = rw (f, g)

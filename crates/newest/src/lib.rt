@@ -1,4 +1,4 @@
-// Newest: the largest issue of a meter, and its record.
+// Newest: the largest issue of a meter that is not provisional, and its record.
 //
 // `newest` asks nothing and tests everything, in document 01's order: lengths, model and serial, page 0, then every leaf
 // that can hold a certificate of the meter. Answer, session and every byte lent are those of the rules' `newest`; what was
@@ -10,6 +10,7 @@
 //
 // Below stand `tables`, which tests lengths, `keys`, and `leaves`, which steps from leaf to leaf.
 use leaves::Stepped;
+use rules::LAST_FINAL;
 use rules::Newest;
 use rules::NewestOf;
 use rules::PAGE;
@@ -111,7 +112,7 @@ pub fn newest(
         };
     }
     let low = keys::key_of(model, serial, 1);
-    let high = keys::key_of(model, serial, 65535);
+    let high = keys::key_of(model, serial, LAST_FINAL);
     let answer = look(working, n, session.c, low, high);
     NewestOf { answer, session }
 }

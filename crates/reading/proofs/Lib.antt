@@ -35,6 +35,7 @@ pub mod Largest
 -- Lookup, newest and list
 pub mod Empty
 pub mod Agrees
+pub mod Provisionals
 pub mod HistoriesAgree
 pub mod Puts
 -- Opening, as the table stands and by entering

@@ -4,5 +4,6 @@ pub mod Leaving
 pub mod Building
 pub mod Inserting
 pub mod Agreeing
+pub mod Provisional
 pub mod Entering
 pub mod ByEntering

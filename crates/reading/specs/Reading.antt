@@ -21,7 +21,7 @@ use Rattle.rules.specs.declared.Newest.{Newest}
 use Rattle.rules.specs.declared.Listed.{Listed}
 use Rattle.answers.specs.Range.{Parent, numbersOf, Comes}
 
--- the last issue that newest asks for, where the range of every meter ends: 65,535
+-- the last issue that newest asks for, where the range of every meter ends: 32,767
 unfoldable pub lastIssue : ℕ
 lastIssue = issueOf (meter 1 1 .high)
 

@@ -9,7 +9,7 @@ use mathlib.Core.Option.{Option, some, none}
 use lib.ListN.{length, replicate}
 use lib.Dec.{leb}
 use Rattle.fields.specs.Field.{Bytes}
-use Rattle.rules.specs.Layout.{pageSize, fewestPages, mostPages, lastKey, lastNumber}
+use Rattle.rules.specs.Layout.{pageSize, fewestPages, mostPages, lastKey, lastNumber, lastFinal}
 use Rattle.rules.specs.Test.{mem}
 use Rattle.rules.specs.Key.{keyOf, goodKey}
 use Rattle.rules.specs.Entry.{Cert, keys, find, rising}
@@ -80,11 +80,11 @@ pub record ListTells (state : ℕ → Option ℕ) (from : ℕ) (ks xs : List ℕ
       → (find k entries ≡ some x)
       ⊎ ((length entries ≡ min (length ks) (length xs)) × ((j : ℕ) → mem j (keys entries) ≡ true → j < k))
 
--- newest shows the largest issue of a meter that has a record now, with it, or that none has
+-- newest shows the largest issue of a meter that is not provisional and has a record now, with it, or that none has
 pub data NewestTells (state : ℕ → Option ℕ) (model serial : ℕ) (answer : Newest) : Type 0 where
-  largest : (issue x : ℕ) → answer ≡ Newest.Found issue x → 1 ≤ issue → issue < 65536 → state (keyOf model serial issue) ≡ some x
-      → ((j : ℕ) → issue < j → j < 65536 → state (keyOf model serial j) ≡ none) → NewestTells state model serial answer
-  missing : answer ≡ Newest.Missing → ((j : ℕ) → 1 ≤ j → j < 65536 → state (keyOf model serial j) ≡ none)
+  largest : (issue x : ℕ) → answer ≡ Newest.Found issue x → 1 ≤ issue → issue ≤ lastFinal → state (keyOf model serial issue) ≡ some x
+      → ((j : ℕ) → issue < j → j ≤ lastFinal → state (keyOf model serial j) ≡ none) → NewestTells state model serial answer
+  missing : answer ≡ Newest.Missing → ((j : ℕ) → 1 ≤ j → j ≤ lastFinal → state (keyOf model serial j) ≡ none)
       → NewestTells state model serial answer
 
 -- done, or spent exactly where the number is too high

@@ -49,6 +49,10 @@ topKind = 3
 abbrev pub lastKey : ℕ
 lastKey = 18446744073709551615
 
+-- the largest issue of a certificate that is not provisional
+abbrev pub lastFinal : ℕ
+lastFinal = 32767
+
 -- the largest number that opens, and the largest counter that syncs
 abbrev pub lastNumber : ℕ
 lastNumber = 4294967293

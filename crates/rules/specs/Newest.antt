@@ -3,7 +3,7 @@ use Prim.Native.Nat.{ℕ}
 use mathlib.Core.Bool.{true, false, _&&_}
 use mathlib.Core.List.{List, [], _∷_}
 use lib.Dec.{ltb}
-use Rattle.rules.specs.Layout.{lastKey}
+use Rattle.rules.specs.Layout.{lastKey, lastFinal}
 use Rattle.rules.specs.Key.{keyOf, issueOf}
 use Rattle.rules.specs.Entry.{Cert}
 use Rattle.rules.specs.Table.{fit0}
@@ -13,9 +13,10 @@ use Rattle.rules.specs.declared.Session.{Session}
 use Rattle.rules.specs.declared.Newest.{Newest}
 use Rattle.rules.specs.declared.Asked.{Asked}
 
--- the asked range: issues 1 to 65,535 of one meter, with room for all of them
+-- the asked range: issues 1 to 32,767 of one meter, with room for all of them. Those above are provisional: a provisional
+-- curve must never be applied in the field
 unfoldable pub meter : ℕ → ℕ → Asked
-meter model serial = record { low = keyOf model serial 1; high = keyOf model serial 65535; room = lastKey }
+meter model serial = record { low = keyOf model serial 1; high = keyOf model serial lastFinal; room = lastKey }
 
 -- the last of the certificates found, which rise
 unfoldable pub newestIn : List Cert → Newest

@@ -88,6 +88,9 @@ pub const SERIAL: u64 = 65536;
 
 pub const LAST_KEY: u64 = 18446744073709551615;
 
+// The largest issue of a certificate that is not provisional.
+pub const LAST_FINAL: u16 = 32767;
+
 // The largest number that opens, and the largest counter that syncs.
 pub const LAST_NUMBER: u32 = 4294967293;
 

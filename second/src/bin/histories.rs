@@ -10,8 +10,9 @@ const USAGE: &str = "usage: histories SEED|fresh SECONDS [demand] [RULE to break
 /// Breaks the rule of this name.
 #[cfg(feature = "broken")]
 fn break_rule(name: &str) -> bool {
-    use second::broken::{break_rule, RULES};
-    let rule = RULES.into_iter().find(|rule| format!("{rule:?}") == name);
+    use second::broken::{break_rule, LATER, RULES};
+    let mut rules = RULES.into_iter().chain(LATER);
+    let rule = rules.find(|rule| format!("{rule:?}") == name);
     break_rule(rule);
     rule.is_some()
 }

@@ -6,23 +6,27 @@ pub mod tables;
 
 use crate::answer::{ANSWERS, WORDS};
 use crate::key::{key, parts};
-use crate::layout::{KIND_LEAF, PAGE};
+use crate::layout::{INNER_CAP, KIND_LEAF, PAGE};
 use crate::page;
 use crate::rng::Rng;
 use crate::store::Store;
+use crate::tree::Tree;
+use crate::walk::{pages, zero_fits};
 use promises::Kept;
 use std::collections::BTreeMap;
 use std::fmt;
 use std::panic::{catch_unwind, AssertUnwindSafe};
 use std::time::{Duration, Instant};
 
-const NAMED: [&str; 6] = [
+const NAMED: [&str; 8] = [
     "tables",
     "calls",
     "mended leaves",
     "mended kind 2",
     "mended kind 3",
     "openings refused for their names alone",
+    "newest that leaves a lost page of its meter",
+    "newest that leaves a damaged page of its meter",
 ];
 
 /// What a run has met.
@@ -48,6 +52,12 @@ impl Counters {
             .0
             .get_mut(&("all", name))
             .expect("a counter by that name") += 1;
+    }
+
+    fn add_if(&mut self, holds: bool, name: &'static str) {
+        if holds {
+            self.add(name);
+        }
     }
 
     /// Counts an answer; one that the call can't give is an error of the call.
@@ -117,10 +127,7 @@ fn try_call(store: &mut Store, rng: &Rng, counters: &mut Counters) -> Kept {
         }
         4 => promises::sync(store, counters),
         5..=8 => promises::lookup(store, key, counters),
-        9..=10 => {
-            let (model, serial, _) = parts(key);
-            promises::newest(store, (model, serial), counters)
-        }
+        9..=10 => promises::newest(store, some_meter(store, rng), counters),
         11..=13 => {
             let room = rng.one_of(&[0, 1, 10, 60, 2000]);
             let start = rng.one_of(&[0, key, rng.next()]);
@@ -128,6 +135,42 @@ fn try_call(store: &mut Store, rng: &Rng, counters: &mut Counters) -> Kept {
         }
         _ => promises::insert(store, key, rng.next() as u32, counters),
     }
+}
+
+/// A meter: often one at which pages are divided, a lost one or any.
+pub fn some_meter(store: &Store, rng: &Rng) -> (u16, u32) {
+    let lows = match rng.below(3) {
+        0 => lost_lows(store).unwrap_or_default(),
+        1 => divisions(&store.working),
+        _ => Vec::new(),
+    };
+    let of = if lows.is_empty() {
+        some_key(store, rng)
+    } else {
+        rng.one_of(&lows)
+    };
+    let (model, serial, _) = parts(of);
+    (model, serial)
+}
+
+/// Where lost pages start, if the tree can be read.
+fn lost_lows(store: &Store) -> Option<Vec<u64>> {
+    let n = pages(&store.working, &store.stable)?;
+    let tree = zero_fits(&store.working, n).then(|| Tree::read(&store.working, n, 0))?;
+    let tree = tree.ok()?;
+    let lows = tree.lost().map(|node| node.place.low);
+    Some(lows.filter(|low| *low > 0).collect())
+}
+
+/// The keys at which pages of kind 2 divide their range.
+fn divisions(table: &[u8]) -> Vec<u64> {
+    let pages = (0..table.len() / PAGE).map(|number| page::page(table, number as u16));
+    let inner = pages.filter(|page| page::kind(page) == KIND_LEAF + 1);
+    let keys = inner.flat_map(|page| {
+        let count = page::count(page).min(INNER_CAP);
+        (1..count).map(|index| page::key_at(page, index))
+    });
+    keys.collect()
 }
 
 /// A key: often of some leaf, or beside one of its entries.

@@ -9,21 +9,28 @@ use crate::session::Session;
 use crate::store::Store;
 use crate::walk::{begin, descend, enter, zero_fits, Damaged};
 use crate::way::Way;
+use std::ops::RangeInclusive;
 
-/// A list that climbs from the root anew for each leaf.
-pub fn climb(store: &mut Store, start: u64, room: usize) -> (u32, Vec<LeafEntry>) {
-    let answer = begin(&store.working, &store.stable, &store.session, true);
+/// A walk through a range that climbs from the root anew for each leaf, given whether the key asked for is whole.
+pub fn climb(
+    store: &mut Store,
+    asked: RangeInclusive<u64>,
+    room: usize,
+    whole: bool,
+) -> (u32, Vec<LeafEntry>) {
+    let answer = begin(&store.working, &store.stable, &store.session, whole);
     let mut listed = Vec::new();
     if answer != DONE {
         return (answer, listed);
     }
-    let mut next = Some(start);
-    while let Some(from) = next.filter(|_| listed.len() < room) {
+    let mut next = Some(*asked.start());
+    while let Some(from) = next.filter(|from| listed.len() < room && asked.contains(from)) {
         let Ok(way) = descend(&mut store.working, &store.session, from) else {
             return (DAMAGED, Vec::new());
         };
         let leaf = page::page(&store.working, way.last().place.child);
-        let more = page::leaf_entries(leaf).filter(|entry| entry.key >= from);
+        let rest = from..=*asked.end();
+        let more = page::leaf_entries(leaf).filter(|entry| rest.contains(&entry.key));
         listed.extend(more.take(room - listed.len()));
         next = way.last().place.high.checked_add(1);
     }

@@ -6,9 +6,9 @@ use super::Counters;
 use crate::answer::{BADKEY, DAMAGED, DONE, LENGTH, NONE, SPENT};
 use crate::field::{get32, put32};
 use crate::format;
-use crate::key::{key, parts, whole};
-use crate::layout::{zero, FIRST_NUMBER, PAGE};
-use crate::page::{self, Header, Page};
+use crate::key::{issues, key, parts, whole};
+use crate::layout::{zero, FIRST_NUMBER, LAST_FINAL, PAGE};
+use crate::page::{self, Header, LeafEntry, Page};
 use crate::session::Session;
 use crate::store::Store;
 use crate::tree::Tree;
@@ -70,18 +70,34 @@ pub fn newest(store: &mut Store, meter: (u16, u32), counters: &mut Counters) -> 
     let (answer, issue, record) = store.newest(model, serial);
     counters.answer("newest", answer);
     mends(&before, store, counters)?;
-    let found = key(model, serial, issue);
-    match answer {
-        DONE => must(store.lookup(found) == (DONE, record), "newest isn't found"),
-        NONE => {
-            let (mut keys, mut records) = ([0], [0]);
-            let start = key(model, serial, 1);
-            let (answer, count) = store.list(start, &mut keys, &mut records);
-            let other = count == 0 || parts(keys[0]).0 != model || parts(keys[0]).1 != serial;
-            must(answer != DONE || other, "an issue is listed")
-        }
-        _ => must((issue, record) == (0, 0), "a number beside a refusal"),
-    }
+    let mut other = before.clone();
+    let climbed = climb_issues(&mut other, meter, LAST_FINAL);
+    must(other == *store, "climbing mends other pages")?;
+    let found = match climbed {
+        (DONE, entries) => entries.last().map_or((NONE, 0, 0), |entry| {
+            (DONE, parts(entry.key).2, entry.record)
+        }),
+        (refusal, _) => (refusal, 0, 0),
+    };
+    must(
+        found == (answer, issue, record),
+        "climbing finds another issue",
+    )?;
+    // What a walk through all issues would have entered too.
+    let mut further = before;
+    let (all, _) = climb_issues(&mut further, meter, u16::MAX);
+    let lost = further != *store;
+    counters.add_if(lost, "newest that leaves a lost page of its meter");
+    let damaged = all == DAMAGED && answer != DAMAGED;
+    counters.add_if(damaged, "newest that leaves a damaged page of its meter");
+    Ok(())
+}
+
+/// Climbs through a meter's issues up to this one.
+fn climb_issues(store: &mut Store, meter: (u16, u32), last: u16) -> (u32, Vec<LeafEntry>) {
+    let (model, serial) = meter;
+    let whole = model != 0 && serial != 0;
+    climb(store, issues(model, serial, last), usize::MAX, whole)
 }
 
 pub fn list(store: &mut Store, start: u64, rooms: [usize; 2], counters: &mut Counters) -> Kept {
@@ -95,7 +111,8 @@ pub fn list(store: &mut Store, start: u64, rooms: [usize; 2], counters: &mut Cou
     must(untouched, "a list place changed that isn't filled")?;
     must(answer == DONE || count == 0, "a number beside a refusal")?;
     let mut other = before;
-    let (climbed, entries) = climb(&mut other, start, rooms[0].min(rooms[1]));
+    let room = rooms[0].min(rooms[1]);
+    let (climbed, entries) = climb(&mut other, start..=u64::MAX, room, true);
     must(climbed == answer, "climbing gives another answer")?;
     must(other == *store, "climbing mends other pages")?;
     let filled = keys.iter().zip(&records).take(count);

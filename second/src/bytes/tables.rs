@@ -4,7 +4,8 @@
 use crate::field::{get16, put16, put32, put64};
 use crate::key::{key, whole};
 use crate::layout::{
-    entry, header, zero, HEADER, INNER_ENTRY, KIND_LEAF, KIND_ZERO, LAST_NUMBER, PAGE, PAGES_MOST,
+    entry, header, zero, HEADER, INNER_ENTRY, KIND_LEAF, KIND_ZERO, LAST_FINAL, LAST_NUMBER, PAGE,
+    PAGES_MOST,
 };
 use crate::page::{self, capacity, page_mut, Header, InnerEntry, LeafEntry, Page};
 use crate::rng::Rng;
@@ -107,12 +108,18 @@ fn number(table: &[u8], n: u16, rng: &Rng) -> u16 {
     }
 }
 
-/// A table key at a serial; both ends reach to the ends of all keys.
+/// The key at which pages are divided at a serial: before its meter, or before its provisional issues.
+fn start(serial: u32) -> u64 {
+    let provisional = serial.count_ones() % 2 == 1;
+    key(7, serial, if provisional { LAST_FINAL + 1 } else { 1 })
+}
+
+/// Both ends reach to the ends of all keys.
 fn low(serial: u32) -> u64 {
     if serial == SERIALS.start {
         0
     } else {
-        key(7, serial, 1)
+        start(serial)
     }
 }
 
@@ -120,7 +127,7 @@ fn high(serial: u32) -> u64 {
     if serial == SERIALS.end {
         u64::MAX
     } else {
-        key(7, serial, 1) - 1
+        start(serial) - 1
     }
 }
 
@@ -135,9 +142,11 @@ fn plant_page(
     let child = number(table, n, rng);
     let most = capacity(kind).min(serials.len());
     let least = usize::from(kind != KIND_LEAF);
+    // All children of an inner page with few entries are planted.
+    let few = rng.from(least, 3).min(most);
     let head = Header {
         kind,
-        count: rng.one_of(&[least, rng.from(least, most), most, most]),
+        count: rng.one_of(&[least, few, rng.from(least, most), most, most]),
         birth,
         built: rng.one_of(&[birth, counter(rng)]),
         touched: rng.one_of(&[birth, counter(rng)]),
@@ -159,7 +168,9 @@ fn plant_leaf(head: Header, serials: Range<u32>, rng: &Rng) -> Page {
     let mut page = Header { count: 0, ..head }.page();
     let step = (serials.len() / head.count.max(1)).max(1) as u32;
     for serial in serials.step_by(step as usize).take(head.count) {
-        let key = key(7, serial, rng.from(1, 3) as u16);
+        let provisional = rng.from(1, 3) as u16 + LAST_FINAL;
+        let issue = rng.one_of(&[rng.from(1, 3) as u16, LAST_FINAL, provisional]);
+        let key = key(7, serial, issue);
         if whole(key) && head.low <= key && key <= head.high {
             let record = rng.next() as u32;
             page::put_leaf(&mut page, LeafEntry { key, record });

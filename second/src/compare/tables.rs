@@ -1,9 +1,8 @@
 //! Calls on tables of arbitrary bytes, with any length and any session.
 
 use super::{Alike, Both, Counters};
-use crate::bytes::some_key;
 use crate::bytes::tables::arbitrary;
-use crate::key::parts;
+use crate::bytes::{some_key, some_meter};
 use crate::rng::Rng;
 
 /// Some calls, one after another, on the table of this seed.
@@ -35,7 +34,7 @@ fn call(both: &mut Both, rng: &Rng, counters: &mut Counters) -> Alike<u32> {
         3 => both.sync(counters),
         4..=7 => both.lookup(key, counters),
         8..=11 => {
-            let (model, serial, _) = parts(key);
+            let (model, serial) = some_meter(&both.own, rng);
             both.newest(model, serial, counters)
         }
         12..=16 => {

@@ -29,7 +29,7 @@ const ANSWERS: [(&str, &[usize]); 6] = [
 ];
 
 /// What else is counted and can be reached at any capacity.
-const NAMED: [&str; 39] = [
+const NAMED: [&str; 42] = [
     "histories",
     "histories ending with a leaf as root",
     "histories ending with a root of kind 2",
@@ -69,6 +69,9 @@ const NAMED: [&str; 39] = [
     "mixes with a set between the extremes",
     "mixes with the counter spent",
     "mixes of a tree with a lost page",
+    "newest below a provisional one",
+    "newest of provisional ones only",
+    "newest that leaves a lost page of its meter",
 ];
 
 /// Reached only where a page that has just been split off, or a new root, has room: not where

@@ -1,7 +1,7 @@
 //! Random moves, steered to where pages are full, lost or about to split.
 
 use super::call::{numbers, set, Call, Mix};
-use super::keys::{near, Patterns, Wanted};
+use super::keys::{lost_provisional, near, Patterns, Wanted};
 use super::player::Player;
 use super::Move;
 use crate::answer::{FULL, SYNCFIRST};
@@ -152,7 +152,7 @@ impl Generator {
                 key: self.any_key(player),
             },
             Choice::Newest => {
-                let (model, serial, _) = parts(self.any_key(player));
+                let (model, serial) = self.any_meter(player);
                 Call::Newest { model, serial }
             }
             Choice::List => self.list(player),
@@ -197,6 +197,17 @@ impl Generator {
                 player.now.keys().nth(at).expect("as many as counted")
             }
         }
+    }
+
+    /// A meter: often one whose certificates lie in a lost page.
+    fn any_meter(&mut self, player: &Player) -> (u16, u32) {
+        let lost = match self.rng.below(4) {
+            0 => near(player, Wanted::Lost, &self.rng),
+            1 => None,
+            _ => lost_provisional(player, &self.rng),
+        };
+        let (model, serial, _) = parts(lost.unwrap_or_else(|| self.any_key(player)));
+        (model, serial)
     }
 
     fn list(&mut self, player: &Player) -> Call {

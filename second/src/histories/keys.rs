@@ -1,8 +1,8 @@
-//! Keys of a history: ascending, descending, clustered, random, or beside what is there.
+//! Keys of a history: ascending, descending, clustered, of few meters, random, or beside what is there.
 
 use super::player::Player;
-use crate::key::{key, whole};
-use crate::layout::KIND_LEAF;
+use crate::key::{key, parts, whole};
+use crate::layout::{KIND_LEAF, LAST_FINAL};
 use crate::page::{self, capacity};
 use crate::rng::Rng;
 use crate::tree::{Node, Tree};
@@ -12,6 +12,8 @@ pub enum Pattern {
     Ascending,
     Descending,
     Clustered,
+    /// Many issues of few meters, provisional ones among them.
+    Meters,
     Random,
 }
 
@@ -24,6 +26,10 @@ pub struct Patterns {
 const HIGHEST: u32 = 3_000_000;
 /// Serials of a cluster.
 const CLUSTER: usize = 40;
+/// Meters with many issues.
+const METERS: usize = 3;
+/// So many issues on both sides of the last one that is not provisional are taken more often.
+const BESIDE: usize = 8;
 
 impl Patterns {
     pub fn new(rng: &Rng) -> Patterns {
@@ -32,6 +38,7 @@ impl Patterns {
             Pattern::Ascending,
             Pattern::Descending,
             Pattern::Clustered,
+            Pattern::Meters,
             Pattern::Random,
         ];
         Patterns {
@@ -54,6 +61,12 @@ impl Patterns {
                     (centre + rng.below(CLUSTER)) as u32,
                     rng.from(1, 3) as u16,
                 )
+            }
+            Pattern::Meters => {
+                let middle = usize::from(LAST_FINAL);
+                let beside = rng.from(middle - BESIDE, middle + BESIDE);
+                let issue = rng.one_of(&[beside, rng.from(1, 65_535), rng.from(1, 65_535)]);
+                key(7, rng.from(1, METERS) as u32, issue as u16)
             }
             Pattern::Random => loop {
                 let random = rng.next();
@@ -101,6 +114,14 @@ impl Wanted {
                 Wanted::BelowFull => full(node) && !node.lost && above(),
             }
     }
+}
+
+/// Where a lost page begins, if that is within a meter's provisional issues.
+pub fn lost_provisional(player: &Player, rng: &Rng) -> Option<u64> {
+    let lost = player.tree.as_ref()?.lost();
+    let lows = lost.map(|node| node.place.low);
+    let lows: Vec<u64> = lows.filter(|low| parts(*low).2 > LAST_FINAL).collect();
+    (!lows.is_empty()).then(|| rng.one_of(&lows))
 }
 
 /// A key in the range of such a leaf, beside one of its entries: a free one if it can be.

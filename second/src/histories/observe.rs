@@ -4,15 +4,45 @@ use super::call::{Mix, PageSet};
 use super::counters::Counters;
 use super::player::Player;
 use super::set::Set;
-use crate::layout::LAST_NUMBER;
+use crate::answer::DONE;
+use crate::key::{issues, key};
+use crate::layout::{LAST_FINAL, LAST_NUMBER};
 use crate::page::{self, Header};
+use crate::place::Place;
 use crate::tree::{Node, Tree};
+use std::ops::RangeInclusive;
 
 fn is_inner(node: &Node) -> bool {
     page::kind(&node.shown) > 1
 }
 
+/// Whether some key of a place is asked for.
+pub(super) fn meets(place: &Place, asked: &RangeInclusive<u64>) -> bool {
+    place.low <= *asked.end() && *asked.start() <= place.high
+}
+
 impl Player {
+    /// Counts what newest has passed over: provisional certificates, and lost pages that hold nothing it asks for.
+    pub(super) fn count_newest(
+        &self,
+        model: u16,
+        serial: u32,
+        answer: u32,
+        counters: &mut Counters,
+    ) {
+        let asked = issues(model, serial, LAST_FINAL);
+        let beyond = key(model, serial, LAST_FINAL + 1)..=key(model, serial, u16::MAX);
+        let mut lost = self.tree.iter().flat_map(Tree::lost);
+        let left = lost.any(|node| meets(&node.place, &beyond) && !meets(&node.place, &asked));
+        counters.add_if(left, "newest that leaves a lost page of its meter");
+        if self.now.range(beyond).next().is_some() {
+            counters.add(match answer {
+                DONE => "newest below a provisional one",
+                _ => "newest of provisional ones only",
+            });
+        }
+    }
+
     /// Counts mends and splits by what has gone from W's tree.
     pub(super) fn count_changes(&self, before: &Tree, after: &Tree, counters: &mut Counters) {
         let lost = after.lost().map(|node| node.place).collect::<Vec<_>>();

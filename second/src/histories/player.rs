@@ -2,18 +2,20 @@
 
 use super::call::{Call, Mix};
 use super::counters::{Counted, Counters};
+use super::observe::meets;
 use super::set::Set;
 use super::Move;
 use crate::answer::{BADKEY, DONE, FULL, LENGTH, NONE, PRESENT, SPENT, SYNCFIRST};
 use crate::field::put32;
 use crate::invariant;
-use crate::key::{key, parts, whole};
-use crate::layout::{zero, INNER_CAP, KIND_TOP, LAST_NUMBER, LEVELS, PAGE};
+use crate::key::{issues, parts, whole};
+use crate::layout::{zero, INNER_CAP, KIND_TOP, LAST_FINAL, LAST_NUMBER, LEVELS, PAGE};
 use crate::page::{self, Header};
 use crate::place::Place;
 use crate::session::Session;
 use crate::store::Store;
 use crate::tree::Tree;
+use std::ops::RangeInclusive;
 
 /// What is checked: demand 3 always, the invariants if asked for.
 #[derive(Clone, Copy, PartialEq, Eq, Debug)]
@@ -189,14 +191,29 @@ impl Player {
     fn newest(&mut self, model: u16, serial: u32, counters: &mut Counters) -> Played {
         let (answer, issue, record) = self.store.newest(model, serial);
         counters.answer(Counted::Newest, answer);
-        let range = key(model, serial, 1)..=key(model, serial, u16::MAX);
-        let expected = match self.now.range(range).last() {
+        let asked = issues(model, serial, LAST_FINAL);
+        let expected = match self.now.range(asked.clone()).last() {
             _ if model == 0 || serial == 0 => (BADKEY, 0, 0),
             Some((key, record)) => (DONE, parts(key).2, record),
             None => (NONE, 0, 0),
         };
         must((answer, issue, record) == expected, || {
             format!("newest of {model} {serial} answers {answer}, issue {issue}, record {record}")
+        })?;
+        if answer != BADKEY {
+            self.count_newest(model, serial, answer, counters);
+        }
+        must(answer == BADKEY || self.has_mended(&asked), || {
+            format!("newest of {model} {serial} mends other pages than it asks for")
+        })
+    }
+
+    /// Whether of the places that were lost before exactly those that meet this range are mended.
+    fn has_mended(&self, asked: &RangeInclusive<u64>) -> bool {
+        let mut lost = self.tree.iter().flat_map(Tree::lost);
+        lost.all(|node| {
+            let child = page::page(&self.store.working, node.place.child);
+            node.place.fits(child, self.store.session.n) == meets(&node.place, asked)
         })
     }
 

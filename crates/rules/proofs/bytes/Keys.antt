@@ -8,6 +8,7 @@ use mathlib.Core.List.{[], _∷_}
 use borrow.Author.Tests.{ltb-true, lt-ltb}
 use lib.Dec.{ltb}
 use Rattle.rules.specs.Test.{every}
+use Rattle.rules.specs.Layout.{lastFinal}
 use Rattle.rules.specs.Key.{keyOf, modelOf, serialOf, issueOf, goodParts, goodKey}
 use Rattle.rules.proofs.entries.Tests.{every-true}
 
@@ -49,8 +50,8 @@ pub issueOf-bound : (k : ℕ) → issueOf k < 2 ^ 16
 unfolding issueOf
 issueOf-bound k = omega arith
 
--- a key within issues 1 to 65,535 of a meter is of that meter
-module _ (model serial k : ℕ) (hs : serial < 2 ^ 32) (low : keyOf model serial 1 ≤ k) (high : k ≤ keyOf model serial 65535) where
+-- a key within the issues of a meter that newest asks for is of that meter
+module _ (model serial k : ℕ) (hs : serial < 2 ^ 32) (low : keyOf model serial 1 ≤ k) (high : k ≤ keyOf model serial lastFinal) where
   pub modelOf-meter : modelOf k ≡ model
   unfolding keyOf modelOf
   modelOf-meter = omega arith

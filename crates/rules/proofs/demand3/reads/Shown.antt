@@ -8,7 +8,7 @@ use mathlib.Core.Bool.{true}
 use mathlib.Core.List.{List, [], _∷_, _++_}
 use mathlib.Core.Option.{Option, some, none, Option·some-injective}
 use lib.ListN.{length, take, drop, take-append-drop, length-take, length-drop}
-use Rattle.rules.specs.Layout.{lastKey}
+use Rattle.rules.specs.Layout.{lastKey, lastFinal}
 use Rattle.rules.specs.Test.{between, all, mem}
 use Rattle.rules.specs.Key.{keyOf, issueOf, goodKey}
 use Rattle.rules.specs.Entry.{Cert, keys, find, cut, risesFrom, rising}
@@ -186,12 +186,12 @@ module _ (certs : List Cert) (rise : rising (keys certs) ≡ true) (good : all (
 
   -- a key in the meter's range is that of its issue
   issue-of : (k : ℕ) → meter model serial .low ≤ k → k ≤ meter model serial .high
-      → (keyOf model serial (issueOf k) ≡ k) × (1 ≤ issueOf k) × (issueOf k < 65536)
+      → (keyOf model serial (issueOf k) ≡ k) × (1 ≤ issueOf k) × (issueOf k ≤ lastFinal)
   unfolding meter keyOf issueOf
   issue-of k l h = (omega arith, omega arith, omega arith)
 
   -- nothing shown, nothing there
-  absent : (j : ℕ) → 1 ≤ j → j < 65536 → find (keyOf model serial j) issues ≡ none → state (keyOf model serial j) ≡ none
+  absent : (j : ℕ) → 1 ≤ j → j ≤ lastFinal → find (keyOf model serial j) issues ≡ none → state (keyOf model serial j) ≡ none
   unfolding meter keyOf
   absent j l h f = go (state (keyOf model serial j)) refl
     where
