@@ -35,7 +35,7 @@ static uint32_t open_store(void)
 
 static uint32_t insert(uint32_t serial, uint32_t record)
 {
-    KhAnswered inserted = kh_insert(working, BYTES, stable, BYTES, session, 7, serial, 1, record);
+    KhChanged inserted = kh_insert(working, BYTES, stable, BYTES, session, 7, serial, 1, record);
     session = inserted.session;
     return inserted.answer;
 }
@@ -96,7 +96,10 @@ int main(void)
     expect("open after a crash", open_store(), KH_DONE);
     KhLooked looked = lookup(21);
     expect("lookup of a kept certificate", looked.answer, KH_DONE);
-    printf("record %u\n", (unsigned)looked.record);
+    printf("record %u; %u page mended on the way, reason %u\n", (unsigned)looked.record, (unsigned)looked.mended,
+           (unsigned)looked.reason);
+    if (looked.mended != 1 || looked.reason != KH_SOUNDNESS)
+        return 1;
     if (looked.record != 921)
         return 1;
     expect("lookup of one that was not kept", lookup(41).answer, KH_NONE);
@@ -105,6 +108,11 @@ int main(void)
     expect("newest of a meter", newest.answer, KH_DONE);
     if (newest.issue != 1 || newest.record != 940)
         return 1;
-    list_all(40);
-    return 0;
+    KhAny has = kh_has_any(working, BYTES, stable, BYTES, session, 7, 41);
+    expect("has the meter that was not kept any", has.answer, KH_DONE);
+    if (has.any != 0)
+        return 1;
+    printf("the start screen: %u certificates\n", (unsigned)session.total);
+    list_all(session.total);
+    return session.total == 40 ? 0 : 1;
 }

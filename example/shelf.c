@@ -3,6 +3,8 @@
  *     shelf FILE put MODEL SERIAL ISSUE RECORD
  *     shelf FILE find MODEL SERIAL ISSUE
  *     shelf FILE newest MODEL SERIAL
+ *     shelf FILE any MODEL SERIAL
+ *     shelf FILE total
  *     shelf FILE list
  *
  * The file is created at its first use. `put` returns only when the certificate is on the disc. Prints the answer's
@@ -44,8 +46,9 @@ static KhTold open_store(const char *path)
 }
 
 /* Answers 6 and 7 ask for a sync and a second try. */
-static KhTold put(char **words)
+static KhTold put(char **words, char *beside)
 {
+    beside[0] = '\0';
     uint16_t model = short_number(words[0]);
     uint32_t serial = number(words[1], UINT32_MAX);
     uint16_t issue = short_number(words[2]);
@@ -77,6 +80,13 @@ static KhTold newest(char **words, char *beside, size_t room)
     snprintf(beside, room, ": issue %u, record %u", (unsigned)issue, (unsigned)record);
     return told;
 }
+static KhTold any(char **words, char *beside, size_t room)
+{
+    bool has;
+    KhTold told = khs_has_any(&store, short_number(words[0]), number(words[1], UINT32_MAX), &has);
+    snprintf(beside, room, ": %s", has ? "yes" : "no");
+    return told;
+}
 
 /* A list is short; the next one starts behind its last key, if there can be one. */
 static KhTold list(char *beside, size_t room)
@@ -106,17 +116,21 @@ int main(int argc, char **argv)
     const char *call = argc > 2 ? argv[2] : "";
     char **words = argv + 3;
     bool known = (argc == 7 && strcmp(call, "put") == 0) || (argc == 6 && strcmp(call, "find") == 0) ||
-                 (argc == 5 && strcmp(call, "newest") == 0) || (argc == 3 && strcmp(call, "list") == 0);
+                 (argc == 5 && strcmp(call, "newest") == 0) || (argc == 5 && strcmp(call, "any") == 0) ||
+                 (argc == 3 && strcmp(call, "total") == 0) || (argc == 3 && strcmp(call, "list") == 0);
     if (!known) {
         fprintf(stderr, "usage: shelf FILE put MODEL SERIAL ISSUE RECORD\n       shelf FILE find MODEL SERIAL ISSUE\n"
-                        "       shelf FILE newest MODEL SERIAL\n       shelf FILE list\n");
+                        "       shelf FILE newest MODEL SERIAL\n       shelf FILE any MODEL SERIAL\n"
+                        "       shelf FILE total\n       shelf FILE list\n");
         return 2;
     }
     KhTold told = open_store(argv[1]);
-    if (told.answer == KH_DONE)
-        told = call[0] == 'p'   ? put(words)
+    snprintf(beside, sizeof beside, ": %u certificates", (unsigned)khs_total(&store));
+    if (told.answer == KH_DONE && call[0] != 't')
+        told = call[0] == 'p'   ? put(words, beside)
                : call[0] == 'f' ? find(words, beside, sizeof beside)
                : call[0] == 'n' ? newest(words, beside, sizeof beside)
+               : call[0] == 'a' ? any(words, beside, sizeof beside)
                                 : list(beside, sizeof beside);
     khs_close(&store);
     printf("%s%s\n", khs_word(told), told.answer == KH_DONE ? beside : "");

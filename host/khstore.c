@@ -21,6 +21,15 @@ static KhTold answered(uint32_t answer)
     return (KhTold){.answer = answer, .trouble = KHS_FINE, .error = 0};
 }
 
+/* The same of a call that walks. */
+static KhTold walked(uint32_t answer, uint32_t mended, uint32_t reason)
+{
+    KhTold told = answered(answer);
+    told.mended = mended;
+    told.reason = reason;
+    return told;
+}
+
 static KhTold in_trouble(KhTrouble trouble)
 {
     return (KhTold){.answer = KHS_NO_ANSWER, .trouble = trouble, .error = 0};
@@ -285,9 +294,9 @@ KhTold khs_insert(KhStore *store, uint16_t model, uint32_t serial, uint16_t issu
 {
     if (!store->open)
         return in_trouble(KHS_CLOSED);
-    KhAnswered inserted = kh_insert(TABLES(store), store->session, model, serial, issue, record);
+    KhChanged inserted = kh_insert(TABLES(store), store->session, model, serial, issue, record);
     store->session = inserted.session;
-    return answered(inserted.answer);
+    return walked(inserted.answer, inserted.mended, inserted.reason);
 }
 
 KhTold khs_lookup(KhStore *store, uint16_t model, uint32_t serial, uint16_t issue, uint32_t *record)
@@ -298,7 +307,7 @@ KhTold khs_lookup(KhStore *store, uint16_t model, uint32_t serial, uint16_t issu
     KhLooked looked = kh_lookup(TABLES(store), store->session, model, serial, issue);
     store->session = looked.session;
     *record = looked.record;
-    return answered(looked.answer);
+    return walked(looked.answer, looked.mended, looked.reason);
 }
 
 KhTold khs_newest(KhStore *store, uint16_t model, uint32_t serial, uint16_t *issue, uint32_t *record)
@@ -311,7 +320,23 @@ KhTold khs_newest(KhStore *store, uint16_t model, uint32_t serial, uint16_t *iss
     store->session = newest.session;
     *issue = (uint16_t)newest.issue;
     *record = newest.record;
-    return answered(newest.answer);
+    return walked(newest.answer, newest.mended, newest.reason);
+}
+
+KhTold khs_has_any(KhStore *store, uint16_t model, uint32_t serial, bool *any)
+{
+    *any = false;
+    if (!store->open)
+        return in_trouble(KHS_CLOSED);
+    KhAny has = kh_has_any(TABLES(store), store->session, model, serial);
+    store->session = has.session;
+    *any = has.any == 1;
+    return walked(has.answer, has.mended, has.reason);
+}
+
+uint32_t khs_total(const KhStore *store)
+{
+    return store->open ? store->session.total : 0;
 }
 
 KhTold khs_list(KhStore *store, uint64_t start, uint64_t *keys, uint32_t *records, size_t room, size_t *count)
@@ -322,7 +347,7 @@ KhTold khs_list(KhStore *store, uint64_t start, uint64_t *keys, uint32_t *record
     KhListed listed = kh_list(TABLES(store), store->session, start, keys, room, records, room);
     store->session = listed.session;
     *count = (size_t)listed.count;
-    return answered(listed.answer);
+    return walked(listed.answer, listed.mended, listed.reason);
 }
 
 /* ---- Sync ---- */

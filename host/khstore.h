@@ -61,6 +61,8 @@ typedef enum {
 
 typedef struct {
     uint32_t answer;
+    uint32_t mended; /* pages that a call in memory mended, and why the first was lost; 0 from the others */
+    uint32_t reason;
     KhTrouble trouble;
     int error;
 } KhTold;
@@ -78,10 +80,15 @@ KH_KEEP KhTold khs_create(KhStore *store, const char *path, unsigned pages);
 /* Opens the store in a file, after a crash too. Answers 0, 3, 8. */
 KH_KEEP KhTold khs_open(KhStore *store, const char *path);
 
-/* As kh_insert, kh_lookup, kh_newest and kh_list, in memory. What they find is 0 if the answer is not KH_DONE. */
+/* As kh_insert, kh_lookup, kh_newest, kh_has_any and kh_list, in memory. What they find is 0 if the answer is not
+ * KH_DONE. */
 KH_KEEP KhTold khs_insert(KhStore *store, uint16_t model, uint32_t serial, uint16_t issue, uint32_t record);
 KH_KEEP KhTold khs_lookup(KhStore *store, uint16_t model, uint32_t serial, uint16_t issue, uint32_t *record);
 KH_KEEP KhTold khs_newest(KhStore *store, uint16_t model, uint32_t serial, uint16_t *issue, uint32_t *record);
+KH_KEEP KhTold khs_has_any(KhStore *store, uint16_t model, uint32_t serial, bool *any);
+
+/* How many certificates an open store holds; 0 of one that is closed. */
+uint32_t khs_total(const KhStore *store);
 
 /* Both lists have the same room. */
 KH_KEEP KhTold khs_list(KhStore *store, uint64_t start, uint64_t *keys, uint32_t *records, size_t room, size_t *count);

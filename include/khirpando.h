@@ -44,7 +44,8 @@ extern "C" {
  *                                                                                                twice
  *   kh_insert, kh_lookup,  working: any page, and    nothing                                     01: "pages reach the
  *   kh_newest, kh_list,    mended ones even if the                                               stable table only" in
- *   any answer             call is refused                                                       sync, open, at a crash
+ *   kh_has_any, any        call is refused                                                       sync, open, at a crash
+ *   answer
  *   kh_sync, answer 0      stable: page 0 and each   all of these, in any order, before anyone   01: a crash may fall
  *                          that differed from        is told that the sync is done, and before   inside a sync; demand
  *                          working                   any page of a later call is written         3: what is kept is of
@@ -72,10 +73,10 @@ extern "C" {
 
 /* ---- Versions and limits ----------------------------------------------------------------------------------------- */
 
-#define KH_VERSION_MAJOR 4
+#define KH_VERSION_MAJOR 6
 #define KH_VERSION_MINOR 0
 #define KH_VERSION_PATCH 0
-#define KH_VERSION "4.0.0"
+#define KH_VERSION "6.0.0"
 
 #define KH_LAYOUT 9       /* the kind of page 0: a table with another one is refused with KH_DAMAGED */
 #define KH_PAGE_BYTES 512 /* bytes of a page */
@@ -83,7 +84,7 @@ extern "C" {
 #define KH_PAGES_MOST 128
 #define KH_LAST_FINAL 32767 /* the last issue that is not provisional */
 #define KH_LAST_NUMBER 4294967293u /* the last number that opens; it starts at 2, openings and syncs add 1 each */
-#define KH_SESSION_BYTES 264       /* sizeof(KhSession); grows with the fields of later versions */
+#define KH_SESSION_BYTES 268       /* sizeof(KhSession); grows with the fields of later versions */
 
 /* Bytes of a table of n pages, and the most certificates that a list of it can show. */
 #define KH_TABLE_BYTES(n) ((size_t)(n) * KH_PAGE_BYTES)
@@ -91,8 +92,8 @@ extern "C" {
 
 /* ---- Answers --------------------------------------------------------------------------------------------------------
  *
- * Where several would do, the lowest is given. With any but KH_DONE the numbers beside it are 0, the session is as it
- * was handed in, and nothing has changed but working pages that the call mended on its way. */
+ * Where several would do, the lowest is given. With any but KH_DONE the numbers beside it are 0, but for the report of
+ * mended pages; the session is as it was handed in, and nothing has changed but working pages that the call mended on its way. */
 enum {
     KH_DONE = 0,
     /* A table's length is wrong, the two differ, or the session is another table's. Lend the tables that were opened,
@@ -154,6 +155,7 @@ static inline uint16_t kh_key_issue(uint64_t key)
 typedef struct {
     uint16_t n;                  /* pages of each table; 0 in what a refused opening hands out */
     uint32_t c;                  /* the counter: grows with each opening and each sync */
+    uint32_t total;              /* how many certificates the store holds; 0 from a refused opening */
     bool free[KH_PAGES_MOST];    /* pages that an insert may take */
     bool waiting[KH_PAGES_MOST]; /* pages that become free at the next sync */
 } KhSession;
@@ -163,9 +165,28 @@ typedef struct {
     KhSession session;
 } KhAnswered;
 
+/* A call that walks says how many pages it mended and why the first of them was lost, with a refusal too. `reason` is
+ * the first test that the page failed, in this order; it is KH_WHOLE exactly if `mended` is 0. */
+enum {
+    KH_WHOLE = 0,     /* nothing was mended */
+    KH_SOUNDNESS = 1, /* its bytes make no page: never used since the format, or bad flash */
+    KH_KIND = 2,      /* a page of another level: a lost write */
+    KH_BIRTH = 3,     /* an older page: a lost write */
+    KH_RANGE = 4      /* a page for other keys: bad flash */
+};
+
+typedef struct {
+    uint32_t answer;
+    uint32_t mended;
+    uint32_t reason;
+    KhSession session;
+} KhChanged;
+
 typedef struct {
     uint32_t answer;
     uint32_t record;
+    uint32_t mended;
+    uint32_t reason;
     KhSession session;
 } KhLooked;
 
@@ -173,12 +194,24 @@ typedef struct {
     uint32_t answer;
     uint32_t issue;
     uint32_t record;
+    uint32_t mended;
+    uint32_t reason;
     KhSession session;
 } KhNewest;
 
 typedef struct {
     uint32_t answer;
+    uint32_t any; /* 1: yes; 0: no */
+    uint32_t mended;
+    uint32_t reason;
+    KhSession session;
+} KhAny;
+
+typedef struct {
+    uint32_t answer;
     uint64_t count;
+    uint32_t mended;
+    uint32_t reason;
     KhSession session;
 } KhListed;
 
@@ -206,8 +239,8 @@ KH_KEEP uint32_t kh_format(const uint8_t *working, size_t working_len, uint8_t *
 KH_KEEP KhAnswered kh_open(uint8_t *working, size_t working_len, uint8_t *stable, size_t stable_len);
 
 /* Puts a certificate in. It outlasts a crash for certain from the next sync on. Answers 0, 1, 2, 3, 5, 6, 7. */
-KH_KEEP KhAnswered kh_insert(uint8_t *working, size_t working_len, const uint8_t *stable, size_t stable_len,
-                             KhSession session, uint16_t model, uint32_t serial, uint16_t issue, uint32_t record);
+KH_KEEP KhChanged kh_insert(uint8_t *working, size_t working_len, const uint8_t *stable, size_t stable_len,
+                            KhSession session, uint16_t model, uint32_t serial, uint16_t issue, uint32_t record);
 
 /* The record of a certificate. Answers 0, 1, 2, 3, 4. */
 KH_KEEP KhLooked kh_lookup(uint8_t *working, size_t working_len, const uint8_t *stable, size_t stable_len,
@@ -217,6 +250,11 @@ KH_KEEP KhLooked kh_lookup(uint8_t *working, size_t working_len, const uint8_t *
  * those only has none here, though look-ups and lists show them. Answers 0, 1, 2, 3, 4. */
 KH_KEEP KhNewest kh_newest(uint8_t *working, size_t working_len, const uint8_t *stable, size_t stable_len,
                            KhSession session, uint16_t model, uint32_t serial);
+
+/* Whether a meter has any certificate, provisional ones too. The call ends with the page in which it finds the first:
+ * pages beyond are neither tested nor mended. Answers 0, 1, 2, 3. */
+KH_KEEP KhAny kh_has_any(uint8_t *working, size_t working_len, const uint8_t *stable, size_t stable_len,
+                         KhSession session, uint16_t model, uint32_t serial);
 
 /* The certificates from a start key upwards, in key order, up to the shorter list; `count` says how many, and places
  * beyond stay as they were. The start may be any number. Answers 0, 1, 3. */

@@ -7,12 +7,13 @@ use std::process::{Command, Stdio};
 use std::{env, fs};
 
 /// What the store's library must have in it; an older one is passed over.
-const NAMES: [&str; 7] = [
+const NAMES: [&str; 8] = [
     "kh_format",
     "kh_open",
     "kh_insert",
     "kh_lookup",
     "kh_newest",
+    "kh_has_any",
     "kh_list",
     "kh_sync",
 ];

@@ -121,9 +121,12 @@ static void closed(void)
     uint32_t record;
     uint16_t issue;
     size_t count;
+    bool any;
     troubled(khs_insert(&store, 7, 1, 1, 1), KHS_CLOSED, "insert after close");
     troubled(khs_lookup(&store, 7, 1, 1, &record), KHS_CLOSED, "lookup after close");
     troubled(khs_newest(&store, 7, 1, &issue, &record), KHS_CLOSED, "newest after close");
+    troubled(khs_has_any(&store, 7, 1, &any), KHS_CLOSED, "has-any after close");
+    must(khs_total(&store) == 0, "a closed store holds none");
     troubled(khs_list(&store, 0, &key, &record, 1, &count), KHS_CLOSED, "list after close");
     troubled(khs_sync(&store), KHS_CLOSED, "sync after close");
 }

@@ -23,13 +23,17 @@ pub const WORDS: [&str; 9] = [
     "spent",
 ];
 
-/// Each call with the answers that the table of document 01 has for it.
-pub const ANSWERS: [(&str, &[usize]); 7] = [
+/// Each call with the answers that the papers have for it.
+pub const ANSWERS: [(&str, &[usize]); 8] = [
     ("format", &[0, 1]),
     ("open", &[0, 1, 3, 8]),
     ("insert", &[0, 1, 2, 3, 5, 6, 7]),
     ("lookup", &[0, 1, 2, 3, 4]),
     ("newest", &[0, 1, 2, 3, 4]),
+    ("has_any", &[0, 1, 2, 3]),
     ("list", &[0, 1, 3]),
     ("sync", &[0, 1, 8]),
 ];
+
+/// Those that walk, and so tell of their mends.
+pub const WALKING: [&str; 5] = ["insert", "lookup", "newest", "has_any", "list"];

@@ -34,6 +34,14 @@ pub enum Rule {
 
     /// Newest ends with issue 32,767.
     FinalIssues,
+    /// Soundness is tested before birth, and the first test that fails is the reason.
+    ReasonOrder,
+    /// A refused call tells of its mends.
+    RefusedReports,
+    /// A done insert adds one to the total.
+    InsertCounts,
+    /// A refused insert leaves it.
+    RefusalCountsNot,
 }
 
 /// Those on which demand 3 rests.
@@ -55,7 +63,13 @@ pub const RULES: [Rule; 14] = [
 ];
 
 /// Those that came with document 02.
-pub const LATER: [Rule; 1] = [Rule::FinalIssues];
+pub const LATER: [Rule; 5] = [
+    Rule::FinalIssues,
+    Rule::ReasonOrder,
+    Rule::RefusedReports,
+    Rule::InsertCounts,
+    Rule::RefusalCountsNot,
+];
 
 /// Whether this run breaks the rule.
 #[cfg(not(feature = "broken"))]

@@ -5,10 +5,19 @@ use crate::broken::{broken, Rule};
 use crate::key::{key, whole};
 use crate::layout::{INNER_CAP, KIND_TOP, LEAF_CAP};
 use crate::page::{self, Header, LeafEntry};
+use crate::report::Report;
 use crate::session::Session;
 use crate::split::split;
 use crate::walk::{begin, descend};
 use crate::way::Way;
+
+/// What a call that may change the store hands back.
+#[derive(Clone, Copy, PartialEq, Eq, Debug)]
+pub struct Changed {
+    pub answer: u32,
+    pub report: Report,
+    pub session: Session,
+}
 
 pub fn insert(
     working: &mut [u8],
@@ -18,18 +27,28 @@ pub fn insert(
     serial: u32,
     issue: u16,
     record: u32,
-) -> (u32, Session) {
+) -> Changed {
     let key = key(model, serial, issue);
-    let answer = begin(working, stable, &session, whole(key));
-    if answer != DONE {
-        return (answer, session);
+    let mut report = Report::default();
+    let mut answer = begin(working, stable, &session, whole(key));
+    if answer == DONE {
+        answer = match descend(working, &session, key, &mut report) {
+            Err(_) => DAMAGED,
+            Ok(way) => put(working, &mut session, &way, LeafEntry { key, record }),
+        };
     }
-    let Ok(way) = descend(working, &session, key) else {
-        return (DAMAGED, session);
+    let counts = match answer {
+        DONE => !broken(Rule::InsertCounts),
+        _ => broken(Rule::RefusalCountsNot),
     };
-    let new = LeafEntry { key, record };
-    let answer = put(working, &mut session, &way, new);
-    (answer, session)
+    if counts {
+        session.one_more();
+    }
+    Changed {
+        answer,
+        report: report.beside(answer),
+        session,
+    }
 }
 
 /// Puts the entry into the leaf at the way's end. A refusal changes nothing.

@@ -18,7 +18,7 @@ pub mod zero {
     pub const END: usize = 16;
 }
 
-/// Header of any other page: where its fields lie.
+/// Header of any other page: where the fields lie that both kinds have.
 pub mod header {
     pub const KIND: usize = 0;
     pub const COUNT: usize = 2;
@@ -38,7 +38,10 @@ pub mod entry {
     pub const BIRTH: usize = 12;
 }
 
-pub const HEADER: usize = 32;
+/// Bytes of a leaf's header: its entries lie behind it.
+pub const LEAF_HEADER: usize = 32;
+/// Bytes of an inner page's header.
+pub const INNER_HEADER: usize = 32;
 pub const LEAF_ENTRY: usize = 12;
 pub const INNER_ENTRY: usize = 16;
 
@@ -67,7 +70,7 @@ pub const INNER_CAP: usize = if cfg!(feature = "caps2") {
 } else {
     30
 };
-/// Old entries that go to the lower half of a split leaf.
+/// Old entries that go to the lower half of a split leaf. All others go to the upper half.
 pub const LEAF_HALF: usize = LEAF_CAP / 2;
 /// Old entries that go to the lower half of a split inner page.
 pub const INNER_HALF: usize = INNER_CAP / 2;

@@ -1,4 +1,4 @@
-//! An independent reading of the certificate store's rules (document 01), written for the eye.
+//! An independent reading of the certificate store's rules (documents 01 and 02), written for the eye.
 //!
 //! The calls work on two tables of bytes that the caller lends. What comes after them is
 //! there to try the rules: invariants, random histories, arbitrary bytes, rules broken.
@@ -9,6 +9,7 @@ pub mod key;
 pub mod layout;
 pub mod page;
 pub mod place;
+pub mod report;
 pub mod session;
 pub mod tree;
 pub mod walk;
@@ -33,13 +34,14 @@ pub mod invariant;
 pub mod lines;
 #[cfg(store)]
 pub mod proved;
+pub mod reasons;
 pub mod rng;
 pub mod store;
 
 pub use crash::crash;
 pub use format::format;
-pub use insert::insert;
+pub use insert::{insert, Changed};
 pub use open::open;
-pub use read::{list, lookup, newest, Listed, Looked, Newest};
+pub use read::{has_any, list, lookup, newest, HasAny, Listed, Looked, Newest};
 pub use session::Session;
 pub use sync::{number_ahead, sync};

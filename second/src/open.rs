@@ -29,9 +29,11 @@ pub fn open(working: &mut [u8], stable: &mut [u8]) -> (u32, Session) {
     (DONE, opened(n, c, &tree))
 }
 
-/// Everything is free that the tree doesn't need, previous pages of lost entries included.
+/// Everything is free that the tree doesn't need, previous pages of lost entries included. The
+/// total is what the tree shows.
 fn opened(n: u16, c: u32, tree: &Tree) -> Session {
     let mut session = Session::new(n, c);
+    session.total = tree.entries().count() as u32;
     let children = tree.children();
     let lost_previous = tree.lost_previous();
     for p in 1..usize::from(n) {

@@ -3,7 +3,8 @@
 use crate::field::{get16, get32, get64, put16, put32, put64};
 use crate::key;
 use crate::layout::{
-    entry, header, HEADER, INNER_CAP, INNER_ENTRY, KIND_LEAF, KIND_TOP, LEAF_CAP, LEAF_ENTRY, PAGE,
+    entry, header, INNER_CAP, INNER_ENTRY, INNER_HEADER, KIND_LEAF, KIND_TOP, LEAF_CAP, LEAF_ENTRY,
+    LEAF_HEADER, PAGE,
 };
 use std::ops::Range;
 
@@ -83,12 +84,25 @@ pub fn count(page: &Page) -> usize {
     usize::from(get16(page, header::COUNT))
 }
 
+pub fn header_size(kind: u16) -> usize {
+    if kind == KIND_LEAF {
+        LEAF_HEADER
+    } else {
+        INNER_HEADER
+    }
+}
+
 pub fn entry_size(kind: u16) -> usize {
     if kind == KIND_LEAF {
         LEAF_ENTRY
     } else {
         INNER_ENTRY
     }
+}
+
+/// Where an entry of a page of this kind lies, and at the count where the entries end.
+pub fn entry_at(kind: u16, index: usize) -> usize {
+    header_size(kind) + index * entry_size(kind)
 }
 
 pub fn capacity(kind: u16) -> usize {
@@ -100,11 +114,11 @@ pub fn capacity(kind: u16) -> usize {
 }
 
 pub fn key_at(page: &Page, index: usize) -> u64 {
-    get64(page, HEADER + index * entry_size(kind(page)) + entry::KEY)
+    get64(page, entry_at(kind(page), index) + entry::KEY)
 }
 
 pub fn leaf_entry(page: &Page, index: usize) -> LeafEntry {
-    let at = HEADER + index * LEAF_ENTRY;
+    let at = LEAF_HEADER + index * LEAF_ENTRY;
     LeafEntry {
         key: get64(page, at + entry::KEY),
         record: get32(page, at + entry::RECORD),
@@ -112,7 +126,7 @@ pub fn leaf_entry(page: &Page, index: usize) -> LeafEntry {
 }
 
 pub fn inner_entry(page: &Page, index: usize) -> InnerEntry {
-    let at = HEADER + index * INNER_ENTRY;
+    let at = INNER_HEADER + index * INNER_ENTRY;
     InnerEntry {
         key: get64(page, at + entry::KEY),
         child: get16(page, at + entry::CHILD),
@@ -131,11 +145,11 @@ pub fn inner_entries(page: &Page) -> impl Iterator<Item = InnerEntry> + '_ {
 
 /// How many entries of a sound page have a key below this one.
 pub fn below(page: &Page, key: u64) -> usize {
-    let size = entry_size(kind(page));
+    let kind = kind(page);
     let (mut from, mut to) = (0, count(page));
     while from < to {
         let middle = (from + to) / 2;
-        if get64(page, HEADER + middle * size + entry::KEY) < key {
+        if get64(page, entry_at(kind, middle) + entry::KEY) < key {
             from = middle + 1;
         } else {
             to = middle;
@@ -179,7 +193,7 @@ pub fn sound(page: &Page, n: u16) -> bool {
 }
 
 fn leaf_sound(page: &Page, head: &Header) -> bool {
-    let entries = &page[HEADER..HEADER + head.count * LEAF_ENTRY];
+    let entries = &page[LEAF_HEADER..LEAF_HEADER + head.count * LEAF_ENTRY];
     let mut good = true;
     // The first key may equal low. Where low is 0 nothing is lost: no whole key is 0.
     let mut before = head.low.saturating_sub(1);
@@ -192,7 +206,7 @@ fn leaf_sound(page: &Page, head: &Header) -> bool {
 }
 
 fn inner_sound(page: &Page, head: &Header, n: u16) -> bool {
-    let entries = &page[HEADER..HEADER + head.count * INNER_ENTRY];
+    let entries = &page[INNER_HEADER..INNER_HEADER + head.count * INNER_ENTRY];
     let mut good = true;
     let mut before = None;
     for bytes in entries.chunks_exact(INNER_ENTRY) {
@@ -209,11 +223,10 @@ fn inner_sound(page: &Page, head: &Header, n: u16) -> bool {
 
 /// A page with these of the old page's entries under a new header.
 pub fn cut(old: &Page, entries: Range<usize>, head: Header) -> Page {
-    let size = entry_size(head.kind);
+    let at = |index| entry_at(head.kind, index);
     let count = entries.len();
     let mut page = Header { count, ..head }.page();
-    let from = HEADER + entries.start * size;
-    page[HEADER..HEADER + count * size].copy_from_slice(&old[from..from + count * size]);
+    page[at(0)..at(count)].copy_from_slice(&old[at(entries.start)..at(entries.start + count)]);
     page
 }
 
@@ -221,7 +234,7 @@ pub fn cut(old: &Page, entries: Range<usize>, head: Header) -> Page {
 pub fn put_leaf(page: &mut Page, new: LeafEntry) {
     let index = below(page, new.key);
     make_room(page, index);
-    let at = HEADER + index * LEAF_ENTRY;
+    let at = LEAF_HEADER + index * LEAF_ENTRY;
     put64(page, at + entry::KEY, new.key);
     put32(page, at + entry::RECORD, new.record);
 }
@@ -235,7 +248,7 @@ pub fn put_pair(page: &mut Page, index: usize, pair: [InnerEntry; 2]) {
 
 /// Writes an inner entry over whatever stands there.
 pub fn write_inner(page: &mut Page, index: usize, new: InnerEntry) {
-    let at = HEADER + index * INNER_ENTRY;
+    let at = INNER_HEADER + index * INNER_ENTRY;
     put64(page, at + entry::KEY, new.key);
     put16(page, at + entry::CHILD, new.child);
     put16(page, at + entry::PREVIOUS, new.previous);
@@ -244,12 +257,9 @@ pub fn write_inner(page: &mut Page, index: usize, new: InnerEntry) {
 
 /// Moves the entries from `index` on up by one. What lies behind the last one stays.
 pub fn make_room(page: &mut Page, index: usize) {
-    let size = entry_size(kind(page));
-    let count = count(page);
-    page.copy_within(
-        HEADER + index * size..HEADER + count * size,
-        HEADER + (index + 1) * size,
-    );
+    let (kind, count) = (kind(page), count(page));
+    let at = |index| entry_at(kind, index);
+    page.copy_within(at(index)..at(count), at(index + 1));
     put16(page, header::COUNT, (count + 1) as u16);
 }
 

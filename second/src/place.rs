@@ -4,6 +4,7 @@ use crate::broken::{broken, Rule};
 use crate::field::{get16, get32};
 use crate::layout::{zero, KIND_LEAF};
 use crate::page::{self, Header, Page};
+use crate::report::Reason;
 
 /// An entry as its child sees it. The root is a child too, and page 0 holds its entry.
 #[derive(Clone, Copy, PartialEq, Eq, Debug)]
@@ -56,15 +57,29 @@ impl Place {
         self.low <= key && key <= self.high
     }
 
-    /// Whether the page fits this entry. Births are compared because a page used again may
-    /// have the same range.
+    /// Whether the page fits this entry.
     pub fn fits(&self, child: &Page, n: u16) -> bool {
+        self.fails(child, n).is_none()
+    }
+
+    /// The first test that the page fails; none if it fits. Births are compared because a page used again may
+    /// have the same range.
+    pub fn fails(&self, child: &Page, n: u16) -> Option<Reason> {
         let head = Header::of(child);
-        self.asks_for(head.kind)
-            && (head.birth == self.birth || broken(Rule::BirthsCompared))
-            && head.low == self.low
-            && head.high == self.high
-            && page::sound(child, n)
+        let born = head.birth == self.birth || broken(Rule::BirthsCompared);
+        if !born && broken(Rule::ReasonOrder) {
+            Some(Reason::Birth)
+        } else if !page::sound(child, n) {
+            Some(Reason::Soundness)
+        } else if !self.asks_for(head.kind) {
+            Some(Reason::Kind)
+        } else if !born {
+            Some(Reason::Birth)
+        } else if (head.low, head.high) != (self.low, self.high) {
+            Some(Reason::Range)
+        } else {
+            None
+        }
     }
 
     /// The previous page, if a lost child can be mended from it.

@@ -1,6 +1,7 @@
 //! The proved store: a store whose calls are those that its library exports to C.
 
 use crate::key::parts;
+use crate::report::Report;
 use crate::session::Session;
 use crate::store::Store;
 
@@ -11,9 +12,17 @@ struct Answered {
 }
 
 #[repr(C)]
+struct Changed {
+    answer: u32,
+    report: Report,
+    session: Session,
+}
+
+#[repr(C)]
 struct Looked {
     answer: u32,
     record: u32,
+    report: Report,
     session: Session,
 }
 
@@ -22,6 +31,15 @@ struct Newest {
     answer: u32,
     issue: u32,
     record: u32,
+    report: Report,
+    session: Session,
+}
+
+#[repr(C)]
+struct Any {
+    answer: u32,
+    any: u32,
+    report: Report,
     session: Session,
 }
 
@@ -29,6 +47,7 @@ struct Newest {
 struct Listed {
     answer: u32,
     count: u64,
+    report: Report,
     session: Session,
 }
 
@@ -38,11 +57,13 @@ extern "C" {
     fn kh_format(working: *const u8, w: usize, stable: *mut u8, s: usize) -> u32;
     fn kh_open(working: *mut u8, w: usize, stable: *mut u8, s: usize) -> Answered;
     fn kh_insert(working: *mut u8, w: usize, stable: *const u8, s: usize, session: Session,
-                 model: u16, serial: u32, issue: u16, record: u32) -> Answered;
+                 model: u16, serial: u32, issue: u16, record: u32) -> Changed;
     fn kh_lookup(working: *mut u8, w: usize, stable: *const u8, s: usize, session: Session,
                  model: u16, serial: u32, issue: u16) -> Looked;
     fn kh_newest(working: *mut u8, w: usize, stable: *const u8, s: usize, session: Session,
                  model: u16, serial: u32) -> Newest;
+    fn kh_has_any(working: *mut u8, w: usize, stable: *const u8, s: usize, session: Session,
+                  model: u16, serial: u32) -> Any;
     fn kh_list(working: *mut u8, w: usize, stable: *const u8, s: usize, session: Session,
                start: u64, keys: *mut u64, k: usize, records: *mut u32, r: usize) -> Listed;
     fn kh_sync(working: *mut u8, w: usize, stable: *mut u8, s: usize, session: Session) -> Answered;
@@ -85,6 +106,7 @@ impl Proved {
         let inserted =
             unsafe { kh_insert(working, w, stable, s, session, model, serial, issue, record) };
         self.0.session = inserted.session;
+        self.0.report = inserted.report;
         inserted.answer
     }
 
@@ -95,6 +117,7 @@ impl Proved {
         let session = self.0.session;
         let looked = unsafe { kh_lookup(working, w, stable, s, session, model, serial, issue) };
         self.0.session = looked.session;
+        self.0.report = looked.report;
         (looked.answer, looked.record)
     }
 
@@ -104,7 +127,18 @@ impl Proved {
         let session = self.0.session;
         let newest = unsafe { kh_newest(working, w, stable, s, session, model, serial) };
         self.0.session = newest.session;
+        self.0.report = newest.report;
         (newest.answer, newest.issue, newest.record)
+    }
+
+    pub fn has_any(&mut self, model: u16, serial: u32) -> (u32, u32) {
+        let (working, w) = lend!(mut self.0.working);
+        let (stable, s) = lend!(self.0.stable);
+        let session = self.0.session;
+        let has = unsafe { kh_has_any(working, w, stable, s, session, model, serial) };
+        self.0.session = has.session;
+        self.0.report = has.report;
+        (has.answer, has.any)
     }
 
     pub fn list(&mut self, start: u64, keys: &mut [u64], records: &mut [u32]) -> (u32, u64) {
@@ -115,6 +149,7 @@ impl Proved {
         let session = self.0.session;
         let listed = unsafe { kh_list(working, w, stable, s, session, start, keys, k, records, r) };
         self.0.session = listed.session;
+        self.0.report = listed.report;
         (listed.answer, listed.count)
     }
 

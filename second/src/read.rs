@@ -1,10 +1,11 @@
-//! Lookup, newest and list.
+//! Lookup, newest, has-any and list.
 
 use crate::answer::{DAMAGED, DONE, NONE};
 use crate::broken::{broken, Rule};
 use crate::key::{issues, key, parts, whole};
 use crate::layout::LAST_FINAL;
 use crate::page::{self, LeafEntry};
+use crate::report::Report;
 use crate::session::Session;
 use crate::walk::{begin, descend, Visit};
 
@@ -12,6 +13,7 @@ use crate::walk::{begin, descend, Visit};
 pub struct Looked {
     pub answer: u32,
     pub record: u32,
+    pub report: Report,
     pub session: Session,
 }
 
@@ -20,6 +22,15 @@ pub struct Newest {
     pub answer: u32,
     pub issue: u16,
     pub record: u32,
+    pub report: Report,
+    pub session: Session,
+}
+
+#[derive(Clone, Copy, PartialEq, Eq, Debug)]
+pub struct HasAny {
+    pub answer: u32,
+    pub any: bool,
+    pub report: Report,
     pub session: Session,
 }
 
@@ -27,6 +38,7 @@ pub struct Newest {
 pub struct Listed {
     pub answer: u32,
     pub count: usize,
+    pub report: Report,
     pub session: Session,
 }
 
@@ -39,10 +51,11 @@ pub fn lookup(
     issue: u16,
 ) -> Looked {
     let key = key(model, serial, issue);
+    let mut report = Report::default();
     let mut answer = begin(working, stable, &session, whole(key));
     let mut record = 0;
     if answer == DONE {
-        (answer, record) = match descend(working, &session, key) {
+        (answer, record) = match descend(working, &session, key, &mut report) {
             Err(_) => (DAMAGED, 0),
             Ok(way) => match page::find(page::page(working, way.last().place.child), key) {
                 None => (NONE, 0),
@@ -53,6 +66,7 @@ pub fn lookup(
     Looked {
         answer,
         record,
+        report: report.beside(answer),
         session,
     }
 }
@@ -64,39 +78,68 @@ pub fn newest(
     model: u16,
     serial: u32,
 ) -> Newest {
-    let answer = begin(working, stable, &session, model != 0 && serial != 0);
-    let refused = |answer| Newest {
-        answer,
-        issue: 0,
-        record: 0,
-        session,
-    };
-    if answer != DONE {
-        return refused(answer);
-    }
+    let mut report = Report::default();
+    let mut answer = begin(working, stable, &session, model != 0 && serial != 0);
     // Issues above are provisional: their pages are not entered.
     let end = LAST_FINAL + u16::from(broken(Rule::FinalIssues));
     let mut last: Option<LeafEntry> = None;
-    let walked = Visit {
-        working,
-        session: &session,
-        asked: issues(model, serial, end),
-        room: usize::MAX,
-        seen: |entry| last = Some(entry),
-    }
-    .run();
-    match (walked, last) {
-        (Err(_), _) => refused(DAMAGED),
-        (Ok(()), None) => refused(NONE),
-        (Ok(()), Some(entry)) => {
-            let (_, _, issue) = parts(entry.key);
-            Newest {
-                answer: DONE,
-                issue,
-                record: entry.record,
-                session,
-            }
+    if answer == DONE {
+        let walked = Visit {
+            working,
+            session: &session,
+            asked: issues(model, serial, end),
+            room: usize::MAX,
+            report: &mut report,
+            seen: |entry| last = Some(entry),
         }
+        .run();
+        answer = match walked {
+            Err(_) => DAMAGED,
+            Ok(()) if last.is_none() => NONE,
+            Ok(()) => DONE,
+        };
+    }
+    let found = last.filter(|_| answer == DONE);
+    Newest {
+        answer,
+        issue: found.map_or(0, |entry| parts(entry.key).2),
+        record: found.map_or(0, |entry| entry.record),
+        report: report.beside(answer),
+        session,
+    }
+}
+
+/// Whether a meter has any certificate, a provisional one too. With room for one the walk ends in the leaf that has the
+/// first.
+pub fn has_any(
+    working: &mut [u8],
+    stable: &[u8],
+    session: Session,
+    model: u16,
+    serial: u32,
+) -> HasAny {
+    let mut report = Report::default();
+    let mut answer = begin(working, stable, &session, model != 0 && serial != 0);
+    let mut any = false;
+    if answer == DONE {
+        let walked = Visit {
+            working,
+            session: &session,
+            asked: issues(model, serial, u16::MAX),
+            room: 1,
+            report: &mut report,
+            seen: |_| any = true,
+        }
+        .run();
+        if walked.is_err() {
+            answer = DAMAGED;
+        }
+    }
+    HasAny {
+        answer,
+        any,
+        report: report.beside(answer),
+        session,
     }
 }
 
@@ -110,34 +153,32 @@ pub fn list(
     keys: &mut [u64],
     records: &mut [u32],
 ) -> Listed {
-    let refused = |answer| Listed {
-        answer,
-        count: 0,
-        session,
-    };
-    let answer = begin(working, stable, &session, true);
-    if answer != DONE {
-        return refused(answer);
-    }
+    let mut report = Report::default();
+    let mut answer = begin(working, stable, &session, true);
     let mut shown = Vec::new();
-    let walked = Visit {
-        working,
-        session: &session,
-        asked: start..=u64::MAX,
-        room: keys.len().min(records.len()),
-        seen: |entry| shown.push(entry),
-    }
-    .run();
-    if walked.is_err() {
-        return refused(DAMAGED);
+    if answer == DONE {
+        let walked = Visit {
+            working,
+            session: &session,
+            asked: start..=u64::MAX,
+            room: keys.len().min(records.len()),
+            report: &mut report,
+            seen: |entry| shown.push(entry),
+        }
+        .run();
+        if walked.is_err() {
+            answer = DAMAGED;
+            shown.clear();
+        }
     }
     for (index, entry) in shown.iter().enumerate() {
         keys[index] = entry.key;
         records[index] = entry.record;
     }
     Listed {
-        answer: DONE,
+        answer,
         count: shown.len(),
+        report: report.beside(answer),
         session,
     }
 }

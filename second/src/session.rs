@@ -9,16 +9,19 @@ use crate::way::Way;
 pub struct Session {
     pub n: u16,
     pub c: u32,
+    /// How many certificates the store holds. A session handed in may hold any number: it wraps.
+    pub total: u32,
     pub free: [bool; PAGES_MOST],
     pub waiting: [bool; PAGES_MOST],
 }
 
 impl Session {
-    /// A session without marks. With n and c 0 it is what a refused opening hands out.
+    /// A session without marks and certificates. With n and c 0 it is what a refused opening hands out.
     pub fn new(n: u16, c: u32) -> Session {
         Session {
             n,
             c,
+            total: 0,
             free: [false; PAGES_MOST],
             waiting: [false; PAGES_MOST],
         }
@@ -51,6 +54,11 @@ impl Session {
     /// The page becomes free at the next sync. Its free mark stays as it is.
     pub fn wait(&mut self, number: u16) {
         self.waiting[usize::from(number)] = true;
+    }
+
+    /// A certificate was put in.
+    pub fn one_more(&mut self) {
+        self.total = self.total.wrapping_add(1);
     }
 
     /// A sync has reached the stable table: the counter rises, what waited is free.

@@ -2,24 +2,44 @@
 
 use crate::key::parts;
 use crate::layout::PAGE;
+use crate::report::Report;
 use crate::session::Session;
-use crate::{crash, format, insert, list, lookup, newest, open, sync};
+use crate::{crash, format, has_any, insert, list, lookup, newest, open, sync};
 
-#[derive(Clone, PartialEq, Eq, Debug)]
+#[derive(Clone, Debug)]
 pub struct Store {
     pub working: Vec<u8>,
     pub stable: Vec<u8>,
     pub session: Session,
+    /// What the last call that walks told of its mends.
+    pub report: Report,
 }
 
+/// Stores are the same if their tables and sessions are: a report tells of a call.
+impl PartialEq for Store {
+    fn eq(&self, other: &Store) -> bool {
+        self.working == other.working
+            && self.stable == other.stable
+            && self.session == other.session
+    }
+}
+
+impl Eq for Store {}
+
 impl Store {
+    pub fn of(working: Vec<u8>, stable: Vec<u8>, session: Session) -> Store {
+        Store {
+            working,
+            stable,
+            session,
+            report: Report::default(),
+        }
+    }
+
     /// Fresh from format and open.
     pub fn fresh(n: usize) -> Store {
-        let mut store = Store {
-            working: vec![0; n * PAGE],
-            stable: vec![0; n * PAGE],
-            session: Session::new(0, 0),
-        };
+        let zero = vec![0; n * PAGE];
+        let mut store = Store::of(zero.clone(), zero, Session::new(0, 0));
         format(&store.working, &mut store.stable);
         store.open();
         store
@@ -40,17 +60,11 @@ impl Store {
     pub fn insert(&mut self, key: u64, record: u32) -> u32 {
         let (model, serial, issue) = parts(key);
         let working = &mut self.working;
-        let (answer, session) = insert(
-            working,
-            &self.stable,
-            self.session,
-            model,
-            serial,
-            issue,
-            record,
-        );
-        self.session = session;
-        answer
+        let session = self.session;
+        let inserted = insert(working, &self.stable, session, model, serial, issue, record);
+        self.session = inserted.session;
+        self.report = inserted.report;
+        inserted.answer
     }
 
     pub fn lookup(&mut self, key: u64) -> (u32, u32) {
@@ -58,19 +72,30 @@ impl Store {
         let working = &mut self.working;
         let looked = lookup(working, &self.stable, self.session, model, serial, issue);
         self.session = looked.session;
+        self.report = looked.report;
         (looked.answer, looked.record)
     }
 
     pub fn newest(&mut self, model: u16, serial: u32) -> (u32, u16, u32) {
         let newest = newest(&mut self.working, &self.stable, self.session, model, serial);
         self.session = newest.session;
+        self.report = newest.report;
         (newest.answer, newest.issue, newest.record)
+    }
+
+    pub fn has_any(&mut self, model: u16, serial: u32) -> (u32, bool) {
+        let working = &mut self.working;
+        let has = has_any(working, &self.stable, self.session, model, serial);
+        self.session = has.session;
+        self.report = has.report;
+        (has.answer, has.any)
     }
 
     pub fn list(&mut self, start: u64, keys: &mut [u64], records: &mut [u32]) -> (u32, usize) {
         let working = &mut self.working;
         let listed = list(working, &self.stable, self.session, start, keys, records);
         self.session = listed.session;
+        self.report = listed.report;
         (listed.answer, listed.count)
     }
 

@@ -5,6 +5,7 @@ use crate::field::get16;
 use crate::layout::{zero, KIND_LEAF, KIND_ZERO, PAGE, PAGES_LEAST, PAGES_MOST};
 use crate::page::{self, LeafEntry};
 use crate::place::Place;
+use crate::report::Report;
 use crate::session::Session;
 use crate::way::Way;
 use std::ops::RangeInclusive;
@@ -45,31 +46,38 @@ pub fn begin(working: &[u8], stable: &[u8], session: &Session, whole: bool) -> u
     }
 }
 
-/// Enters a place below the pages on the way; a lost child is mended.
+/// Enters a place below the pages on the way; a lost child is mended and reported.
 pub fn enter(
     working: &mut [u8],
     session: &Session,
     place: &Place,
     way: &Way,
+    report: &mut Report,
 ) -> Result<(), Damaged> {
     if way.holds(place.child) {
         return Err(Damaged);
     }
-    if place.fits(page::page(working, place.child), session.n) {
+    let Some(reason) = place.fails(page::page(working, place.child), session.n) else {
         return Ok(());
-    }
+    };
     let source = place.source(working, session.n).ok_or(Damaged)?;
     let mended = place.mended(source, session.c);
     *page::page_mut(working, place.child) = mended;
+    report.add(reason);
     Ok(())
 }
 
 /// Enters the pages whose range holds the key, down to the leaf.
-pub fn descend(working: &mut [u8], session: &Session, key: u64) -> Result<Way, Damaged> {
+pub fn descend(
+    working: &mut [u8],
+    session: &Session,
+    key: u64,
+    report: &mut Report,
+) -> Result<Way, Damaged> {
     let mut way = Way::new();
     let (mut place, mut index) = (Place::root(working), 0);
     loop {
-        enter(working, session, &place, &way)?;
+        enter(working, session, &place, &way, report)?;
         way.push(place, index);
         let entered = page::page(working, place.child);
         if page::kind(entered) == KIND_LEAF {
@@ -87,6 +95,7 @@ pub struct Visit<'a, F: FnMut(LeafEntry)> {
     pub session: &'a Session,
     pub asked: RangeInclusive<u64>,
     pub room: usize,
+    pub report: &'a mut Report,
     pub seen: F,
 }
 
@@ -101,7 +110,7 @@ impl<F: FnMut(LeafEntry)> Visit<'_, F> {
         if self.room == 0 || !meets {
             return Ok(());
         }
-        enter(self.working, self.session, &place, way)?;
+        enter(self.working, self.session, &place, way, self.report)?;
         let entered = page::page(self.working, place.child);
         if page::kind(entered) == KIND_LEAF {
             self.show(place.child);

@@ -6,6 +6,7 @@ use common::{by_hand, head, header, inner, leaf, NOW};
 use second::answer::{DAMAGED, DONE, NONE};
 use second::key::key;
 use second::page::Page;
+use second::report::Report;
 use second::store::Store;
 
 const TOP: u64 = u64::MAX;
@@ -66,11 +67,12 @@ fn a_page_of_provisional_ones_is_not_entered() {
     let first = leaf(header(1, 0, at - 1), [key(7, 5, 3)]);
     let previous = leaf(header(1, 0, TOP), [at]);
 
-    // Lost: not mended.
+    // Lost: neither mended nor told of.
     let mut store = divided(at, &[(2, first), (4, previous)]);
     let before = store.clone();
     assert_eq!(store.newest(7, 5), (DONE, 3, 1));
     assert!(store == before);
+    assert_eq!(store.report, Report::default());
     assert_eq!(store.lookup(at), (DONE, 1));
     assert_eq!(head(&store, 3).built, NOW, "lookup mends it");
 
@@ -88,7 +90,7 @@ fn a_page_of_one_more_issue_is_entered() {
     let previous = leaf(header(1, 0, TOP), [at]);
     let mut store = divided(at, &[(2, first), (4, previous)]);
     assert_eq!(store.newest(7, 5), (DONE, LAST, 1));
-    assert_eq!(head(&store, 3).built, NOW, "newest mends it");
+    assert_eq!(store.report.mended, 1);
     let mut store = divided(at, &[(2, first)]);
     assert_eq!(store.newest(7, 5), (DAMAGED, 0, 0));
 }

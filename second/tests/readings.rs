@@ -6,8 +6,9 @@ use common::{by_hand, head, header, inner, leaf, marked, pages, serial, NOW, OLD
 use second::answer::{BADKEY, DAMAGED, DONE, FULL, LENGTH, NONE, PRESENT, SYNCFIRST};
 use second::field::{get16, get32, put32};
 use second::key::{key, parts};
-use second::layout::{header as at, zero, HEADER, INNER_CAP, LEAF_CAP, LEAF_ENTRY, PAGE};
+use second::layout::{header as at, zero, INNER_CAP, LEAF_CAP, LEAF_ENTRY, LEAF_HEADER, PAGE};
 use second::page::{self, Header, Page};
+use second::report::Report;
 use second::session::Session;
 use second::store::Store;
 use second::tree::Tree;
@@ -46,7 +47,7 @@ fn reading_1_both_tables_lent_to_every_call() {
     let (mut w, mut s) = (good.working.clone(), short.clone());
     assert_eq!(format(&w, &mut s), LENGTH);
     assert_eq!(open(&mut w, &mut s).0, LENGTH);
-    assert_eq!(insert(&mut w, &s, session, 7, 2, 1, 1).0, LENGTH);
+    assert_eq!(insert(&mut w, &s, session, 7, 2, 1, 1).answer, LENGTH);
     assert_eq!(lookup(&mut w, &s, session, 7, 1, 1).answer, LENGTH);
     assert_eq!(newest(&mut w, &s, session, 7, 1).answer, LENGTH);
     assert_eq!(
@@ -191,11 +192,11 @@ fn reading_6_inner_page_built_now_but_not_touched() {
 #[test]
 fn reading_7_in_place_changes_leave_the_rest() {
     let mut page = leaf(header(1, 0, TOP), [serial(3)]);
-    page[HEADER + LEAF_ENTRY..].fill(0xAA);
+    page[LEAF_HEADER + LEAF_ENTRY..].fill(0xAA);
     let mut store = by_hand(5, 1, 0, &[(1, page)]);
     store.session.free[2..5].fill(true);
     assert_eq!(store.insert(serial(1), 1), DONE);
-    let end = HEADER + 2 * LEAF_ENTRY;
+    let end = LEAF_HEADER + 2 * LEAF_ENTRY;
     assert!(page::page(&store.working, 1)[end..]
         .iter()
         .all(|&b| b == 0xAA));
@@ -207,8 +208,8 @@ fn reading_7_in_place_changes_leave_the_rest() {
         assert_eq!(store.insert(serial(s), s), DONE);
     }
     for built in [2, 3, 4] {
-        let size = page::entry_size(head(&store, built).kind);
-        let end = HEADER + head(&store, built).count * size;
+        let head = head(&store, built);
+        let end = page::entry_at(head.kind, head.count);
         assert!(page::page(&store.working, built)[end..]
             .iter()
             .all(|&b| b == 0));
@@ -320,7 +321,8 @@ fn climb(store: &mut Store) -> Vec<u64> {
     let mut keys = Vec::new();
     let mut start = Some(0);
     while let Some(from) = start {
-        let way = descend(&mut store.working, &store.session, from).expect("no damage");
+        let untold = &mut Report::default();
+        let way = descend(&mut store.working, &store.session, from, untold).expect("no damage");
         let leaf = page::page(&store.working, way.last().place.child);
         keys.extend(page::leaf_entries(leaf).map(|entry| entry.key));
         start = way.last().place.high.checked_add(1);

@@ -10,7 +10,7 @@ use second::layout::{zero, LAST_NUMBER, LEAF_CAP, PAGE};
 use second::page::{page_mut, Page};
 use second::session::Session;
 use second::store::Store;
-use second::{format, insert, list, lookup, newest, open, sync};
+use second::{format, has_any, insert, list, lookup, newest, open, sync};
 
 /// Lengths of working and stable that no call takes, in bytes.
 const LENGTHS: [(usize, usize); 10] = [
@@ -31,6 +31,7 @@ fn marked(n: u16) -> Session {
     Session {
         n,
         c: 3,
+        total: 9,
         free: [true; 128],
         waiting: [true; 128],
     }
@@ -40,13 +41,17 @@ fn marked(n: u16) -> Session {
 fn all_refuse(working: &[u8], stable: &[u8], session: Session) {
     let (mut w, mut s) = (working.to_vec(), stable.to_vec());
     let (mut keys, mut records) = ([11; 3], [12; 3]);
-    assert_eq!(insert(&mut w, &s, session, 0, 2, 1, 1), (LENGTH, session));
+    let inserted = insert(&mut w, &s, session, 0, 2, 1, 1);
+    assert_eq!((inserted.answer, inserted.session), (LENGTH, session));
     let looked = lookup(&mut w, &s, session, 7, 1, 0);
     assert_eq!((looked.answer, looked.record), (LENGTH, 0));
     assert_eq!(looked.session, session);
     let newest = newest(&mut w, &s, session, 7, 0);
     assert_eq!((newest.answer, newest.issue, newest.record), (LENGTH, 0, 0));
     assert_eq!(newest.session, session);
+    let has = has_any(&mut w, &s, session, 7, 0);
+    assert_eq!((has.answer, has.any), (LENGTH, false));
+    assert_eq!(has.session, session);
     let listed = list(&mut w, &s, session, 0, &mut keys, &mut records);
     assert_eq!((listed.answer, listed.count), (LENGTH, 0));
     assert_eq!(listed.session, session);
@@ -93,6 +98,8 @@ fn bad_keys() {
     }
     unchanged(&mut store, BADKEY, |store| store.newest(0, 1).0);
     unchanged(&mut store, BADKEY, |store| store.newest(7, 0).0);
+    unchanged(&mut store, BADKEY, |store| store.has_any(0, 1).0);
+    unchanged(&mut store, BADKEY, |store| store.has_any(7, 0).0);
 }
 
 #[test]
@@ -175,6 +182,7 @@ fn unfit_page_zero() {
         unchanged(&mut store, DAMAGED, |store| store.insert(serial(3), 3));
         unchanged(&mut store, DAMAGED, |store| store.lookup(serial(1)).0);
         unchanged(&mut store, DAMAGED, |store| store.newest(7, 1).0);
+        unchanged(&mut store, DAMAGED, |store| store.has_any(7, 1).0);
         unchanged(&mut store, DAMAGED, |store| {
             store.list(0, &mut [0; 2], &mut [0; 2]).0
         });

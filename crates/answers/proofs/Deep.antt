@@ -2,11 +2,11 @@
 -- Assumes nothing.
 use Prim.Native.Nat.{ℕ, suc, _-_, _≤_}
 use native.Mathlib.Omega.{arith}
-use mathlib.Core.Path.{_≡_, refl, sym, ap}
+use mathlib.Core.Path.{_≡_, refl, ap}
 use mathlib.Core.Logic.{_⊎_, inl, inr}
 use mathlib.Core.Bool.{Bool, true, false}
 use mathlib.Core.List.{List, [], _∷_, List·Memᴰ, List·Memᴰ·cases-cons, List·Memᴰ·not-nil}
-use mathlib.Core.Option.{some, none, Option·none-ne-some, Option·some-injective}
+use mathlib.Core.Option.{some, Option·none-ne-some, Option·some-injective}
 use Rattle.rules.specs.Layout.{topKind, leafKind}
 use Rattle.rules.specs.Test.{mem}
 use Rattle.rules.specs.Entry.{Child}
@@ -35,19 +35,6 @@ module _ (n c : ℕ) (above : List ℕ) (t : List ℕ) (e : Place) where
           (ap (λ (x : Page). some (x .view))
           (Option·some-injective (mended c e (read t (e .previous))) p (rw (m, enter, f, mend, g) at h)))
       go false m false f false g = absurd (Option·none-ne-some p (rw (m, enter, f, mend, g) at h))
-
-  -- a damaged place leaves the table as it is
-  pub enter-damaged : enter n c above t e .page ≡ none → enter n c above t e .table ≡ t
-  unfolding enter mend
-  enter-damaged h =
-      go (mem (e .child) above) refl (fits n e (read t (e .child))) refl (mendable n e (read t (e .previous))) refl
-    where
-      go : (a : Bool) → mem (e .child) above ≡ a → (b : Bool) → fits n e (read t (e .child)) ≡ b
-          → (d : Bool) → mendable n e (read t (e .previous)) ≡ d → enter n c above t e .table ≡ t
-      go true m b f d g = rw (m, enter)
-      go false m true f d g = rw (m, enter, f)
-      go false m false f true g = absurd (Option·none-ne-some (mended c e (read t (e .previous))) (sym (rw (m, enter, f, mend, g) at h)))
-      go false m false f false g = rw (m, enter, f, mend, g)
 
 -- ── Within the levels ───────────────────────────────────────────────────────────────────────────────────────────
 

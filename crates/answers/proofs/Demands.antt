@@ -1,30 +1,32 @@
 -- Demand 1. Assumes nothing.
 use mathlib.Core.Path.{_≡_, refl, ap}
 use mathlib.Core.Bool.{false}
-use Rattle.rules.specs.Call.{formattedNo, openedNo, insertedNo, lookedNo, lookedRecord, newestNo, newestIssue, newestRecord, listedNo, listedCount, syncedNo}
+use Rattle.rules.specs.Call.{formattedNo, openedNo, insertedNo, lookedNo, lookedRecord, newestNo, newestIssue, newestRecord, anyNo, anyYes, listedNo, listedCount, syncedNo}
 use Rattle.rules.specs.Format.{format}
 use Rattle.rules.specs.Open.{opening}
 use Rattle.rules.specs.Insert.{insert}
 use Rattle.rules.specs.Lookup.{lookup}
 use Rattle.rules.specs.Newest.{newest}
+use Rattle.rules.specs.HasAny.{hasAny}
 use Rattle.rules.specs.List.{list}
 use Rattle.rules.specs.Sync.{sync}
 use Rattle.rules.specs.declared.Formatted.{Formatted}
 use Rattle.rules.specs.declared.Opened.{Opened}
 use Rattle.rules.specs.declared.Looked.{Looked}
 use Rattle.rules.specs.declared.Newest.{Newest}
+use Rattle.rules.specs.declared.Any.{Any}
 use Rattle.rules.specs.declared.Listed.{Listed}
 use Rattle.rules.specs.declared.Synced.{Synced}
 use Rattle.rules.proofs.demand1.Refusals as rules
-use Rattle.answers.specs.Causes.{formatCauses, openCauses, insertCauses, lookupCauses, newestCauses, listCauses, syncCauses}
+use Rattle.answers.specs.Causes.{formatCauses, openCauses, insertCauses, lookupCauses, newestCauses, anyCauses, listCauses, syncCauses}
 use Rattle.answers.specs.Demand1.{Refused, Demand1}
 use Rattle.answers.proofs.Exactly.{given-number}
 use Rattle.answers.proofs.Ends.{format-given, open-given, sync-given}
 use Rattle.answers.proofs.Looks.{lookup-given}
 use Rattle.answers.proofs.Inserts.{insert-given}
-use Rattle.answers.proofs.Ranges.{newest-given, list-given}
+use Rattle.answers.proofs.Ranges.{newest-given, any-given, list-given}
 use Rattle.answers.proofs.Refused.{insert-mended, insert-unwalked, insert-stands, lookup-mended, lookup-stands}
-use Rattle.answers.proofs.Lefts.{newest-mended, newest-stands, list-mended, list-stands}
+use Rattle.answers.proofs.Lefts.{newest-mended, newest-stands, any-mended, any-stands, list-mended, list-stands}
 
 -- ── The numbers beside a refusal ────────────────────────────────────────────────────────────────────────────────
 
@@ -51,6 +53,14 @@ record-of-newest-zero Newest.Length h = refl
 record-of-newest-zero Newest.BadKey h = refl
 record-of-newest-zero Newest.Damaged h = refl
 record-of-newest-zero Newest.Missing h = refl
+
+no-yes : (a : Any) → Refused (anyNo a) → anyYes a ≡ 0
+unfolding anyNo anyYes
+no-yes Any.Yes h = absurd (h refl)
+no-yes Any.No h = absurd (h refl)
+no-yes Any.Length h = refl
+no-yes Any.BadKey h = refl
+no-yes Any.Damaged h = refl
 
 listed-zero : (a : Listed) → Refused (listedNo a) → listedCount a ≡ 0
 unfolding listedNo listedCount
@@ -94,6 +104,9 @@ demand1 = record {
   newest-answers = λ w t s model serial.
       given-number (newestCauses w t s model serial) (newestNo (newest w t s model serial .answer))
       (newest-given w t s model serial);
+  any-answers = λ w t s model serial.
+      given-number (anyCauses w t s model serial) (anyNo (hasAny w t s model serial .answer))
+      (any-given w t s model serial);
   list-answers = λ w t s start ks xs.
       given-number (listCauses w t s start ks xs) (listedNo (list w t s start ks xs .answer))
       (list-given w t s start ks xs);
@@ -102,10 +115,12 @@ demand1 = record {
   insert-unwalked = insert-unwalked;
   lookup-mends = lookup-mended;
   newest-mends = newest-mended;
+  any-mends = any-mended;
   list-mends = list-mended;
   insert-stands = insert-stands;
   lookup-stands = lookup-stands;
   newest-stands = newest-stands;
+  any-stands = any-stands;
   list-stands = list-stands;
   open-refused = λ w s h. rules.opening-refused w s (not-opened (opening w s .answer) h);
   sync-refused = λ w t s h. rules.sync-refused w t s (not-synced (sync w t s .answer) h);
@@ -116,6 +131,7 @@ demand1 = record {
   record-zero = looked-zero;
   newest-issue-zero = issue-zero;
   newest-record-zero = record-of-newest-zero;
+  any-zero = no-yes;
   count-zero = listed-zero;
   format-stable = λ w s h. rules.format-refused w s (not-formatted (format w s .answer) h);
   insert-stable = rules.insert-stable;

@@ -11,7 +11,7 @@ use Rattle.rules.specs.Layout.{topKind}
 use Rattle.rules.specs.Page.{View, Page}
 use Rattle.rules.specs.Place.{rootPlace, kids, pick, show}
 use Rattle.rules.specs.Enter.{enter}
-use Rattle.rules.specs.Walk.{Step, numbers, descend, wayOf, Walked, enters, finds, walkEach, walk, walkOf}
+use Rattle.rules.specs.Walk.{Step, numbers, descend, wayOf, Walked, enters, finds, walkEach, walk, walkOf, unwalked, noted}
 use Rattle.rules.specs.Tree.{Tree, join, here, treeEach, tree, treeOf}
 use Rattle.rules.specs.declared.Place.{Place}
 use Rattle.rules.specs.declared.Asked.{Asked}
@@ -75,7 +75,7 @@ range-step level n c a above e w deep rest = go (enters a e w) refl (enter n c a
         (each-same (walk (suc level) n c a (e .child ∷ above)) (walk level n c a (e .child ∷ above)) (kids e (x .view))
         (λ d m w′. rest (e .child ∷ above) d w′
         (kid-deep n (w .table) level e (x .view) deep (enter-shows n c above (w .table) e x q) d m))
-        (finds a (x .view) w (enter n c above (w .table) e .table)))
+        (finds a (x .view) (noted n e w) (enter n c above (w .table) e .table)))
 
 pub range-more : (level n c : ℕ) (a : Asked) (above : List ℕ) (e : Place) (w : Walked) → Deep level e
     → walk (suc level) n c a above e w ≡ walk level n c a above e w
@@ -123,12 +123,12 @@ way-levels n c k t (suc more) =
     rw suc-add (way-more (more + topKind) n c k [] t (rootPlace t) (root-deep t more) ∙ way-levels n c k t more)
 
 range-levels : (n c : ℕ) (a : Asked) (t : List ℕ) (more : ℕ)
-    → walk (more + topKind) n c a [] (rootPlace t) (record { table = t; whole = true; found = [] }) ≡ walkOf n c a t
+    → walk (more + topKind) n c a [] (rootPlace t) (unwalked t) ≡ walkOf n c a t
 unfolding walkOf
 range-levels n c a t zero = refl
 range-levels n c a t (suc more) =
     rw suc-add
-    (range-more (more + topKind) n c a [] (rootPlace t) (record { table = t; whole = true; found = [] }) (root-deep t more)
+    (range-more (more + topKind) n c a [] (rootPlace t) (unwalked t) (root-deep t more)
     ∙ range-levels n c a t more)
 
 tree-levels : (n : ℕ) (t : List ℕ) (more : ℕ) → tree (more + topKind) n t (rootPlace t) ≡ treeOf n t

@@ -13,8 +13,9 @@ use Rattle.rules.specs.Enter.{Entered, enter}
 use Rattle.rules.specs.Walk.{Step, Way, numbers, descend, wayOf}
 use Rattle.rules.specs.declared.Place.{Place}
 use Rattle.rules.proofs.entries.Picks.{pick-mem}
+use Rattle.rules.proofs.demand1.WalkSteps.{enter-damaged}
 use Rattle.answers.specs.OneKey.{Reaches, MeetsDamage, EndsIn, at-damage, at-leaf}
-use Rattle.answers.proofs.Deep.{Deep, not-out, enter-shows, enter-damaged, kid-deep}
+use Rattle.answers.proofs.Deep.{Deep, not-out, enter-shows, kid-deep}
 
 -- ── One step of the walk ────────────────────────────────────────────────────────────────────────────────────────
 

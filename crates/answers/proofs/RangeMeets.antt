@@ -10,13 +10,13 @@ use Rattle.rules.specs.Layout.{topKind}
 use Rattle.rules.specs.Test.{every}
 use Rattle.rules.specs.Place.{rootPlace, kids}
 use Rattle.rules.specs.Enter.{Entered, enter}
-use Rattle.rules.specs.Walk.{Walked, enters, finds, stops, walkEach, walk, walkOf}
+use Rattle.rules.specs.Walk.{Walked, enters, finds, stops, walkEach, walk, walkOf, noted}
 use Rattle.rules.specs.declared.Place.{Place}
 use Rattle.rules.specs.declared.Asked.{Asked}
 use Rattle.rules.proofs.entries.Tests.{not-both}
-use Rattle.rules.proofs.demand1.WalkSteps.{walk-entered}
+use Rattle.rules.proofs.demand1.WalkSteps.{enter-damaged, walk-entered}
 use Rattle.answers.specs.Range.{Parent, numbersOf, Comes, MeetsDamageIn, StopsIn}
-use Rattle.answers.proofs.Deep.{Deep, not-out, enter-shows, enter-damaged, kid-deep}
+use Rattle.answers.proofs.Deep.{Deep, not-out, enter-shows, kid-deep}
 use Rattle.answers.proofs.RangeSteps.{mem-here, mem-before, each-append, walk-broken, passed-same}
 use Rattle.answers.proofs.RangeWalks.{walk-keeps}
 
@@ -53,7 +53,7 @@ module _ (n c : ℕ) (a : Asked) (t : List ℕ) where
   standing-below : (s : Parent) (above : List Parent) (v w : Walked) (e : Place) → enters a (s .place) v ≡ true
       → enter n c (numbersOf above) (v .table) (s .place) ≡ record { table = s .table; page = some (s .page) }
       → kids (s .place) (s .page .view) ≡ s .passed ++ (e ∷ s .later)
-      → w ≡ walkEach (walk topKind n c a (numbersOf (s ∷ above))) (s .passed) (finds a (s .page .view) v (s .table))
+      → w ≡ walkEach (walk topKind n c a (numbersOf (s ∷ above))) (s .passed) (finds a (s .page .view) (noted n (s .place) v) (s .table))
       → (level over : ℕ) → over + level ≡ topKind → Deep level (s .place)
       → (walk level n c a (numbersOf above) (s .place) v .whole ≡ false → walkOf n c a t .whole ≡ false)
       → Standing (s ∷ above) w e
@@ -77,7 +77,7 @@ module _ (n c : ℕ) (a : Asked) (t : List ℕ) where
           (enter-shows n c (numbersOf above) (v .table) (s .place) (s .page) page) d (rw q m)
 
       start : Walked
-      start = finds a (s .page .view) v (s .table)
+      start = finds a (s .page .view) (noted n (s .place) v) (s .table)
 
       same : walkEach (walk level n c a (numbersOf (s ∷ above))) (s .passed) start ≡ w
       same =
@@ -89,7 +89,7 @@ module _ (n c : ℕ) (a : Asked) (t : List ℕ) where
       walked =
           walk-entered level n c a (numbersOf above) (s .place) v p (s .page) page
           ∙ (ap (λ (r : Entered). walkEach (walk level n c a (numbersOf (s ∷ above))) (kids (s .place) (s .page .view))
-          (finds a (s .page .view) v (r .table))) h
+          (finds a (s .page .view) (noted n (s .place) v) (r .table))) h
           ∙ (ap (λ (es : List Place). walkEach (walk level n c a (numbersOf (s ∷ above))) es start) q
           ∙ (each-append (walk level n c a (numbersOf (s ∷ above))) (s .passed) (e ∷ s .later) start
           ∙ ap (λ (r : Walked). walkEach (walk level n c a (numbersOf (s ∷ above))) (e ∷ s .later) r) same)))

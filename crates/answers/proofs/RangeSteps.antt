@@ -11,7 +11,7 @@ use Rattle.rules.specs.Layout.{topKind}
 use Rattle.rules.specs.Page.{Page}
 use Rattle.rules.specs.Place.{kids}
 use Rattle.rules.specs.Enter.{enter}
-use Rattle.rules.specs.Walk.{Walked, enters, finds, stops, walkEach, walk}
+use Rattle.rules.specs.Walk.{Walked, enters, finds, stops, walkEach, walk, noted}
 use Rattle.rules.specs.declared.Place.{Place}
 use Rattle.rules.specs.declared.Asked.{Asked}
 use Rattle.rules.proofs.demand1.WalkSteps.{walk-damaged}
@@ -85,7 +85,7 @@ module _ (n c : ℕ) (a : Asked) (t : List ℕ) (level over : ℕ) (sum : over +
   numbers = e .child ∷ numbersOf above
 
   abbrev pub start : Walked
-  start = finds a (x .view) w (enter n c (numbersOf above) (w .table) e .table)
+  start = finds a (x .view) (noted n e w) (enter n c (numbersOf above) (w .table) e .table)
 
   module _ (passed later : List Place) (d : Place) (q : kids e (x .view) ≡ passed ++ (d ∷ later))
       (y : Walked) (k : y ≡ walkEach (walk topKind n c a numbers) passed start) where

@@ -14,7 +14,7 @@ use Rattle.rules.specs.Page.{Page}
 use Rattle.rules.specs.Table.{read}
 use Rattle.rules.specs.Place.{rootPlace, kids, fits, mendable}
 use Rattle.rules.specs.Enter.{mend, enter}
-use Rattle.rules.specs.Walk.{Walked, enters, finds, stops, walkEach, walk, walkOf}
+use Rattle.rules.specs.Walk.{Walked, enters, finds, stops, walkEach, walk, walkOf, unwalked, noted}
 use Rattle.rules.specs.declared.Place.{Place}
 use Rattle.rules.specs.declared.Asked.{Asked}
 use Rattle.rules.proofs.demand1.WalkSteps.{walk-past, walk-entered, walk-damaged}
@@ -29,7 +29,7 @@ module _ (n c : ℕ) (a : Asked) (t : List ℕ) (P : Walked → Type 0)
     → enter n c (numbersOf above) (w .table) e .page ≡ none → P w → P (stops w (enter n c (numbersOf above) (w .table) e .table)))
     (entered : (above : List Parent) (w : Walked) (e : Place) (x : Page) → Comes n c a t above w e → enters a e w ≡ true
     → enter n c (numbersOf above) (w .table) e .page ≡ some x → P w
-    → P (finds a (x .view) w (enter n c (numbersOf above) (w .table) e .table))) where
+    → P (finds a (x .view) (noted n e w) (enter n c (numbersOf above) (w .table) e .table))) where
   -- what walking one place at a level keeps
   abbrev Keeps : ℕ → Type 0
   Keeps level =
@@ -43,7 +43,7 @@ module _ (n c : ℕ) (a : Asked) (t : List ℕ) (P : Walked → Type 0)
     nums = e .child ∷ numbersOf above
 
     abbrev begun : Walked
-    begun = finds a (x .view) w (enter n c (numbersOf above) (w .table) e .table)
+    begun = finds a (x .view) (noted n e w) (enter n c (numbersOf above) (w .table) e .table)
 
     each-keeps : (later passed : List Place) → kids e (x .view) ≡ passed ++ later
         → (y : Walked) → y ≡ walkEach (walk topKind n c a nums) passed begun → P y → P (walkEach (walk level n c a nums) later y)
@@ -67,8 +67,8 @@ module _ (n c : ℕ) (a : Asked) (t : List ℕ) (P : Walked → Type 0)
       go true p (some x) h =
           let u = enter n c (numbersOf above) (w .table) e .table in
           rw (walk-entered level n c a (numbersOf above) e w p x h)
-          (each-keeps level over sum rest above w e comes deep p x h (kids e (x .view)) [] refl (finds a (x .view) w u)
-          (none-walked (walk topKind n c a (e .child ∷ numbersOf above)) (finds a (x .view) w u))
+          (each-keeps level over sum rest above w e comes deep p x h (kids e (x .view)) [] refl (finds a (x .view) (noted n e w) u)
+          (none-walked (walk topKind n c a (e .child ∷ numbersOf above)) (finds a (x .view) (noted n e w) u))
           (entered above w e x comes p h m))
 
   keeps : (level over : ℕ) → over + level ≡ topKind → Keeps level
@@ -77,10 +77,10 @@ module _ (n c : ℕ) (a : Asked) (t : List ℕ) (P : Walked → Type 0)
       let more : suc over + level ≡ topKind = suc-add over level ∙ (sym (add-suc over level) ∙ sum) in
       keeps-more level (suc over) more (keeps level (suc over) more)
 
-  pub walk-keeps : P (record { table = t; whole = true; found = [] }) → P (walkOf n c a t)
+  pub walk-keeps : P (unwalked t) → P (walkOf n c a t)
   unfolding walkOf rootPlace
   walk-keeps m =
-      keeps topKind 0 refl [] (record { table = t; whole = true; found = [] }) (rootPlace t) (refl, refl)
+      keeps topKind 0 refl [] (unwalked t) (rootPlace t) (refl, refl)
       (inl (refl, omega arith)) m
 
 -- ── What is mended ──────────────────────────────────────────────────────────────────────────────────────────────

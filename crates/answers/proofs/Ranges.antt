@@ -1,4 +1,4 @@
--- Newest and list: each number exactly when document 01's table says. Assumes nothing.
+-- Newest, has-any and list: each number exactly when document 01's table says. Assumes nothing.
 use Prim.Native.Nat.{ℕ}
 use native.Mathlib.Omega.{arith}
 use mathlib.Core.Path.{_≡_, refl, sym, _∙_}
@@ -10,13 +10,14 @@ use lib.ListN.{length}
 use Rattle.rules.specs.Entry.{Cert}
 use Rattle.rules.specs.Table.{fit0}
 use Rattle.rules.specs.Walk.{Walked, walkOf}
-use Rattle.rules.specs.Call.{newestNo, listedNo, lengthsFor}
+use Rattle.rules.specs.Call.{newestNo, anyNo, listedNo, lengthsFor}
 use Rattle.rules.specs.Newest.{newest, newestMeter, newestLeft, newestIn, meter}
+use Rattle.rules.specs.HasAny.{hasAny, anyMeter, anyLeft, anyIn, firstOf}
 use Rattle.rules.specs.List.{list, listFrom, listDone, listRefused, upFrom}
 use Rattle.rules.specs.declared.Session.{Session}
 use Rattle.rules.specs.declared.Listed.{Listed}
 use Rattle.answers.specs.Given.{Given}
-use Rattle.answers.specs.Causes.{newestCauses, listCauses}
+use Rattle.answers.specs.Causes.{newestCauses, anyCauses, listCauses}
 use Rattle.answers.proofs.RangeMeets.{cut-damage}
 use Rattle.answers.proofs.Tells.{bad-lengths, good-lengths, bad-meter, good-meter, whole-range, nil-cons}
 
@@ -88,6 +89,56 @@ module _ (w t : List ℕ) (s : Session) (model serial : ℕ) where
       go true p true q false o d h = absurd (omega (arith, rw (p, newest, q, o) at z))
       go true p true q true o false h = absurd (omega (arith, rw (p, newest, q, o, newestMeter, h) at z))
       go true p true q true o true h = rw (p, newest, q, o, newestMeter, h)
+
+-- ── Has-any ─────────────────────────────────────────────────────────────────────────────────────────────────────
+
+-- yes and no are 0
+any-zero : (xs : List Cert) → anyNo (anyIn xs) ≡ 0
+unfolding anyIn anyNo
+any-zero [] = refl
+any-zero (x ∷ xs) = refl
+
+module _ (w t : List ℕ) (s : Session) (model serial : ℕ) where
+  abbrev first : Walked
+  first = walkOf (s .n) (s .c) (firstOf model serial) w
+
+  abbrev GivenAny : Type 0
+  GivenAny = Given (anyCauses w t s model serial) (anyNo (hasAny w t s model serial .answer))
+
+  pub any-given : GivenAny
+  unfolding hasAny anyMeter anyLeft anyNo
+  any-given = go (lengthsFor s w t) refl (ltb 0 model && ltb 0 serial) refl (fit0 (s .n) w) refl (first .whole) refl
+    where
+      go : (a : Bool) → lengthsFor s w t ≡ a → (b : Bool) → (ltb 0 model && ltb 0 serial) ≡ b
+          → (c : Bool) → fit0 (s .n) w ≡ c → (d : Bool) → first .whole ≡ d → GivenAny
+      go false p b q c o d h = inl (rw (p, hasAny), bad-lengths w t s p)
+      go true p false q c o d h = inr (good-lengths w t s p, inl (rw (p, hasAny, q), bad-meter model serial q))
+      go true p true q false o d h =
+          inr (good-lengths w t s p, inr (good-meter model serial q, inl (rw (p, hasAny, q, o), inl o)))
+      go true p true q true o false h =
+          inr (good-lengths w t s p, inr (good-meter model serial q, inl (rw (p, hasAny, q, o, anyMeter, h), inr (cut-damage (s .n) (s .c) (firstOf model serial) w h))))
+      go true p true q true o true h =
+          inr (
+            good-lengths w t s p,
+            inr (
+              good-meter model serial q,
+              inr (whole-range s (firstOf model serial) w o h, rw (p, hasAny, q, o, anyMeter, h) (any-zero (first .found))),
+            ),
+          )
+
+  -- done: yes, if one was found
+  pub any-done : anyNo (hasAny w t s model serial .answer) ≡ 0 → hasAny w t s model serial .answer ≡ anyIn (first .found)
+  unfolding hasAny anyMeter anyLeft anyNo
+  any-done z = go (lengthsFor s w t) refl (ltb 0 model && ltb 0 serial) refl (fit0 (s .n) w) refl (first .whole) refl
+    where
+      go : (a : Bool) → lengthsFor s w t ≡ a → (b : Bool) → (ltb 0 model && ltb 0 serial) ≡ b
+          → (c : Bool) → fit0 (s .n) w ≡ c → (d : Bool) → first .whole ≡ d
+          → hasAny w t s model serial .answer ≡ anyIn (first .found)
+      go false p b q c o d h = absurd (omega (arith, rw (p, hasAny) at z))
+      go true p false q c o d h = absurd (omega (arith, rw (p, hasAny, q) at z))
+      go true p true q false o d h = absurd (omega (arith, rw (p, hasAny, q, o) at z))
+      go true p true q true o false h = absurd (omega (arith, rw (p, hasAny, q, o, anyMeter, h) at z))
+      go true p true q true o true h = rw (p, hasAny, q, o, anyMeter, h)
 
 -- ── List ────────────────────────────────────────────────────────────────────────────────────────────────────────
 

@@ -9,26 +9,28 @@ use Rattle.rules.specs.Test.{every}
 use Rattle.rules.specs.Key.{keyOf}
 use Rattle.rules.specs.Entry.{rising, risesFrom}
 use Rattle.rules.specs.Walk.{walkOf}
-use Rattle.rules.specs.Call.{formattedNo, openedNo, insertedNo, lookedNo, newestNo, listedNo, listedCount, syncedNo}
+use Rattle.rules.specs.Call.{formattedNo, openedNo, insertedNo, lookedNo, newestNo, anyNo, listedNo, listedCount, syncedNo}
 use Rattle.rules.specs.Format.{format}
 use Rattle.rules.specs.Open.{opening}
 use Rattle.rules.specs.Insert.{insert}
 use Rattle.rules.specs.Lookup.{lookup}
 use Rattle.rules.specs.Newest.{newest, newestIn, meter}
+use Rattle.rules.specs.HasAny.{hasAny, anyIn, firstOf}
 use Rattle.rules.specs.List.{list, upFrom}
 use Rattle.rules.specs.Sync.{sync}
 use Rattle.rules.specs.declared.Session.{Session}
 use Rattle.rules.specs.declared.Looked.{Looked}
 use Rattle.rules.specs.declared.Newest.{Newest}
+use Rattle.rules.specs.declared.Any.{Any}
 use Rattle.rules.specs.declared.Listed.{Listed}
 use Rattle.answers.specs.Given.{Given}
-use Rattle.answers.specs.Causes.{under, formatCauses, openCauses, insertCauses, lookupCauses, newestCauses, listCauses, syncCauses}
+use Rattle.answers.specs.Causes.{under, formatCauses, openCauses, insertCauses, lookupCauses, newestCauses, anyCauses, listCauses, syncCauses}
 use Rattle.answers.specs.When.{When}
 use Rattle.answers.proofs.Exactly.{exactly}
 use Rattle.answers.proofs.Ends.{format-given, open-given, sync-given}
 use Rattle.answers.proofs.Looks.{lookup-given, lookup-done}
 use Rattle.answers.proofs.Inserts.{insert-given}
-use Rattle.answers.proofs.Ranges.{newest-given, newest-done, list-given, list-done}
+use Rattle.answers.proofs.Ranges.{newest-given, newest-done, any-given, any-done, list-given, list-done}
 
 -- ── What is answered beside 0 ───────────────────────────────────────────────────────────────────────────────────
 
@@ -66,6 +68,17 @@ module _ (w t : List ℕ) (s : Session) (model serial i x : ℕ) where
         (λ g. newest-done w t s model serial (is .1 (g .0)) ∙ g .1),
       )
 
+module _ (w t : List ℕ) (s : Session) (model serial : ℕ) (yes-or-no : Any) (done : anyNo yes-or-no ≡ 0) where
+  any-exactly : (hasAny w t s model serial .answer ≡ yes-or-no)
+      ↔ (Given (anyCauses w t s model serial) 0 × (anyIn (walkOf (s .n) (s .c) (firstOf model serial) w .found) ≡ yes-or-no))
+  any-exactly =
+      let is = exactly (anyCauses w t s model serial) (anyNo (hasAny w t s model serial .answer)) 0
+      (any-given w t s model serial) in (
+        (λ e. let z : anyNo (hasAny w t s model serial .answer) ≡ 0 = ap anyNo e ∙ done in
+            (is .0 z, sym (any-done w t s model serial z) ∙ e)),
+        (λ g. any-done w t s model serial (is .1 (g .0)) ∙ g .1),
+      )
+
 module _ (w t : List ℕ) (s : Session) (start : ℕ) (ks xs : List ℕ) (k : ℕ) where
   filled-exactly : (list w t s start ks xs .answer ≡ Listed.Filled k)
       ↔ (Given (listCauses w t s start ks xs) 0
@@ -96,11 +109,15 @@ whens = record {
   newest-when = λ w t s model serial k.
       exactly (newestCauses w t s model serial) (newestNo (newest w t s model serial .answer)) k
       (newest-given w t s model serial);
+  any-when = λ w t s model serial k.
+      exactly (anyCauses w t s model serial) (anyNo (hasAny w t s model serial .answer)) k
+      (any-given w t s model serial);
   list-when = λ w t s start ks xs k.
       exactly (listCauses w t s start ks xs) (listedNo (list w t s start ks xs .answer)) k
       (list-given w t s start ks xs);
   sync-when = λ w t s k. exactly (syncCauses w t s) (syncedNo (sync w t s .answer)) k (sync-given w t s);
   found-when = found-exactly;
   newest-found-when = newest-exactly;
+  any-told-when = any-exactly;
   filled-when = filled-exactly;
 }

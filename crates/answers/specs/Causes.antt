@@ -14,6 +14,7 @@ use Rattle.rules.specs.Walk.{Step, numbers, certsAt, wayOf, walkOf}
 use Rattle.rules.specs.Marks.{freePages}
 use Rattle.rules.specs.Insert.{splitting, tooSoon, rootSplits, newPages, tooHigh}
 use Rattle.rules.specs.Newest.{meter}
+use Rattle.rules.specs.HasAny.{firstOf}
 use Rattle.rules.specs.List.{upFrom}
 use Rattle.rules.specs.declared.Session.{Session}
 use Rattle.rules.specs.declared.Asked.{Asked}
@@ -38,7 +39,7 @@ BadLengths s w t = Tables (s .n) w t → ⊥
 abbrev pub BadKey : ℕ → ℕ → ℕ → Type 0
 BadKey model serial issue = (model ≡ 0) ⊎ ((serial ≡ 0) ⊎ (issue ≡ 0))
 
--- newest: model or serial
+-- newest and has-any: model or serial
 abbrev pub BadMeter : ℕ → ℕ → Type 0
 BadMeter model serial = (model ≡ 0) ⊎ (serial ≡ 0)
 
@@ -124,6 +125,11 @@ newestCauses w t s model serial =
     ∷ (3 when DamagedRange s (meter model serial) w)
     ∷ (4 when (walkOf (s .n) (s .c) (meter model serial) w .found ≡ []))
     ∷ []
+
+-- what lies beyond the first certificate found is not entered, and yes and no are both 0
+abbrev pub anyCauses : List ℕ → List ℕ → Session → ℕ → ℕ → List Cause
+anyCauses w t s model serial =
+    (1 when BadLengths s w t) ∷ (2 when BadMeter model serial) ∷ (3 when DamagedRange s (firstOf model serial) w) ∷ []
 
 abbrev pub listCauses : List ℕ → List ℕ → Session → ℕ → List ℕ → List ℕ → List Cause
 listCauses w t s start ks xs = (1 when BadLengths s w t) ∷ (3 when DamagedRange s (upFrom start ks xs) w) ∷ []

@@ -8,18 +8,20 @@ use Rattle.rules.specs.Test.{mem}
 use Rattle.rules.specs.Key.{keyOf}
 use Rattle.rules.specs.Table.{fit0}
 use Rattle.rules.specs.Marks.{nobody}
-use Rattle.rules.specs.Call.{Left, formattedNo, openedNo, insertedNo, lookedNo, lookedRecord, newestNo, newestIssue, newestRecord, listedNo, listedCount, syncedNo, Unchanged}
+use Rattle.rules.specs.Call.{Left, formattedNo, openedNo, insertedNo, lookedNo, lookedRecord, newestNo, newestIssue, newestRecord, anyNo, anyYes, listedNo, listedCount, syncedNo, Unchanged}
 use Rattle.rules.specs.Format.{format}
 use Rattle.rules.specs.Open.{opening}
 use Rattle.rules.specs.Insert.{insert}
 use Rattle.rules.specs.Lookup.{lookup}
 use Rattle.rules.specs.Newest.{newest, meter}
+use Rattle.rules.specs.HasAny.{hasAny, firstOf}
 use Rattle.rules.specs.List.{list, upFrom}
 use Rattle.rules.specs.Sync.{sync}
 use Rattle.rules.specs.declared.Session.{Session}
 use Rattle.rules.specs.declared.Asked.{Asked}
 use Rattle.rules.specs.declared.Looked.{Looked}
 use Rattle.rules.specs.declared.Newest.{Newest}
+use Rattle.rules.specs.declared.Any.{Any}
 use Rattle.rules.specs.declared.Listed.{Listed}
 use Rattle.answers.specs.OneKey.{EndsIn, MendedBy}
 use Rattle.answers.specs.Range.{StopsIn, MendedIn}
@@ -59,6 +61,8 @@ pub record Demand1 : Type 0 where
       → Among (lookedNo (lookup w t s model serial issue .answer)) (0 ∷ 1 ∷ 2 ∷ 3 ∷ 4 ∷ [])
   pub newest-answers : (w t : List ℕ) (s : Session) (model serial : ℕ)
       → Among (newestNo (newest w t s model serial .answer)) (0 ∷ 1 ∷ 2 ∷ 3 ∷ 4 ∷ [])
+  pub any-answers : (w t : List ℕ) (s : Session) (model serial : ℕ)
+      → Among (anyNo (hasAny w t s model serial .answer)) (0 ∷ 1 ∷ 2 ∷ 3 ∷ [])
   pub list-answers : (w t : List ℕ) (s : Session) (start : ℕ) (ks xs : List ℕ)
       → Among (listedNo (list w t s start ks xs .answer)) (0 ∷ 1 ∷ 3 ∷ [])
   pub sync-answers : (w t : List ℕ) (s : Session) → Among (syncedNo (sync w t s .answer)) (0 ∷ 1 ∷ 8 ∷ [])
@@ -75,6 +79,9 @@ pub record Demand1 : Type 0 where
   pub newest-mends : (w t : List ℕ) (s : Session) (model serial : ℕ)
       → let r = newest w t s model serial in
       RangeMended (meter model serial) w t s (r .working) (r .stable) (r .session)
+  pub any-mends : (w t : List ℕ) (s : Session) (model serial : ℕ)
+      → let r = hasAny w t s model serial in
+      RangeMended (firstOf model serial) w t s (r .working) (r .stable) (r .session)
   pub list-mends : (w t : List ℕ) (s : Session) (start : ℕ) (ks xs : List ℕ)
       → let r = list w t s start ks xs in
       RangeMended (upFrom start ks xs) w t s (r .working) (r .stable) (r .session)
@@ -87,6 +94,9 @@ pub record Demand1 : Type 0 where
   pub newest-stands : (w t : List ℕ) (s : Session) (model serial : ℕ) → fit0 (s .n) w ≡ true
       → newestNo (newest w t s model serial .answer) ≡ 3
       → StopsIn (s .n) (s .c) (meter model serial) w (newest w t s model serial .working)
+  pub any-stands : (w t : List ℕ) (s : Session) (model serial : ℕ) → fit0 (s .n) w ≡ true
+      → anyNo (hasAny w t s model serial .answer) ≡ 3
+      → StopsIn (s .n) (s .c) (firstOf model serial) w (hasAny w t s model serial .working)
   pub list-stands : (w t : List ℕ) (s : Session) (start : ℕ) (ks xs : List ℕ) → fit0 (s .n) w ≡ true
       → listedNo (list w t s start ks xs .answer) ≡ 3
       → StopsIn (s .n) (s .c) (upFrom start ks xs) w (list w t s start ks xs .working)
@@ -102,6 +112,7 @@ pub record Demand1 : Type 0 where
   pub record-zero : (a : Looked) → Refused (lookedNo a) → lookedRecord a ≡ 0
   pub newest-issue-zero : (a : Newest) → Refused (newestNo a) → newestIssue a ≡ 0
   pub newest-record-zero : (a : Newest) → Refused (newestNo a) → newestRecord a ≡ 0
+  pub any-zero : (a : Any) → Refused (anyNo a) → anyYes a ≡ 0
   pub count-zero : (a : Listed) → Refused (listedNo a) → listedCount a ≡ 0
   -- stable bytes change only in format, open and sync that answer 0; of the other calls, see above
   pub format-stable : (w s : List ℕ) → Refused (formattedNo (format w s .answer)) → format w s .stable ≡ s

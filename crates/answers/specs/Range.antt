@@ -10,7 +10,7 @@ use Rattle.rules.specs.Page.{Page}
 use Rattle.rules.specs.Table.{read, build}
 use Rattle.rules.specs.Place.{rootPlace, kids, fits, mendable, mended}
 use Rattle.rules.specs.Enter.{enter}
-use Rattle.rules.specs.Walk.{Walked, enters, finds, walkEach, walk}
+use Rattle.rules.specs.Walk.{Walked, enters, finds, walkEach, walk, unwalked, noted}
 use Rattle.rules.specs.declared.Place.{Place}
 use Rattle.rules.specs.declared.Asked.{Asked}
 
@@ -29,13 +29,13 @@ numbersOf (s ∷ above) = s .place .child ∷ numbersOf above
 -- the walk of a range in table t comes to a place, with w found by now: first to the root's, then to each place of a
 -- page entered, once those before it are walked
 abbrev pub Comes : ℕ → ℕ → Asked → List ℕ → List Parent → Walked → Place → Type 0
-Comes n c a t [] w e = (w ≡ record { table = t; whole = true; found = [] }) × (e ≡ rootPlace t)
+Comes n c a t [] w e = (w ≡ unwalked t) × (e ≡ rootPlace t)
 Comes n c a t (s ∷ above) w e =
     (v : Walked) × Comes n c a t above v (s .place)
     × (enters a (s .place) v ≡ true)
     × (enter n c (numbersOf above) (v .table) (s .place) ≡ record { table = s .table; page = some (s .page) })
     × (kids (s .place) (s .page .view) ≡ s .passed ++ (e ∷ s .later))
-    × (w ≡ walkEach (walk topKind n c a (numbersOf (s ∷ above))) (s .passed) (finds a (s .page .view) v (s .table)))
+    × (w ≡ walkEach (walk topKind n c a (numbersOf (s ∷ above))) (s .passed) (finds a (s .page .view) (noted n (s .place) v) (s .table)))
 
 -- a place that the walk comes to and enters is damaged
 pub record MeetsDamageIn (n c : ℕ) (a : Asked) (t : List ℕ) : Type 0 where

@@ -10,20 +10,22 @@ use Rattle.rules.specs.Test.{every}
 use Rattle.rules.specs.Key.{keyOf}
 use Rattle.rules.specs.Entry.{rising}
 use Rattle.rules.specs.Walk.{walkOf}
-use Rattle.rules.specs.Call.{formattedNo, openedNo, insertedNo, lookedNo, newestNo, listedNo, syncedNo}
+use Rattle.rules.specs.Call.{formattedNo, openedNo, insertedNo, lookedNo, newestNo, anyNo, listedNo, syncedNo}
 use Rattle.rules.specs.Format.{format}
 use Rattle.rules.specs.Open.{opening}
 use Rattle.rules.specs.Insert.{insert}
 use Rattle.rules.specs.Lookup.{lookup}
 use Rattle.rules.specs.Newest.{newest, newestIn, meter}
+use Rattle.rules.specs.HasAny.{hasAny, anyIn, firstOf}
 use Rattle.rules.specs.List.{list, upFrom}
 use Rattle.rules.specs.Sync.{sync}
 use Rattle.rules.specs.declared.Session.{Session}
 use Rattle.rules.specs.declared.Looked.{Looked}
 use Rattle.rules.specs.declared.Newest.{Newest}
+use Rattle.rules.specs.declared.Any.{Any}
 use Rattle.rules.specs.declared.Listed.{Listed}
 use Rattle.answers.specs.Given.{Given, numbersIn}
-use Rattle.answers.specs.Causes.{under, formatCauses, openCauses, insertCauses, lookupCauses, newestCauses, listCauses, syncCauses}
+use Rattle.answers.specs.Causes.{under, formatCauses, openCauses, insertCauses, lookupCauses, newestCauses, anyCauses, listCauses, syncCauses}
 
 -- for any page bytes, length, session and key
 pub record When : Type 0 where
@@ -35,6 +37,7 @@ pub record When : Type 0 where
       ∷ rising (numbersIn (insertCauses w t s model serial issue))
       ∷ rising (numbersIn (lookupCauses w t s model serial issue))
       ∷ rising (numbersIn (newestCauses w t s model serial))
+      ∷ rising (numbersIn (anyCauses w t s model serial))
       ∷ rising (numbersIn (listCauses w t s start ks xs))
       ∷ rising (numbersIn (syncCauses w t s))
       ∷ [])
@@ -48,6 +51,8 @@ pub record When : Type 0 where
       → (lookedNo (lookup w t s model serial issue .answer) ≡ k) ↔ Given (lookupCauses w t s model serial issue) k
   pub newest-when : (w t : List ℕ) (s : Session) (model serial k : ℕ)
       → (newestNo (newest w t s model serial .answer) ≡ k) ↔ Given (newestCauses w t s model serial) k
+  pub any-when : (w t : List ℕ) (s : Session) (model serial k : ℕ)
+      → (anyNo (hasAny w t s model serial .answer) ≡ k) ↔ Given (anyCauses w t s model serial) k
   pub list-when : (w t : List ℕ) (s : Session) (start : ℕ) (ks xs : List ℕ) (k : ℕ)
       → (listedNo (list w t s start ks xs .answer) ≡ k) ↔ Given (listCauses w t s start ks xs) k
   pub sync-when : (w t : List ℕ) (s : Session) (k : ℕ) → (syncedNo (sync w t s .answer) ≡ k) ↔ Given (syncCauses w t s) k
@@ -59,6 +64,10 @@ pub record When : Type 0 where
       → (newest w t s model serial .answer ≡ Newest.Found i x)
       ↔ (Given (newestCauses w t s model serial) 0
       × (newestIn (walkOf (s .n) (s .c) (meter model serial) w .found) ≡ Newest.Found i x))
+  pub any-told-when : (w t : List ℕ) (s : Session) (model serial : ℕ) (yes-or-no : Any) → anyNo yes-or-no ≡ 0
+      → (hasAny w t s model serial .answer ≡ yes-or-no)
+      ↔ (Given (anyCauses w t s model serial) 0
+      × (anyIn (walkOf (s .n) (s .c) (firstOf model serial) w .found) ≡ yes-or-no))
   pub filled-when : (w t : List ℕ) (s : Session) (start : ℕ) (ks xs : List ℕ) (k : ℕ)
       → (list w t s start ks xs .answer ≡ Listed.Filled k)
       ↔ (Given (listCauses w t s start ks xs) 0

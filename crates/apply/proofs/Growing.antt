@@ -134,5 +134,6 @@ module _ {n c k : ℕ} {T : List ℕ} (w : Whole n c T) {e : Place} (st : Stands
     few = omega (arith, w .long, w .few);
     new-in = omega (arith, w .long, below);
     head = q;
+    kind-from = omega (arith, ap (λ (x : Head). x .kind) q, st .fits .sound .kind-from);
     kind = omega (arith, ap (λ (x : Head). x .kind) q, short);
   }

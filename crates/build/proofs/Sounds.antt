@@ -9,7 +9,7 @@ use borrow.Author.Tests.{leb-true}
 use lib.Dec.{leb, eqb}
 use lib.ListN.{length, drop}
 use Rattle.fields.specs.Field.{leAt}
-use Rattle.rules.specs.Layout.{leafHalf, innerHalf, leafKind, leafRoom, innerRoom, headerSize, certSize, childSize}
+use Rattle.rules.specs.Layout.{leafHalf, innerHalf, leafKind, leafRoom, innerRoom, leafHeader, innerHeader, certSize, childSize}
 use Rattle.rules.specs.Test.{every}
 use Rattle.rules.specs.Entry.{keys, rising}
 use Rattle.rules.specs.Page.{Page, viewIn, pageIn, isLeaf, count, readEach, certIn, childIn}
@@ -55,9 +55,9 @@ full-divides n b h f = go (eqb (leAt b 0 2) leafKind) refl
     go : (t : Bool) → eqb (leAt b 0 2) leafKind ≡ t → Divides (viewIn b)
     go true e =
         let o = sound-ordered n (pageIn b) h in
-        let ks = keys (readEach certIn certSize (leAt b 2 2) (drop headerSize b)) in
+        let ks = keys (readEach certIn certSize (leAt b 2 2) (drop leafHeader b)) in
         let r : rising ks ≡ true = rw (viewIn-leaf b e) at (o .certs) in
-        let m : length ks ≡ leAt b 2 2 = rw (keys-certs (leAt b 2 2) b) (length-keysIn certSize (leAt b 2 2) b) in
+        let m : length ks ≡ leAt b 2 2 = rw (keys-certs (leAt b 2 2) b) (length-keysIn leafHeader certSize (leAt b 2 2) b) in
         let g : leb leafRoom (leAt b 2 2) ≡ true = or-false (leb leafRoom (leAt b 2 2)) (rw (viewIn-leaf b e, length-readEach) at f) in
         let k = leb-true leafRoom (leAt b 2 2) g in
         record {
@@ -67,9 +67,9 @@ full-divides n b h f = go (eqb (leAt b 0 2) leafKind) refl
         }
     go false e =
         let o = sound-ordered n (pageIn b) h in
-        let ks = keys (readEach childIn childSize (leAt b 2 2) (drop headerSize b)) in
+        let ks = keys (readEach childIn childSize (leAt b 2 2) (drop innerHeader b)) in
         let r : rising ks ≡ true = rw (viewIn-inner b e) at (o .children) in
-        let m : length ks ≡ leAt b 2 2 = rw (keys-children (leAt b 2 2) b) (length-keysIn childSize (leAt b 2 2) b) in
+        let m : length ks ≡ leAt b 2 2 = rw (keys-children (leAt b 2 2) b) (length-keysIn innerHeader childSize (leAt b 2 2) b) in
         let g : leb innerRoom (leAt b 2 2) ≡ true = rw (viewIn-inner b e, length-readEach) at f in
         let k = leb-true innerRoom (leAt b 2 2) g in
         record {

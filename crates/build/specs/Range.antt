@@ -10,7 +10,7 @@ use Rattle.rules.specs.Layout.{leafRoom, innerRoom, leafHalf, innerHalf, leafKi
 use Rattle.rules.specs.Entry.{Child, keys, rising}
 use Rattle.rules.specs.Page.{View, count}
 use Rattle.rules.specs.Insert.{divide}
-use Rattle.entries.specs.Spot.{sizeOf, keysIn}
+use Rattle.entries.specs.Spot.{headerSize, sizeOf, keysIn}
 
 -- the header of a page that is built: what its kind and count are, its birth, when it is built, its range
 unfoldable pub headerOf : ℕ → ℕ → ℕ → ℕ → ℕ → ℕ → List ℕ
@@ -27,7 +27,7 @@ rangeView first past v = record {
 
 -- the keys of a page's entries, whatever its kind
 abbrev pub keysOf : List ℕ → List ℕ
-keysOf b = keysIn (sizeOf (leAt b 0 2)) (leAt b 2 2) b
+keysOf b = keysIn (headerSize (leAt b 0 2)) (sizeOf (leAt b 0 2)) (leAt b 2 2) b
 
 -- no more entries than a page has room for
 pub record Roomy (v : View) : Type 0 where

@@ -15,18 +15,18 @@ use rules::AT_KIND;
 use rules::AT_LOW;
 use rules::AT_TOUCHED;
 use rules::CHILD;
-use rules::HEADER;
 use rules::INNER_HALF;
+use rules::INNER_HEADER;
 use rules::LAST_KEY;
 use rules::LEAF;
 use rules::LEAF_HALF;
 use rules::PAGE;
 use rules::Place;
 ghost use mathlib.Core.Path.{_≡_};
-ghost use Prim.Native.Nat.{_+_, _*_, _-_, _≤_};
+ghost use Prim.Native.Nat.{_+_, _*_, _-_, _≤_, _<_};
 ghost use lib.ListN.{length};
 ghost use lib.Seq.{sets};
-ghost use Rattle.rules.specs.Layout.{pageSize, headerSize, lastKey};
+ghost use Rattle.rules.specs.Layout.{pageSize, commonHeader, leafKind, lastKey};
 ghost use Rattle.rules.specs.Page.{count, viewIn, fresh};
 ghost use Rattle.rules.specs.Table.{read, build};
 ghost use Rattle.rules.specs.Place.{mended};
@@ -41,7 +41,7 @@ fn span(first: usize, past: usize) -> usize
     if first < past { past - first } else { 0 }
 }
 
-// The header of a page that is built now, over 32 bytes.
+// The header of a page that is built now.
 fn header(
     table: &mut [u8],
     at: usize,
@@ -52,7 +52,7 @@ fn header(
     low: u64,
     high: u64,
 )
-    requires { ⌜ at + headerSize ≤ length (now table) ⌝ }
+    requires { ⌜ at + commonHeader ≤ length (now table) ⌝ }
     ensures { λ r. ⌜ now (table .exit) ≡ sets (now (table .entry)) at (headerOf kind count birth c low high) ⌝ }
 {
     fields::put16(table, at + AT_KIND, kind);
@@ -83,12 +83,18 @@ fn build_range(
     ensures { λ r. ⌜ now (table .exit) ≡ build (now (table .entry)) to (fresh c birth low high (rangeView first past (read (now (table .entry)) from .view))) ⌝ }
 {
     let kind = fields::get16(table, from * PAGE + AT_KIND);
+    let header_size = entries::header_size(kind);
     let size = entries::size_of(kind);
     let many = span(first, past);
     let len = size * many;
     let at = to * PAGE;
-    entries::copy(table, at + HEADER, from * PAGE + HEADER + size * first, len);
-    entries::clear(table, at + HEADER + len, at + PAGE);
+    entries::copy(
+        table,
+        at + header_size,
+        from * PAGE + header_size + size * first,
+        len,
+    );
+    entries::clear(table, at + header_size + len, at + PAGE);
     header(table, at, kind, many as u16, birth, c, low, high);
 }
 
@@ -103,11 +109,13 @@ fn run_in(page: &[u8], low: u64, high: u64) -> Run
     requires { ⌜ Roomy (viewIn (now page)) ⌝ }
     ensures { λ r. ⌜ (r .first ≡ startOf low (keysOf (now (page .entry)))) × (r .past ≡ spotOf high (keysOf (now (page .entry)))) ⌝ }
 {
-    let size = entries::size_of(fields::get16(page, AT_KIND));
+    let kind = fields::get16(page, AT_KIND);
+    let header_size = entries::header_size(kind);
+    let size = entries::size_of(kind);
     let count = fields::get16(page, AT_COUNT) as usize;
     Run {
-        first: entries::start(page, size, count, low),
-        past: entries::spot(page, size, count, high),
+        first: entries::start(page, header_size, size, count, low),
+        past: entries::spot(page, header_size, size, count, high),
     }
 }
 
@@ -125,7 +133,10 @@ fn middle(page: &[u8]) -> u64
     ensures { λ r. ⌜ r ≡ divide (viewIn (now (page .entry))) ⌝ }
 {
     let kind = fields::get16(page, AT_KIND);
-    fields::get64(page, HEADER + entries::size_of(kind) * half_of(kind))
+    fields::get64(
+        page,
+        entries::header_size(kind) + entries::size_of(kind) * half_of(kind),
+    )
 }
 
 // The child at a place becomes the entries of its previous page with keys in the place's range.
@@ -198,10 +209,11 @@ pub fn build_root(
     birth: u32,
 )
     requires { ⌜ (to + 1) * pageSize ≤ length (now table) ⌝ }
+    requires { ⌜ leafKind < kind ⌝ }
     ensures { λ r. ⌜ now (table .exit) ≡ build (now (table .entry)) to (fresh c c 0 lastKey (rootView kind (newChild birth key child previous))) ⌝ }
 {
     let at = to * PAGE;
-    entries::write_child(table, at + HEADER, key, child, previous, birth);
-    entries::clear(table, at + HEADER + CHILD, at + PAGE);
+    entries::write_child(table, at + INNER_HEADER, key, child, previous, birth);
+    entries::clear(table, at + INNER_HEADER + CHILD, at + PAGE);
     header(table, at, kind, 1, c, c, 0, LAST_KEY);
 }

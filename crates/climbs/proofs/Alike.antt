@@ -11,7 +11,7 @@ use Rattle.rules.specs.Entry.{Cert, keys, cut}
 use Rattle.rules.specs.Page.{Page}
 use Rattle.rules.specs.Place.{kids}
 use Rattle.rules.specs.Enter.{enter}
-use Rattle.rules.specs.Walk.{Walked, enters, finds, walkEach, walk}
+use Rattle.rules.specs.Walk.{Walked, enters, finds, walkEach, walk, noted}
 use Rattle.rules.specs.declared.Asked.{Asked}
 use Rattle.rules.specs.declared.Place.{Place}
 use Rattle.rules.proofs.entries.Tests.{same-test, between-low, between-high, between-of, all-head, all-tail}
@@ -100,15 +100,16 @@ walk-alike (suc level) n c {from = from} {a} {b} x above e w l r =
         → walk level n c a (e .child ∷ above) d v ≡ walk level n c b (e .child ∷ above) d v
 
     inside : (p : Page) → enter n c above (w .table) e .page ≡ some p → enters a e w ≡ true → Rest
-        → walkEach (walk level n c a (e .child ∷ above)) (kids e (p .view)) (finds a (p .view) w t)
-        ≡ walkEach (walk level n c b (e .child ∷ above)) (kids e (p .view)) (finds b (p .view) w t)
+        → walkEach (walk level n c a (e .child ∷ above)) (kids e (p .view)) (finds a (p .view) (noted n e w) t)
+        ≡ walkEach (walk level n c b (e .child ∷ above)) (kids e (p .view)) (finds b (p .view) (noted n e w) t)
     inside p h q ih =
         let f : Fits n e p = found-fits r (enter n c above (w .table) e) (comes n c above (w .table) e) p h in
-        let y : finds a (p .view) w t ≡ finds b (p .view) w t = finds-same a b (p .view) w t
+        let v : Walked = noted n e w in
+        let y : finds a (p .view) v t ≡ finds b (p .view) v t = finds-same a b (p .view) v t
         (x .room (omega (arith, enters-true a e w q .from)))
         (cut-alike x (e .low) (e .high) l (p .view .certs) (f .sound .certs-within)) in
         ap (walkEach (walk level n c a (e .child ∷ above)) (kids e (p .view))) y
-        ∙ each-same (walk level n c a (e .child ∷ above)) (walk level n c b (e .child ∷ above)) (kids e (p .view)) (finds b (p .view) w t)
+        ∙ each-same (walk level n c a (e .child ∷ above)) (walk level n c b (e .child ∷ above)) (kids e (p .view)) (finds b (p .view) v t)
         (λ d v m.
         let z = kids-mem e (f .sound) d m in
         ih d v (omega (arith, kids-within e (f .sound) d z .0)) (z .range))

@@ -1,5 +1,5 @@
 -- One climb is a step of the walk: the walk from a place goes on behind the leaf of the range's first key as if it had
--- begun there, with what the leaf gave; or it stops where the climb met damage. Assumes nothing.
+-- begun there, with what the leaf gave and what the climb mended; or it stops where the climb met damage. Assumes nothing.
 use Prim.Native.Nat.{ℕ, zero, suc, _+_, _≤_, _<_}
 use native.Mathlib.Omega.{arith}
 use mathlib.Core.Path.{_≡_, refl, sym, ap, _∙_, subst}
@@ -9,20 +9,23 @@ use mathlib.Core.Option.{Option, some, none, Option·some-injective, Option·non
 use borrow.Author.Tests.{lt-ltb}
 use Rattle.rules.specs.Layout.{topKind, lastKey}
 use Rattle.rules.specs.Page.{Page, isLeaf}
+use Rattle.rules.specs.Table.{read}
 use Rattle.rules.specs.Place.{rootPlace, kids, pick}
 use Rattle.rules.specs.Enter.{Entered, enter}
-use Rattle.rules.specs.Walk.{Step, Way, numbers, descend, wayOf, Walked, enters, finds, stops, walkEach, walk}
+use Rattle.rules.specs.Walk.{Step, Way, numbers, descend, wayOf, descendReport, wayReport, Walked, reporting, enters, finds, stops, walkEach, walk, noted}
 use Rattle.rules.specs.declared.Asked.{Asked}
 use Rattle.rules.specs.declared.Place.{Place}
+use Rattle.rules.specs.declared.Report.{Report}
 use Rattle.rules.proofs.entries.Tests.{fails, not-both, mem-head}
 use Rattle.rules.proofs.entries.Views.{Shaped, shaped-read}
+use Rattle.rules.proofs.entries.Places.{Fits}
 use Rattle.rules.proofs.entries.Asks.{kids-leaf, kids-mem, kids-within, pick-leaf}
-use Rattle.rules.proofs.demand1.WalkSteps.{enter-apart, descend-damaged, descend-ends, descend-below, walk-past, walk-damaged, walk-entered}
+use Rattle.rules.proofs.demand1.WalkSteps.{enter-apart, descend-damaged, descend-ends, descend-below, report-damaged, report-ends, report-below, walk-past, walk-damaged, walk-entered}
 use Rattle.way.proofs.Stood.{Ready, ready-next, leaf-here, Stood, stood-here}
 use Rattle.climbs.specs.Rest.{rest}
 use Rattle.climbs.specs.After.{after}
 use Rattle.climbs.specs.Ground.{Ground, Asks}
-use Rattle.climbs.proofs.Steps.{enters-of, enters-not, moved, finds-none, enter-standing, walk-skips, walk-stopped, each-append, each-past, each-same}
+use Rattle.climbs.proofs.Steps.{enters-of, enters-not, moved, stops-told, finds-told, finds-none, enter-standing, adds-standing, walk-skips, walk-stopped, each-append, each-past, each-same}
 use Rattle.climbs.proofs.Order.{Around, around-mem, behind-mem, kids-around}
 use Rattle.climbs.proofs.Alike.{Alike, walk-alike}
 use Rattle.climbs.proofs.Ground.{descend-stays, stays-read, root-ready, way-root}
@@ -62,15 +65,15 @@ module _ (n c : ℕ) (a : Asked) (above : List ℕ) where
       each-past (walk 0 n c a above) es (stops w (w .table)) (λ b k. walk-stopped 0 n c a above b w (w .table))
 
   -- where the walk of the key's place stops, the walk of all stops
-  each-stops : (level : ℕ) {es : List Place} {d : Place} → Around (a .low) es d → (w : Walked) (t : List ℕ)
-      → walk level n c a above d w ≡ stops w t → walkEach (walk level n c a above) es w ≡ stops w t
+  each-stops : (level : ℕ) {es : List Place} {d : Place} → Around (a .low) es d → (w v : Walked) (t : List ℕ)
+      → walk level n c a above d w ≡ stops v t → walkEach (walk level n c a above) es w ≡ stops v t
   unfolding walk
-  each-stops zero {es} {d} y w t h = each-deep d es w (around-mem y) ∙ h
-  each-stops (suc level) {es} {d} y w t h =
+  each-stops zero {es} {d} y w v t h = each-deep d es w (around-mem y) ∙ h
+  each-stops (suc level) {es} {d} y w v t h =
       let f = walk (suc level) n c a above in
       each-comes (suc level) y w (omega arith) (omega arith)
       ∙ (ap (walkEach f (y .behind)) h
-      ∙ each-past f (y .behind) (stops w t) (λ b m. walk-stopped (suc level) n c a above b w t))
+      ∙ each-past f (y .behind) (stops v t) (λ b m. walk-stopped (suc level) n c a above b v t))
 
 -- ── A page entered on the way ───────────────────────────────────────────────────────────────────────────────────
 
@@ -105,28 +108,36 @@ module _ (level n c : ℕ) (a : Asked) (above : List Step) (e : Place) (w : Walk
           (fails (isLeaf (p .view)) (λ l. Option·none-ne-some d (sym (pick-leaf (a .low) e (p .view) shaped l) ∙ q)))
 
       walk-here : walk (suc level) n c a (numbers above) e w
-          ≡ walkEach (walk level n c a (numbers up)) (kids e (p .view)) (moved w (entered .table))
+          ≡ walkEach (walk level n c a (numbers up)) (kids e (p .view)) (moved (noted n e w) (entered .table))
       unfolding numbers
       walk-here =
           walk-entered level n c a (numbers above) e w enters-here p h
           ∙ ap (walkEach (walk level n c a (e .child ∷ numbers above)) (kids e (p .view)))
-          (finds-none a (p .view) w (entered .table) no-certs (x .whole))
+          (finds-none a (p .view) (noted n e w) (entered .table) no-certs (x .whole))
 
       ready-below : Ready n c (a .low) (entered .table) d
       ready-below = ready-next r (numbers above) p h d q
 
-      asks-below : Asks a (moved w (entered .table))
+      asks-below : Asks a (moved (noted n e w) (entered .table))
       asks-below = record { low = x .low; high = x .high; whole = x .whole; room = x .room }
 
       way-here : descend (suc level) n c (a .low) above (w .table) e ≡ descend level n c (a .low) up (entered .table) d
       way-here = descend-below level n c (a .low) above (w .table) e p h d q
 
+      told-here : descendReport (suc level) n c (a .low) above (w .table) e (w .report)
+          ≡ descendReport level n c (a .low) up (entered .table) d (noted n e w .report)
+      told-here = report-below level n c (a .low) above (w .table) e p h (w .report) d q
+
+-- with what the climb from a place down mends
+abbrev told : ℕ → ℕ → ℕ → Asked → List Step → Place → Walked → Walked
+told level n c a above e w = reporting (descendReport level n c (a .low) above (w .table) e (w .report)) w
+
 -- ── Damage ──────────────────────────────────────────────────────────────────────────────────────────────────────
 
 climb-stops : (level n c : ℕ) (a : Asked) (above : List Step) (e : Place) (w : Walked) → Ready n c (a .low) (w .table) e → Asks a w
     → descend level n c (a .low) above (w .table) e .steps ≡ none
-    → walk level n c a (numbers above) e w ≡ stops w (descend level n c (a .low) above (w .table) e .table)
-unfolding descend walk stops
+    → walk level n c a (numbers above) e w ≡ stops (told level n c a above e w) (descend level n c (a .low) above (w .table) e .table)
+unfolding descend descendReport walk stops
 climb-stops zero n c a above e w r x o = refl
 climb-stops (suc level) n c a above e w r x o =
     found (t .page) refl (λ ss d v. climb-stops level n c a ss d v)
@@ -137,29 +148,32 @@ climb-stops (suc level) n c a above e w r x o =
     Rest : Type 0
     Rest = (ss : List Step) (d : Place) (v : Walked) → Ready n c (a .low) (v .table) d → Asks a v
         → descend level n c (a .low) ss (v .table) d .steps ≡ none
-        → walk level n c a (numbers ss) d v ≡ stops v (descend level n c (a .low) ss (v .table) d .table)
+        → walk level n c a (numbers ss) d v ≡ stops (told level n c a ss d v) (descend level n c (a .low) ss (v .table) d .table)
 
     below : (p : Page) → t .page ≡ some p → (i : Option Place) → pick (a .low) (kids e (p .view)) ≡ i → Rest
-        → walk (suc level) n c a (numbers above) e w ≡ stops w (descend (suc level) n c (a .low) above (w .table) e .table)
+        → walk (suc level) n c a (numbers above) e w
+        ≡ stops (told (suc level) n c a above e w) (descend (suc level) n c (a .low) above (w .table) e .table)
     below p h none q ih =
         absurd (Option·none-ne-some (record { place = e; page = p } ∷ above)
         (sym o ∙ ap (λ (y : Way). y .steps) (descend-ends level n c (a .low) above (w .table) e p h q)))
     below p h (some d) q ih =
         let ss : List Step = record { place = e; page = p } ∷ above in
-        let v : Walked = moved w (t .table) in
+        let v : Walked = moved (noted n e w) (t .table) in
         let f = way-here level n c a above e w r x p h d q in
         let z = ih ss d v (ready-below level n c a above e w r x p h d q) (asks-below level n c a above e w r x p h d q)
         (sym (ap (λ (y : Way). y .steps) f) ∙ o) in
         walk-here level n c a above e w r x p h d q
         ∙ (each-stops n c a (numbers ss) level (around level n c a above e w r x p h d q) v
-        (descend level n c (a .low) ss (t .table) d .table) z
-        ∙ ap (λ (y : Way). stops w (y .table)) (sym f))
+        (told level n c a ss d v) (descend level n c (a .low) ss (t .table) d .table) z
+        ∙ stops-told w (sym (told-here level n c a above e w r x p h d q)) (ap (λ (y : Way). y .table) (sym f)))
 
     found : (i : Option Page) → t .page ≡ i → Rest
-        → walk (suc level) n c a (numbers above) e w ≡ stops w (descend (suc level) n c (a .low) above (w .table) e .table)
+        → walk (suc level) n c a (numbers above) e w
+        ≡ stops (told (suc level) n c a above e w) (descend (suc level) n c (a .low) above (w .table) e .table)
     found none h ih =
         walk-damaged level n c a (numbers above) e w (enters-here level n c a above e w r x) h
-        ∙ ap (λ (y : Way). stops w (y .table)) (sym (descend-damaged level n c (a .low) above (w .table) e h))
+        ∙ stops-told w (sym (report-damaged level n c (a .low) above (w .table) e (w .report) h))
+        (ap (λ (y : Way). y .table) (sym (descend-damaged level n c (a .low) above (w .table) e h)))
     found (some p) h ih = below p h (pick (a .low) (kids e (p .view))) refl ih
 
 -- ── A leaf ──────────────────────────────────────────────────────────────────────────────────────────────────────
@@ -170,7 +184,7 @@ record Passed (level n c : ℕ) (a : Asked) (above : List Step) (e : Place) (w :
   to : leaf .place .high ≤ e .high
   same : walk level n c a (numbers above) e w
       ≡ walk level n c (after (leaf .place .high) a) (numbers above) e
-      (finds a (leaf .page .view) w (descend level n c (a .low) above (w .table) e .table))
+      (finds a (leaf .page .view) (told level n c a above e w) (descend level n c (a .low) above (w .table) e .table))
 
 -- a walk that is asked for nothing in a place's range passes it by
 walk-behind : (level n c end : ℕ) (a : Asked) (above : List ℕ) (e : Place) (w : Walked) → e .high ≤ end
@@ -186,7 +200,7 @@ module _ (level n c : ℕ) (a : Asked) (above : List Step) (e : Place) (w : Walk
   unfolding walkEach
   passed-here q =
       let t = enter n c (numbers above) (w .table) e .table in
-      let v = finds a (p .view) w t in
+      let v = finds a (p .view) (noted n e w) t in
       let k : walkEach (walk level n c a (e .child ∷ numbers above)) (kids e (p .view)) v ≡ v
       = ap (λ (es : List Place). walkEach (walk level n c a (e .child ∷ numbers above)) es v) (leaf-kids level n c a above e w r x p h q) in
       let f = descend-ends level n c (a .low) above (w .table) e p h q in
@@ -196,7 +210,9 @@ module _ (level n c : ℕ) (a : Asked) (above : List Step) (e : Place) (w : Walk
         same = walk-entered level n c a (numbers above) e w (enters-here level n c a above e w r x) p h
             ∙ (k
             ∙ (sym (walk-behind level n c (e .high) a (numbers above) e v (omega arith))
-            ∙ ap (λ (y : Way). walk (suc level) n c (after (e .high) a) (numbers above) e (finds a (p .view) w (y .table))) (sym f)));
+            ∙ ap (walk (suc level) n c (after (e .high) a) (numbers above) e)
+            (finds-told a (p .view) w (sym (report-ends level n c (a .low) above (w .table) e p h (w .report) q))
+            (ap (λ (y : Way). y .table) (sym f)))));
       }
 
   -- it is below
@@ -213,13 +229,16 @@ module _ (level n c : ℕ) (a : Asked) (above : List Step) (e : Place) (w : Walk
     abbrev next : Asked
     next = after (leaf .place .high) a
 
+    abbrev come : Walked
+    come = moved (noted n e w) left
+
     abbrev gone : Walked
-    gone = finds a (leaf .page .view) w (way .table)
+    gone = finds a (leaf .page .view) (told level n c a below d come) (way .table)
 
     kid-around : Around (a .low) (kids e (p .view)) d
     kid-around = around level n c a above e w r x p h d q
 
-    module _ (ih : Passed level n c a below d (moved w left) leaf) where
+    module _ (ih : Passed level n c a below d come leaf) where
       stood : Stood n (a .low) left (record { place = e; page = p })
       stood = here level n c a above e w r x p h
 
@@ -237,7 +256,7 @@ module _ (level n c : ℕ) (a : Asked) (above : List Step) (e : Place) (w : Walk
           let f = walk level n c a (numbers below) in
           let g = walk level n c next (numbers below) in
           walk-here level n c a above e w r x p h d q
-          ∙ (each-comes n c a (numbers below) level kid-around (moved w left) l (omega arith)
+          ∙ (each-comes n c a (numbers below) level kid-around come l (omega arith)
           ∙ (ap (walkEach f (kid-around .behind)) (ih .same)
           ∙ each-same f g (kid-around .behind) (g d gone)
           (λ b v m.
@@ -245,13 +264,22 @@ module _ (level n c : ℕ) (a : Asked) (above : List Step) (e : Place) (w : Walk
           (omega (arith, ih .to, kid-around .above b m)) (within b (behind-mem kid-around b m) .2))))
 
       -- the page is entered again as it stands
-      again : enter n c (numbers above) (way .table) e ≡ record { table = way .table; page = some p }
+      there : read (way .table) (e .child) ≡ p
       unfolding numbers
+      there =
+          stays-read (descend-stays level n c (a .low) below left d (ready-below level n c a above e w r x p h d q)) (e .child)
+          (mem-head (e .child) (numbers above)) ∙ stood .here
+
+      again : enter n c (numbers above) (way .table) e ≡ record { table = way .table; page = some p }
       again =
-          enter-standing n c (numbers above) (way .table) e p (enter-apart n c (numbers above) (w .table) e p h)
-          (stays-read (descend-stays level n c (a .low) below left d (ready-below level n c a above e w r x p h d q)) (e .child)
-          (mem-head (e .child) (numbers above)) ∙ stood .here)
-          (stood .fits)
+          enter-standing n c (numbers above) (way .table) e p (enter-apart n c (numbers above) (w .table) e p h) there (stood .fits)
+
+      -- and nothing is mended
+      as-told : noted n e gone ≡ gone
+      unfolding finds
+      as-told =
+          ap (λ (y : Report). reporting y gone)
+          (adds-standing n (way .table) e (gone .report) (subst (Fits n e) (sym there) (stood .fits)))
 
       comes-back : enters next e gone ≡ true
           → walk (suc level) n c next (numbers above) e gone
@@ -260,8 +288,9 @@ module _ (level n c : ℕ) (a : Asked) (above : List Step) (e : Place) (w : Walk
       comes-back o =
           let f = walk level n c next (numbers below) in
           walk-entered level n c next (numbers above) e gone o p (ap (λ (y : Entered). y .page) again)
-          ∙ (ap (λ (y : Entered). walkEach f (kids e (p .view)) (finds next (p .view) gone (y .table))) again
-          ∙ (ap (walkEach f (kids e (p .view))) (finds-none next (p .view) gone (way .table) (no-certs level n c a above e w r x p h d q) refl)
+          ∙ (ap (λ (y : Entered). walkEach f (kids e (p .view)) (finds next (p .view) (noted n e gone) (y .table))) again
+          ∙ (ap (walkEach f (kids e (p .view)))
+          (finds-none next (p .view) (noted n e gone) (way .table) (no-certs level n c a above e w r x p h d q) refl ∙ as-told)
           ∙ each-comes n c next (numbers below) level kid-around gone l (omega (arith, ih .from))))
 
       -- a kid is entered only where the page is
@@ -293,13 +322,15 @@ module _ (level n c : ℕ) (a : Asked) (above : List Step) (e : Place) (w : Walk
               ∙ sym (walk-past level n c next (numbers above) e gone o))
 
       passed-below : Passed (suc level) n c a above e w leaf
+      unfolding finds
       passed-below = record {
         from = ih .from;
         to = omega (arith, ih .to, within d (around-mem kid-around) .1);
         same = goes-on
             ∙ (ends-alike
-            ∙ ap (λ (y : Way). walk (suc level) n c next (numbers above) e (finds a (leaf .page .view) w (y .table)))
-            (sym (way-here level n c a above e w r x p h d q)));
+            ∙ ap (walk (suc level) n c next (numbers above) e)
+            (finds-told a (leaf .page .view) w (sym (told-here level n c a above e w r x p h d q))
+            (ap (λ (y : Way). y .table) (sym (way-here level n c a above e w r x p h d q)))));
       }
 
 -- a leaf is found on no level 0
@@ -338,7 +369,7 @@ climb-passes (suc level) n c a above e w r x leaf ss o =
         let f = sym (ap (λ (y : Way). y .steps) (way-here level n c a above e w r x p h d q)) ∙ o in
         passed-below level n c a above e w r x p h d q
         (some-level level n c (a .low) us (t .table) d (leaf ∷ ss) f) leaf
-        (ih us d (moved w (t .table)) (ready-below level n c a above e w r x p h d q) (asks-below level n c a above e w r x p h d q) leaf ss f)
+        (ih us d (moved (noted n e w) (t .table)) (ready-below level n c a above e w r x p h d q) (asks-below level n c a above e w r x p h d q) leaf ss f)
 
     found : (i : Option Page) → t .page ≡ i → Rest → Passed (suc level) n c a above e w leaf
     found none h ih =
@@ -349,20 +380,25 @@ climb-passes (suc level) n c a above e w r x leaf ss o =
 -- ── From the root ───────────────────────────────────────────────────────────────────────────────────────────────
 
 module _ {n c : ℕ} {a : Asked} {w : Walked} (g : Ground n c (w .table)) (x : Asks a w) where
+  -- with what the way of the range's first key mends
+  abbrev climbed : Walked
+  climbed = reporting (wayReport n c (a .low) (w .table) (w .report)) w
+
   first-key : a .low ≤ lastKey
   first-key = omega (arith, x .low, x .high)
 
   pub climb-leaf : (leaf : Step) (above : List Step) → wayOf n c (a .low) (w .table) .steps ≡ some (leaf ∷ above)
       → rest n c a w
-      ≡ rest n c (after (leaf .place .high) a) (finds a (leaf .page .view) w (wayOf n c (a .low) (w .table) .table))
-  unfolding rest wayOf finds numbers
+      ≡ rest n c (after (leaf .place .high) a) (finds a (leaf .page .view) climbed (wayOf n c (a .low) (w .table) .table))
+  unfolding rest wayOf wayReport finds numbers
   climb-leaf leaf above o =
       let y = climb-passes topKind n c a [] (rootPlace (w .table)) w (root-ready g (a .low) first-key) x leaf above o in
       let u = wayOf n c (a .low) (w .table) .table in
       y .same
-      ∙ ap (λ (e : Place). walk topKind n c (after (leaf .place .high) a) [] e (finds a (leaf .page .view) w u))
+      ∙ ap (λ (e : Place). walk topKind n c (after (leaf .place .high) a) [] e (finds a (leaf .page .view) climbed u))
       (sym (way-root g (a .low) first-key))
 
-  pub climb-damaged : wayOf n c (a .low) (w .table) .steps ≡ none → rest n c a w ≡ stops w (wayOf n c (a .low) (w .table) .table)
-  unfolding rest wayOf numbers
+  pub climb-damaged : wayOf n c (a .low) (w .table) .steps ≡ none
+      → rest n c a w ≡ stops climbed (wayOf n c (a .low) (w .table) .table)
+  unfolding rest wayOf wayReport numbers
   climb-damaged o = climb-stops topKind n c a [] (rootPlace (w .table)) w (root-ready g (a .low) first-key) x o

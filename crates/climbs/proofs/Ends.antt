@@ -7,10 +7,10 @@ use mathlib.Core.List.{List, []}
 use lib.ListN.{length}
 use borrow.Author.Tests.{lt-ltb, le-ltb}
 use Rattle.rules.specs.Place.{rootPlace}
-use Rattle.rules.specs.Walk.{Walked, walkOf}
+use Rattle.rules.specs.Walk.{Walked, unwalked, walkOf}
 use Rattle.rules.specs.declared.Asked.{Asked}
 use Rattle.rules.proofs.entries.Tests.{not-both}
-use Rattle.rules.proofs.demand1.WalkSteps.{unwalked, walk-past}
+use Rattle.rules.proofs.demand1.WalkSteps.{walk-past}
 use Rattle.climbs.specs.Rest.{rest}
 use Rattle.climbs.specs.After.{after}
 use Rattle.climbs.proofs.Steps.{Enters, enters-not}

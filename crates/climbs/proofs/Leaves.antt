@@ -1,5 +1,5 @@
--- Climbing from the root to one leaf after the other leaves and finds what the walk over the range does: table, damage and
--- certificates. Each climb begins behind the last leaf, so the keys left bound the turns. Assumes nothing.
+-- Climbing from the root to one leaf after the other leaves, finds and reports what the walk over the range does: table,
+-- damage, certificates and what was mended. Each climb begins behind the last leaf, so the keys left bound the turns. Assumes nothing.
 use Prim.Native.Nat.{ℕ, zero, suc, _+_, _-_, _≤_}
 use native.Mathlib.Omega.{arith}
 use mathlib.Core.Path.{_≡_, refl, sym, _∙_}
@@ -11,9 +11,8 @@ use lib.Dec.{ltb}
 use lib.ListN.{length}
 use borrow.Author.Tests.{ltb-true, ltb-false}
 use Rattle.rules.specs.Layout.{lastKey}
-use Rattle.rules.specs.Walk.{Step, Way, wayOf, Walked, finds, stops, walkOf}
+use Rattle.rules.specs.Walk.{Step, Way, wayOf, wayReport, Walked, unwalked, reporting, finds, stops, walkOf}
 use Rattle.rules.specs.declared.Asked.{Asked}
-use Rattle.rules.proofs.demand1.WalkSteps.{unwalked}
 use Rattle.climbs.specs.Rest.{rest}
 use Rattle.climbs.specs.After.{after}
 use Rattle.climbs.specs.Ground.{Ground, Asks}
@@ -37,19 +36,23 @@ after-left end a = go (ltb end (a .high)) refl
 -- ── One turn ────────────────────────────────────────────────────────────────────────────────────────────────────
 
 module _ (turns n c : ℕ) (a : Asked) (w : Walked) where
+  -- with what the climb mended
+  abbrev told : Walked
+  told = reporting (wayReport n c (a .low) (w .table) (w .report)) w
+
   turn-full : ltb (length (w .found)) (a .room) ≡ false → leaves (suc turns) n c a w ≡ w
   unfolding leaves
   turn-full h = rw (leaves, h)
 
   module _ (h : ltb (length (w .found)) (a .room) ≡ true) where
     turn-damaged : wayOf n c (a .low) (w .table) .steps ≡ none
-        → leaves (suc turns) n c a w ≡ stops w (wayOf n c (a .low) (w .table) .table)
+        → leaves (suc turns) n c a w ≡ stops told (wayOf n c (a .low) (w .table) .table)
     unfolding leaves
     turn-damaged q = rw (leaves, h, q)
 
     turn-leaf : (leaf : Step) (above : List Step) → wayOf n c (a .low) (w .table) .steps ≡ some (leaf ∷ above)
         → leaves (suc turns) n c a w
-        ≡ leaves turns n c (after (leaf .place .high) a) (finds a (leaf .page .view) w (wayOf n c (a .low) (w .table) .table))
+        ≡ leaves turns n c (after (leaf .place .high) a) (finds a (leaf .page .view) told (wayOf n c (a .low) (w .table) .table))
     unfolding leaves passes
     turn-leaf leaf above q = rw (leaves, h, q)
 
@@ -85,16 +88,16 @@ leaves-rest (suc turns) n c a w g x m l o =
     climb h y (some (leaf ∷ above)) q ih =
         let k : a .low ≤ lastKey = omega (arith, y .low) in
         let z = leaf-range g (a .low) k leaf above q in
-        let b = after (leaf .place .high) a in
-        let v = finds a (leaf .page .view) w (way .table) in
         turn-leaf turns n c a w h leaf above q
         ∙ (behind ih leaf (z .1) (way-ground g (a .low) k)
         ∙ sym (climb-leaf g y leaf above q))
       where
         behind : Rest → (leaf : Step) → a .low ≤ leaf .place .high → Ground n c (way .table)
-            → leaves turns n c (after (leaf .place .high) a) (finds a (leaf .page .view) w (way .table))
-            ≡ rest n c (after (leaf .place .high) a) (finds a (leaf .page .view) w (way .table))
-        behind ih leaf z f = ih (after (leaf .place .high) a) (finds a (leaf .page .view) w (way .table)) f refl m (after-left (leaf .place .high) a) (omega arith)
+            → leaves turns n c (after (leaf .place .high) a) (finds a (leaf .page .view) (told turns n c a w) (way .table))
+            ≡ rest n c (after (leaf .place .high) a) (finds a (leaf .page .view) (told turns n c a w) (way .table))
+        behind ih leaf z f =
+            ih (after (leaf .place .high) a) (finds a (leaf .page .view) (told turns n c a w) (way .table)) f refl m
+            (after-left (leaf .place .high) a) (omega arith)
 
     turn : (b : Bool) → ltb (length (w .found)) (a .room) ≡ b → Rest → leaves (suc turns) n c a w ≡ rest n c a w
     turn false h ih = turn-full turns n c a w h ∙ sym (rest-full n c a w (ltb-false (length (w .found)) (a .room) h))

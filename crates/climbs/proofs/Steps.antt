@@ -13,12 +13,15 @@ use Rattle.rules.specs.Entry.{Cert, cut}
 use Rattle.rules.specs.Page.{View, Page}
 use Rattle.rules.specs.Table.{read}
 use Rattle.rules.specs.Enter.{enter}
-use Rattle.rules.specs.Walk.{Walked, enters, finds, stops, walkEach, walk}
+use Rattle.rules.specs.Report.{adds, reasonAt}
+use Rattle.rules.specs.Walk.{Walked, reporting, enters, finds, stops, walkEach, walk}
 use Rattle.rules.specs.declared.Asked.{Asked}
 use Rattle.rules.specs.declared.Place.{Place}
+use Rattle.rules.specs.declared.Report.{Report}
 use Rattle.rules.proofs.entries.Tests.{every-true, every-of, fails}
 use Rattle.rules.proofs.entries.Entries.{cut-nil}
 use Rattle.rules.proofs.entries.Places.{Fits, fits-of}
+use Rattle.rules.proofs.entries.Reasons.{adds-fits}
 use Rattle.rules.proofs.demand1.WalkSteps.{walk-past}
 
 -- ── Whether a place is entered ──────────────────────────────────────────────────────────────────────────────────
@@ -61,7 +64,15 @@ enters-not a e w h = fails (enters a e w) (λ q. h (enters-true a e w q))
 
 -- the same in another table
 abbrev pub moved : Walked → List ℕ → Walked
-moved w t = record { table = t; whole = w .whole; found = w .found }
+moved w t = record { table = t; whole = w .whole; found = w .found; report = w .report }
+
+-- by report and table
+pub stops-told : (w : Walked) {x y : Report} {t u : List ℕ} → x ≡ y → t ≡ u → stops (reporting x w) t ≡ stops (reporting y w) u
+stops-told w p q = cc
+
+pub finds-told : (a : Asked) (v : View) (w : Walked) {x y : Report} {t u : List ℕ} → x ≡ y → t ≡ u
+    → finds a v (reporting x w) t ≡ finds a v (reporting y w) u
+finds-told a v w p q = cc
 
 -- a page without certificates adds none
 pub finds-none : (a : Asked) (v : View) (w : Walked) (t : List ℕ) → v .certs ≡ [] → w .whole ≡ true → finds a v w t ≡ moved w t
@@ -73,7 +84,8 @@ finds-none a v w t h q =
     same (sym q) (ap (λ (xs : List Cert). w .found ++ xs) z ∙ append-nil (w .found))
   where
     same : {x y : Bool} {xs ys : List Cert} → x ≡ y → xs ≡ ys
-        → _≡_ {A = Walked} (record { table = t; whole = x; found = xs }) (record { table = t; whole = y; found = ys })
+        → _≡_ {A = Walked} (record { table = t; whole = x; found = xs; report = w .report })
+        (record { table = t; whole = y; found = ys; report = w .report })
     same f g = cc
 
 -- two that ask alike of a page find alike
@@ -89,6 +101,10 @@ pub enter-standing : (n c : ℕ) (above t : List ℕ) (e : Place) (p : Page) →
 unfolding enter
 enter-standing n c above t e p a h f =
     rw (a, enter, h, fits-of n e p f) (ap (λ (q : Page). record { table = t; page = some q }) h)
+
+-- it adds nothing to a report
+pub adds-standing : (n : ℕ) (t : List ℕ) (e : Place) (x : Report) → Fits n e (read t (e .child)) → adds (reasonAt n t e) x ≡ x
+adds-standing n t e x f = adds-fits n t e x (fits-of n e (read t (e .child)) f)
 
 -- ── Over the places of a page ───────────────────────────────────────────────────────────────────────────────────
 

@@ -5,7 +5,7 @@ use mathlib.Core.List.{List, [], _∷_}
 use mathlib.Core.Option.{some, none}
 use lib.Dec.{ltb}
 use lib.ListN.{length}
-use Rattle.rules.specs.Walk.{Step, wayOf, Walked, finds, stops}
+use Rattle.rules.specs.Walk.{Step, wayOf, wayReport, Walked, reporting, finds, stops}
 use Rattle.rules.specs.declared.Asked.{Asked}
 use Rattle.climbs.specs.After.{after}
 
@@ -22,5 +22,6 @@ leaves (suc turns) n c a w =
       | false ↦ w
       | true ↦
           let way = wayOf n c (a .low) (w .table) in
-          elim (way .steps) [ none ↦ stops w (way .table) | some ss ↦ passes (leaves turns n c) a w (way .table) ss ]
+          let told = reporting (wayReport n c (a .low) (w .table) (w .report)) w in
+          elim (way .steps) [ none ↦ stops told (way .table) | some ss ↦ passes (leaves turns n c) a told (way .table) ss ]
     ]

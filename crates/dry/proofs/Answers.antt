@@ -9,6 +9,7 @@ use Rattle.fields.specs.Field.{Bytes}
 use Rattle.rules.specs.Layout.{pageSize, mostPages}
 use Rattle.rules.specs.Test.{between}
 use Rattle.rules.specs.Table.{fit0, root0}
+use Rattle.rules.specs.Report.{nothing}
 use Rattle.rules.specs.Walk.{walkOf}
 use Rattle.rules.specs.declared.Asked.{Asked}
 use Rattle.rules.proofs.entries.Tests.{every-true, between-low, between-high}
@@ -63,3 +64,7 @@ module _ (n : ℕ) (t : List ℕ) (fit : fit0 n t ≡ true) where
       -- a walk that would mend nothing leaves the table as it is
       pub dry-still : ((i : ℕ) → marked (dryOver n a t .mended) i ≡ false) → walkOf n c a t .table ≡ t
       dry-still none = twin .kept .still none
+
+      -- and has nothing to report
+      pub dry-quiet : ((i : ℕ) → marked (dryOver n a t .mended) i ≡ false) → walkOf n c a t .report ≡ nothing
+      dry-quiet none = twin .quiet none

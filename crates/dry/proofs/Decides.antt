@@ -17,7 +17,8 @@ use Rattle.rules.specs.Test.{mem}
 use Rattle.rules.specs.Entry.{Cert, Child, cut}
 use Rattle.rules.specs.Page.{View, isLeaf}
 use Rattle.rules.specs.Place.{rootPlace, highBefore, placeOf, placesIn, kids}
-use Rattle.rules.specs.Walk.{Walked, enters, finds, stops, walkEach, walk, walkOf}
+use Rattle.rules.specs.Report.{nothing}
+use Rattle.rules.specs.Walk.{Walked, unwalked, noted, enters, finds, stops, walkEach, walk, walkOf}
 use Rattle.rules.specs.declared.Asked.{Asked}
 use Rattle.rules.specs.declared.Place.{Place}
 use Rattle.fields.proofs.Field.{leAt-bound}
@@ -25,6 +26,7 @@ use Rattle.rules.specs.Table.{root0, birth0}
 use Rattle.rules.proofs.entries.Tests.{not-both}
 use Rattle.rules.proofs.entries.Views.{inner-kind}
 use Rattle.seen.proofs.Members.{none-at}
+use Rattle.rules.proofs.entries.Reasons.{adds-fits}
 use Rattle.dry.specs.Walk.{marked, Sighted, meets, asks, takes, breaks, dryEach, dry, untouched, dryOver}
 use Rattle.dry.proofs.Chains.{Chain, link, chain-sound}
 use Rattle.dry.proofs.Passed.{Asks, Kept, Passed, passed-on}
@@ -36,6 +38,8 @@ pub record Twin (n : ℕ) (t : List ℕ) (w : Walked) (d : Sighted) : Type 0 whe
   pub kept : Kept n t (w .table) (d .mended)
   pub whole : w .whole ≡ d .whole
   pub found : w .found ≡ d .found
+  -- with no mark there is nothing to report
+  pub quiet : ((i : ℕ) → marked (d .mended) i ≡ false) → w .report ≡ nothing
 
 -- and after another place, whose range ends at high
 pub record After (n : ℕ) (t : List ℕ) (w : Walked) (d : Sighted) (high : ℕ) (w′ : Walked) (d′ : Sighted) : Type 0 where
@@ -116,19 +120,20 @@ module _ (n c : ℕ) (a : Asked) (t : List ℕ) (hn : n ≤ mostPages) (hc : c <
   twin-stops : (w : Walked) (d : Sighted) (high : ℕ) → Twin n t w d → After n t w d high (stops w (w .table)) (breaks d)
   unfolding stops breaks
   twin-stops w d high x = record {
-    twin = record { kept = x .kept; whole = refl; found = x .found };
+    twin = record { kept = x .kept; whole = refl; found = x .found; quiet = x .quiet };
     later = λ k l h old. old;
   }
 
   -- both take what the page shows
   twin-finds : (w : Walked) (d : Sighted) (e : Place) (v : View) (u′ : List ℕ) (m′ : List Bool) → Twin n t w d
-      → Shows n t (w .table) (d .mended) e u′ m′ v → After n t w d (e .high) (finds a v w u′) (takes a v d m′)
+      → Shows n t (w .table) (d .mended) e u′ m′ v → After n t w d (e .high) (finds a v (noted n e w) u′) (takes a v d m′)
   unfolding finds takes asks
   twin-finds w d e v u′ m′ x s = record {
     twin = record {
       kept = s .kept;
       whole = refl;
       found = ap (λ (xs : List Cert). xs ++ take (a .room - length xs) (cut (a .low) (a .high) (v .certs))) (x .found);
+      quiet = λ none. let z = s .calm none in adds-fits n (w .table) e (w .report) (z .0) ∙ x .quiet (z .1);
     };
     later = s .later;
   }
@@ -138,22 +143,22 @@ module _ (n c : ℕ) (a : Asked) (t : List ℕ) (hn : n ≤ mostPages) (hc : c <
       (step : (top : ℕ) → Steps n t top (walk level n c a (e .child ∷ above)) (dry level n a (e .child) parent t)) where
     twin-kids : (w : Walked) (d : Sighted) (v : View) (u′ : List ℕ) (m′ : List Bool) → Twin n t w d
         → Shows n t (w .table) (d .mended) e u′ m′ v
-        → After n t w d (e .high) (walkEach (walk level n c a (e .child ∷ above)) (kids e v) (finds a v w u′))
+        → After n t w d (e .high) (walkEach (walk level n c a (e .child ∷ above)) (kids e v) (finds a v (noted n e w) u′))
         (dryEach (dry level n a (e .child) parent t) (kids e v) (takes a v d m′))
     unfolding kids walkEach dryEach finds takes asks placesIn
     twin-kids w d v u′ m′ x s = go (isLeaf v) refl
       where
-        first : After n t w d (e .high) (finds a v w u′) (takes a v d m′)
+        first : After n t w d (e .high) (finds a v (noted n e w) u′) (takes a v d m′)
         first = twin-finds w d e v u′ m′ x s
 
         go : (b : Bool) → isLeaf v ≡ b
-            → After n t w d (e .high) (walkEach (walk level n c a (e .child ∷ above)) (kids e v) (finds a v w u′))
+            → After n t w d (e .high) (walkEach (walk level n c a (e .child ∷ above)) (kids e v) (finds a v (noted n e w) u′))
             (dryEach (dry level n a (e .child) parent t) (kids e v) (takes a v d m′))
         go true q = rw (s .wide .shaped .leaf q) first
         go false q =
             let all = twin-each n t (v .kind - 1) (e .high) (one q) high (walk level n c a (e .child ∷ above))
             (dry level n a (e .child) parent t) (step (v .kind - 1)) (e .low) (v .children) (chain-sound (s .sound) (s .wide))
-            (finds a v w u′) (takes a v d m′) (first .twin) (s .below) in
+            (finds a v (noted n e w) u′) (takes a v d m′) (first .twin) (s .below) in
             record { twin = all .twin; later = λ k l h old. all .later k l h (first .later k l h old) }
           where
             one : isLeaf v ≡ false → 1 ≤ v .kind - 1
@@ -202,16 +207,17 @@ module _ (n c : ℕ) (a : Asked) (t : List ℕ) (hn : n ≤ mostPages) (hc : c <
   unfolding marked untouched
   none-marked i = none-at mostPages i
 
-  start : Twin n t (record { table = t; whole = true; found = [] }) untouched
+  start : Twin n t (unwalked t) untouched
   unfolding untouched
   start = record {
     kept = record { size = size; bytes = bytes; marks = length-replicate mostPages false; same = λ i h. refl; still = λ none. refl };
     whole = refl;
     found = refl;
+    quiet = λ none. refl;
   }
 
   pub dry-decides : Twin n t (walkOf n c a t) (dryOver n a t)
   unfolding walkOf dryOver
   dry-decides =
-      twin-walk n c a t hn hc topKind [] 0 0 near-root topKind (rootPlace t) (record { table = t; whole = true; found = [] }) untouched
+      twin-walk n c a t hn hc topKind [] 0 0 near-root topKind (rootPlace t) (unwalked t) untouched
       asks-root start (record { at = λ i h. absurd (not-both h (none-marked i)) }) .twin

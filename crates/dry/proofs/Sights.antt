@@ -25,7 +25,7 @@ use Rattle.rules.proofs.bytes.Pages.{WideView, Wide, room-pageBytes}
 use Rattle.rules.proofs.bytes.Widths.{wide-mended}
 use Rattle.rules.proofs.bytes.Tables.{Has, has-page, Room, wide-read, bytes-build, length-build, read-build-same, read-build-other}
 use Rattle.rules.proofs.entries.Sounds.{Sound}
-use Rattle.rules.proofs.entries.Places.{Fits, fits-true, Mendable, mendable-true, mended-view-sound}
+use Rattle.rules.proofs.entries.Places.{Fits, fits-true, fits-of, Mendable, mendable-true, mended-view-sound}
 use Rattle.dry.specs.Walk.{marked, keeps, sightOf, sightMended, sight}
 use Rattle.dry.proofs.Passed.{Asks, Kept, Passed, passed-on, fits-keeps, mendable-helps, read-fits, read-helps}
 
@@ -40,6 +40,8 @@ pub record Shows (n : ℕ) (t u : List ℕ) (m : List Bool) (e : Place) (u′ : 
   pub wide : WideView v
   pub below : Passed u′ m′ (v .kind - 1) (e .low)
   pub later : (k l : ℕ) → e .high < l → Passed u m k l → Passed u′ m′ k l
+  -- with no mark the page fitted, and there was none before
+  pub calm : ((i : ℕ) → marked m′ i ≡ false) → (fits n e (read u (e .child)) ≡ true) × ((i : ℕ) → marked m i ≡ false)
 
 pub data Met (n c : ℕ) (above near t u : List ℕ) (m : List Bool) (e : Place) : Type 0 where
   neither : enter n c above u e ≡ damaged u → sight n near t m e ≡ none → Met n c above near t u m e
@@ -151,6 +153,7 @@ module _ (n c top : ℕ) (t u : List ℕ) (m : List Bool) (e : Place) (hn : n �
           below = passed-after (read u (e .previous) .view .kind - 1) (e .low)
               (inl (omega (arith, now-kind, g .sound .kind-from))) (passed-on (omega arith) (omega arith) f);
           later = λ k l h old. passed-after k l (inr (omega (arith, now-high))) old;
+          calm = λ none. absurd (not-both marked-here (none (e .child)));
         }
 
   -- ── A page that fits ────────────────────────────────────────────────────────────────────────────────────────────
@@ -162,6 +165,7 @@ module _ (n c top : ℕ) (t u : List ℕ) (m : List Bool) (e : Place) (hn : n �
     wide = wide-read u (e .child) (s .bytes) .view;
     below = passed-on (omega (arith, a .kind (read u (e .child) .view .kind) (g .sound .kind-to) (g .kind))) (omega arith) f;
     later = λ k l h old. old;
+    calm = λ none. (fits-of n e (read u (e .child)) g, none);
   }
 
   -- ── Entering ────────────────────────────────────────────────────────────────────────────────────────────────────

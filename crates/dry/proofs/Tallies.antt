@@ -8,7 +8,7 @@ use lib.Dec.{leb, ltb}
 use lib.ListN.{length, take, drop}
 use lib.Seq.{take-nil, take-all, length-take-le}
 use borrow.Author.Tests.{leb-true, leb-false, le-leb, lt-leb, lt-ltb, le-ltb, ltb-true, ltb-false}
-use Rattle.rules.specs.Layout.{headerSize, certSize, leafKind, leafRoom}
+use Rattle.rules.specs.Layout.{leafHeader, certSize, leafKind, leafRoom}
 use Rattle.rules.specs.Test.{between}
 use Rattle.rules.specs.Entry.{Cert, cut}
 use Rattle.rules.specs.Page.{readEach, certIn, pageIn}
@@ -161,20 +161,20 @@ module _ (low high room : ℕ) where
   module _ (b : List ℕ) (entries : ℕ) where
     -- what is left to count
     abbrev pub tallies : ℕ → ℕ → ℕ
-    tallies j count = tally low high room (left certIn certSize b entries j) count
+    tallies j count = tally low high room (left certIn leafHeader certSize b entries j) count
 
     pub tally-turn : (j key count found : ℕ) → j < entries → key ≡ certAt b j .key → found ≡ tallied low high room key count
         → tallies (j + 1) found ≡ tallies j count
     unfolding certAt
     tally-turn j key count found h k f =
-        rw (f, k, left-more certIn certSize b entries j h)
-        (tally-cons (certIn (drop (headerSize + certSize * j) b)) (left certIn certSize b entries (j + 1)) count)
+        rw (f, k, left-more certIn leafHeader certSize b entries j h)
+        (tally-cons (certIn (drop (leafHeader + certSize * j) b)) (left certIn leafHeader certSize b entries (j + 1)) count)
 
     pub tally-end : (j count : ℕ) → entries ≤ j → tallies j count ≡ count
-    tally-end j count h = rw (left-none certIn certSize b entries j h) (tally-nil count)
+    tally-end j count h = rw (left-none certIn leafHeader certSize b entries j h) (tally-nil count)
 
-    pub tally-start : (count : ℕ) → tallies 0 count ≡ tally low high room (readEach certIn certSize entries (drop headerSize b)) count
-    tally-start count = ap (λ (xs : List Cert). tally low high room xs count) (sym (left-all certIn certSize b entries))
+    pub tally-start : (count : ℕ) → tallies 0 count ≡ tally low high room (readEach certIn certSize entries (drop leafHeader b)) count
+    tally-start count = ap (λ (xs : List Cert). tally low high room xs count) (sym (left-all certIn leafHeader certSize b entries))
 
 -- ── All of them ─────────────────────────────────────────────────────────────────────────────────────────────────
 
@@ -223,7 +223,7 @@ module _ (t : List ℕ) (page : ℕ) (h : Head) (f : h ≡ headIn (pageAt t page
   as-read = f ∙ headIn-page (pageAt t page)
 
   length-leaf : h .kind ≡ leafKind → length (read t page .view .certs) ≡ h .count
-  length-leaf k = ap length (certs-leaf t page h as-read k) ∙ length-readEach certIn certSize (h .count) (drop headerSize (pageAt t page))
+  length-leaf k = ap length (certs-leaf t page h as-read k) ∙ length-readEach certIn certSize (h .count) (drop leafHeader (pageAt t page))
 
   pub leaf-room : Within (read t page) → h .kind ≡ leafKind → h .count ≤ leafRoom
   leaf-room w k = omega (arith, length-leaf k, w .room)
@@ -238,7 +238,7 @@ module _ (t : List ℕ) (page : ℕ) (h : Head) (f : h ≡ headIn (pageAt t page
 
   module _ (a : Asked) (e : Place) (count : ℕ) where
     pub tally-leaf : (low high : ℕ) → h .kind ≡ leafKind → low ≡ larger (a .low) (e .low) → high ≡ smaller (a .high) (e .high)
-        → tally low high (a .room) (readEach certIn certSize (h .count) (drop headerSize (pageAt t page))) count
+        → tally low high (a .room) (readEach certIn certSize (h .count) (drop leafHeader (pageAt t page))) count
         ≡ tallyAt t page a e count
     unfolding tallyAt cutView tally
     tally-leaf low high k p q =

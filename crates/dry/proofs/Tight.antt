@@ -16,3 +16,6 @@ next-tight κs a pre z z′ l l′ p q =
 
 pub mends-nothing-tight : Tight this.mends_nothing.Kinds.ps this.mends_nothing.Kinds.r this.mends_nothing.Reads.Pre this.mends_nothing.Reads.Post
 mends-nothing-tight κs a pre z z′ l l′ p q = (p ∙ sym q, refl)
+
+pub tally-leaf-tight : Tight this.tally.tally_leaf.Kinds.ps this.tally.tally_leaf.Kinds.r this.tally.tally_leaf.Reads.Pre this.tally.tally_leaf.Reads.Post
+tally-leaf-tight κs a pre z z′ l l′ p q = (p ∙ sym q, refl)

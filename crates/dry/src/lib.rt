@@ -11,8 +11,8 @@
 //
 // Below stand `seen`, which finds the entries of a page that lie in a range, `sound`, which tests a page against a
 // place, `head`, which reads headers and entries, and `rules`.
-use head::Head;
-use head::cert_key_at;
+mod tally;
+
 use head::head_at;
 use head::root_place;
 use rules::Asked;
@@ -28,19 +28,18 @@ use seen::rest_of;
 use seen::run_in;
 use sound::fits_at;
 use sound::mendable_at;
+use tally::tally_leaf;
 ghost use mathlib.Core.Path.{_≡_};
 ghost use mathlib.Core.Bool.{true};
 ghost use Prim.Native.Nat.{_+_, _*_, _≤_, _<_};
-ghost use lib.ListN.{length, drop};
+ghost use lib.ListN.{length};
 ghost use mathlib.Core.List.{[], _∷_};
-ghost use Rattle.rules.specs.Layout.{pageSize, headerSize, certSize, leafRoom};
+ghost use Rattle.rules.specs.Layout.{pageSize};
 ghost use Rattle.rules.specs.Test.{mem};
-ghost use Rattle.rules.specs.Page.{readEach, certIn};
-ghost use Rattle.rules.specs.Table.{pageAt, fit0};
+ghost use Rattle.rules.specs.Table.{fit0};
 ghost use Rattle.seen.specs.Run.{Lies};
 ghost use Rattle.dry.specs.Walk.{keeps, helps, noneMarked, dryOf};
 ghost use Rattle.dry.specs.Source.{source, markedBy};
-ghost use Rattle.dry.specs.Count.{larger, smaller, tallied, tally, tallyAll, liesIn, Leaf, tallyAt};
 ghost use Rattle.dry.specs.Cursor.{inReach, meeting, meetOf, noRun, atRoot, underRoot, withLower, dueLower, dueUpper, dueRoot, dueOf, underOf, settleOf, stepping, stepOf, Leads, Sure};
 ghost use Rattle.dry.specs.declared.Source.{Source};
 
@@ -185,101 +184,6 @@ fn mark_by(marks: &mut [bool], page: u16, e: Place)
         return;
     }
     mark(marks, e.child as usize);
-}
-
-// The narrower one of two ranges has the larger low and the smaller high.
-
-fn larger(x: u64, y: u64) -> u64
-    ensures { λ r. ⌜ r ≡ larger x y ⌝ }
-{
-    if x <= y {
-        return y;
-    }
-    x
-}
-
-fn smaller(x: u64, y: u64) -> u64
-    ensures { λ r. ⌜ r ≡ smaller x y ⌝ }
-{
-    if x <= y {
-        return x;
-    }
-    y
-}
-
-// One certificate more, if its key is asked for and there is room.
-fn tally_key(low: u64, high: u64, room: usize, key: u64, count: usize) -> usize
-    ensures { λ r. ⌜ r ≡ tallied low high room key count ⌝ }
-{
-    if key < low {
-        return count;
-    }
-    if key > high {
-        return count;
-    }
-    if count >= room {
-        return count;
-    }
-    count + 1
-}
-
-fn tally_each(
-    table: &[u8],
-    page: usize,
-    entries: usize,
-    low: u64,
-    high: u64,
-    room: usize,
-    count: usize,
-) -> usize
-    requires { ⌜ ((page + 1) * pageSize ≤ length (now table)) × (entries ≤ leafRoom) ⌝ }
-    ensures { λ r. ⌜ r ≡ tally low high room (readEach certIn certSize entries (drop headerSize (pageAt (now (table .entry)) page))) count ⌝ }
-{
-    let mut found = count;
-    let mut j = 0;
-    while j < entries {
-        found = tally_key(low, high, room, cert_key_at(table, page, j), found);
-        j += 1;
-    }
-    found
-}
-
-// All of them, while there is room.
-fn tally_all(entries: usize, room: usize, count: usize) -> usize
-    ensures { λ r. ⌜ r ≡ tallyAll entries room count ⌝ }
-{
-    if count >= room {
-        return count;
-    }
-    if entries <= room - count {
-        return count + entries;
-    }
-    room
-}
-
-// Whether a page's range lies in another one.
-fn lies_in(head: Head, low: u64, high: u64) -> bool
-    ensures { λ r. ⌜ r ≡ liesIn head low high ⌝ }
-{
-    if low > head.low {
-        return false;
-    }
-    head.high <= high
-}
-
-// The certificates of a leaf, as a place shows them, that are asked for. A list asks for most leaves whole: those are
-// not looked through.
-fn tally_leaf(table: &[u8], page: usize, head: Head, a: Asked, e: Place, count: usize) -> usize
-    requires { ⌜ Leaf (now table) page head ⌝ }
-    ensures { λ r. ⌜ r ≡ tallyAt (now (table .entry)) page a e count ⌝ }
-{
-    let entries = head.count as usize;
-    let low = larger(a.low, e.low);
-    let high = smaller(a.high, e.high);
-    if lies_in(head, low, high) {
-        return tally_all(entries, a.room, count);
-    }
-    tally_each(table, page, entries, low, high, a.room, count)
 }
 
 // One place: it is passed, it shows a leaf or entries, or it is damaged.

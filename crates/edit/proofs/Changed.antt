@@ -3,7 +3,7 @@
 use mathlib.Core.Path.{_≡_, refl, sym, ap, _∙_}
 use mathlib.Core.List.{List, _∷_, _++_}
 use Prim.Native.Nat.{ℕ, _+_, _-_, _*_, _≤_, _<_}
-use native.Mathlib.Nat.{add-zero, mul-zero, mul-suc}
+use native.Mathlib.Nat.{add-zero, zero-add, mul-zero, mul-suc}
 use native.Mathlib.Numerals.{add-one}
 use native.Mathlib.Omega.{arith}
 use lib.ListN.{length, take, drop, length-append, length-drop}
@@ -12,31 +12,30 @@ use Rattle.fields.specs.Field.{Bytes, number, leAt, putAt}
 use Rattle.fields.proofs.Bytes.{bytes-sets}
 use Rattle.fields.proofs.Field.{get-put-other, bytes-put, length-put}
 use Rattle.fields.proofs.Run.{sets-append, part-sets-below, length-part}
-use Rattle.rules.specs.Layout.{headerSize}
+use Rattle.rules.specs.Layout.{commonHeader}
 use Rattle.rules.specs.Page.{View, Page, pageIn, count, touch, headerBytes, pageBytes, changeBytes, over, readEach, writeEach, certBytes, childBytes}
 use Rattle.rules.proofs.bytes.Each.{length-readEach, writeEach-append}
-use Rattle.rules.proofs.bytes.Pages.{length-headerBytes}
 use Rattle.entries.proofs.Header.{header-puts}
 use Rattle.entries.proofs.Ranges.{range-within, write-range}
 use Rattle.entries.proofs.Sets.{sets-comm, sets-same, put-same, over-sets}
 
 -- a header written over one that differs from it in count and touched alone
-module _ (b es : List ℕ) (v : View) (c : ℕ) (h : Bytes (sets b headerSize es)) (l : headerSize ≤ length b) (e : v .kind ≡ leAt b 0 2) where
-  header-part : (off w : ℕ) → off + w ≤ headerSize → leAt b off w ≡ leAt (sets b headerSize es) off w
+module _ (header : ℕ) (b es : List ℕ) (v : View) (c : ℕ) (n : commonHeader ≤ header) (h : Bytes (sets b header es)) (l : header ≤ length b) (e : v .kind ≡ leAt b 0 2) where
+  header-part : (off w : ℕ) → off + w ≤ header → leAt b off w ≡ leAt (sets b header es) off w
   unfolding leAt
-  header-part off w k = ap number (sym (part-sets-below es b headerSize off w k))
+  header-part off w k = ap number (sym (part-sets-below es b header off w k))
 
-  pub stamp-header : sets (sets b headerSize es) 0 (headerBytes (touch c v (pageIn b))) ≡ putAt (putAt (sets b headerSize es) 2 2 (count v)) 12 4 c
+  pub stamp-header : sets (sets b header es) 0 (headerBytes (touch c v (pageIn b))) ≡ putAt (putAt (sets b header es) 2 2 (count v)) 12 4 c
   unfolding headerBytes touch pageIn
   stamp-header =
-      let q = sets b headerSize es in
-      let m : headerSize ≤ length q = rw (length-sets b headerSize es) l in
+      let q = sets b header es in
+      let m : header ≤ length q = rw (length-sets b header es) l in
       let counted = putAt q 2 2 (count v) in
       let touched = putAt counted 12 4 c in
       let hc : Bytes counted = bytes-put q 2 2 (count v) h in
       let ht : Bytes touched = bytes-put counted 12 4 c hc in
-      let mc : headerSize ≤ length counted = rw (length-put q 2 2 (count v)) m in
-      let mt : headerSize ≤ length touched = rw (length-put counted 12 4 c) mc in
+      let mc : header ≤ length counted = rw (length-put q 2 2 (count v)) m in
+      let mt : header ≤ length touched = rw (length-put counted 12 4 c) mc in
       let kind = put-same q 0 2 (v .kind) h (omega arith) (e ∙ header-part 0 2 (omega arith)) in
       let birth = put-same counted 4 4 (leAt b 4 4) hc (omega arith) (header-part 4 4 (omega arith) ∙ sym (get-put-other q 2 2 (count v) 4 4 refl)) in
       let built = put-same counted 8 4 (leAt b 8 4) hc (omega arith) (header-part 8 4 (omega arith) ∙ sym (get-put-other q 2 2 (count v) 8 4 refl)) in
@@ -44,18 +43,19 @@ module _ (b es : List ℕ) (v : View) (c : ℕ) (h : Bytes (sets b headerSize es
       let high = put-same touched 24 8 (leAt b 24 8) ht (omega arith) (header-part 24 8 (omega arith) ∙ sym (get-put-other q 2 2 (count v) 24 8 refl) ∙ sym (get-put-other counted 12 4 c 24 8 refl)) in
       header-puts q (v .kind) (count v) (leAt b 4 4) (leAt b 8 4) c (leAt b 16 8) (leAt b 24 8) ∙ rw (kind, birth, built, low, high)
 
-pub change-bytes : (b es : List ℕ) (v : View) (c : ℕ) → Bytes b → Bytes es → headerSize + length es ≤ length b → v .kind ≡ leAt b 0 2
+pub change-bytes : (header : ℕ) (b es : List ℕ) (v : View) (c : ℕ) → commonHeader ≤ header → length (headerBytes (touch c v (pageIn b))) ≡ header
+    → Bytes b → Bytes es → header + length es ≤ length b → v .kind ≡ leAt b 0 2
     → writeEach certBytes (v .certs) ++ writeEach childBytes (v .children) ≡ es
-    → changeBytes (touch c v (pageIn b)) b ≡ putAt (putAt (sets b headerSize es) 2 2 (count v)) 12 4 c
+    → changeBytes (touch c v (pageIn b)) b ≡ putAt (putAt (sets b header es) 2 2 (count v)) 12 4 c
 unfolding changeBytes pageBytes touch
-change-bytes b es v c h k l e f =
+change-bytes header b es v c n m h k l e f =
     let p : Page = touch c v (pageIn b) in
-    let long : length (headerBytes p ++ es) ≡ headerSize + length es = length-append (headerBytes p) es ∙ ap (λ (n : ℕ). n + length es) (length-headerBytes p) in
+    let long : length (headerBytes p ++ es) ≡ header + length es = length-append (headerBytes p) es ∙ ap (λ (n : ℕ). n + length es) m in
     ap (λ (r : List ℕ). over (headerBytes p ++ r) b) f
     ∙ over-sets (headerBytes p ++ es) b (rw long l)
     ∙ sets-append (headerBytes p) es b 0
-    ∙ rw (length-headerBytes p) (sets-comm (headerBytes p) es b 0 headerSize (rw (length-headerBytes p) (omega arith)))
-    ∙ stamp-header b es v c (bytes-sets es b headerSize h k) (omega arith) e
+    ∙ rw (m, zero-add) (sets-comm (headerBytes p) es b 0 header (rw m (omega arith)))
+    ∙ stamp-header header b es v c n (bytes-sets es b header h k) (omega arith) e
 
 -- ── Entries written over a page's old ones ──────────────────────────────────────────────────────────────────────
 

@@ -19,7 +19,7 @@ use Rattle.rules.proofs.bytes.Over.{over-over}
 use Rattle.rules.proofs.bytes.All.{all-put}
 use Rattle.rules.proofs.bytes.EntryBytes.{WideChild}
 use Rattle.rules.proofs.entries.Views.{shaped-viewIn}
-use Rattle.rules.proofs.bytes.Pages.{Wide, wide-pageIn, pageIn-changeBytes, length-pageBytes, length-changeBytes}
+use Rattle.rules.proofs.bytes.Pages.{Wide, wide-pageIn, pageIn-changeBytes, length-innerHeader, length-pageBytes, length-changeBytes}
 use Rattle.edit.proofs.Put.{keys-present, length-put}
 use Rattle.edit.specs.Takes.{TakesChild, HasChild}
 
@@ -73,11 +73,11 @@ module _ (b : List ℕ) (x : Child) (c : ℕ) (h : Bytes b) (l : length b ≡ pa
   view-first = ap (λ (p : Page). p .view) page-first
 
   pub long-first : length (changeBytes first b) ≡ pageSize
-  unfolding touch putChild
+  unfolding touch putChild isLeaf
   long-first =
       let none : viewIn b .certs ≡ [] = shaped-viewIn b .inner (t .inner) in
       let few = t .room in
-      let fit : length (pageBytes first) ≤ length b = rw (l, length-pageBytes first, none, length-first) (omega arith) in
+      let fit : length (pageBytes first) ≤ length b = rw (l, length-pageBytes first, length-innerHeader first (t .inner), none, length-first) (omega arith) in
       length-changeBytes first b fit ∙ l
 
   pub takes-first : (middle : ℕ) → mem middle (keys (viewIn b .children)) ≡ false → TakesChild middle (viewIn (changeBytes first b))
@@ -91,9 +91,9 @@ module _ (b : List ℕ) (x : Child) (c : ℕ) (h : Bytes b) (l : length b ≡ pa
   pub change-twice : (y : Child)
       → changeBytes (touch c (putChild y (viewIn (changeBytes first b))) (pageIn (changeBytes first b))) (changeBytes first b)
       ≡ changeBytes (touch c (putChild y (putChild x (viewIn b))) (pageIn b)) b
-  unfolding touch putChild
+  unfolding touch putChild isLeaf
   change-twice y =
       let second : Page = touch c (putChild y (putChild x (viewIn b))) (pageIn b) in
       let more : length (pageBytes first) ≤ length (pageBytes second) =
-      rw (length-pageBytes first, length-pageBytes second) (omega (arith, length-put y (put x (viewIn b .children)))) in
+      rw (length-pageBytes first, length-pageBytes second, length-innerHeader first (t .inner), length-innerHeader second (t .inner)) (omega (arith, length-put y (put x (viewIn b .children)))) in
       rw (view-first, page-first) (change-change first second b more)

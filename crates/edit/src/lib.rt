@@ -10,13 +10,14 @@ use rules::AT_COUNT;
 use rules::AT_TOUCHED;
 use rules::CERT;
 use rules::CHILD;
-use rules::HEADER;
+use rules::INNER_HEADER;
+use rules::LEAF_HEADER;
 use rules::PAGE;
 ghost use mathlib.Core.Path.{_≡_};
 ghost use Prim.Native.Nat.{_+_, _*_, _≤_};
 ghost use lib.ListN.{length};
 ghost use Rattle.fields.specs.Field.{putAt};
-ghost use Rattle.rules.specs.Layout.{pageSize, headerSize};
+ghost use Rattle.rules.specs.Layout.{pageSize, commonHeader};
 ghost use Rattle.rules.specs.Page.{viewIn, pageIn, changeBytes, touch};
 ghost use Rattle.rules.specs.Table.{read};
 ghost use Rattle.rules.specs.Insert.{newChild, putCert, putChild, changed};
@@ -25,7 +26,7 @@ ghost use Rattle.edit.specs.Takes.{TakesCert, TakesChild, HasChild, Take
 
 // A page that is changed now, with so many entries.
 fn stamp(page: &mut [u8], count: u16, c: u32)
-    requires { ⌜ headerSize ≤ length (now page) ⌝ }
+    requires { ⌜ commonHeader ≤ length (now page) ⌝ }
     ensures { λ r. ⌜ now (page .exit) ≡ putAt (putAt (now (page .entry)) 2 2 count) 12 4 c ⌝ }
 {
     fields::put16(page, AT_COUNT, count);
@@ -38,8 +39,8 @@ fn put_cert_in(page: &mut [u8], key: u64, value: u32, c: u32)
     ensures { λ r. ⌜ now (page .exit) ≡ changeBytes (touch c (putCert (newCert key value) (viewIn (now (page .entry)))) (pageIn (now (page .entry)))) (now (page .entry)) ⌝ }
 {
     let count = fields::get16(page, AT_COUNT);
-    let at = HEADER + CERT * entries::spot(page, CERT, count as usize, key);
-    entries::move_up(page, at, HEADER + CERT * (count as usize), CERT);
+    let at = LEAF_HEADER + CERT * entries::spot(page, LEAF_HEADER, CERT, count as usize, key);
+    entries::move_up(page, at, LEAF_HEADER + CERT * (count as usize), CERT);
     entries::write_cert(page, at, key, value);
     stamp(page, count + 1, c);
 }
@@ -50,8 +51,8 @@ fn put_child_in(page: &mut [u8], key: u64, child: u16, previous: u16, c: u32)
     ensures { λ r. ⌜ now (page .exit) ≡ changeBytes (touch c (putChild (newChild c key child previous) (viewIn (now (page .entry)))) (pageIn (now (page .entry)))) (now (page .entry)) ⌝ }
 {
     let count = fields::get16(page, AT_COUNT);
-    let at = HEADER + CHILD * entries::spot(page, CHILD, count as usize, key);
-    entries::move_up(page, at, HEADER + CHILD * (count as usize), CHILD);
+    let at = INNER_HEADER + CHILD * entries::spot(page, INNER_HEADER, CHILD, count as usize, key);
+    entries::move_up(page, at, INNER_HEADER + CHILD * (count as usize), CHILD);
     entries::write_child(page, at, key, child, previous, c);
     stamp(page, count + 1, c);
 }
@@ -63,8 +64,15 @@ fn set_child_in(page: &mut [u8], key: u64, child: u16, previous: u16, c: u32)
     ensures { λ r. ⌜ now (page .exit) ≡ changeBytes (touch c (putChild (newChild c key child previous) (viewIn (now (page .entry)))) (pageIn (now (page .entry)))) (now (page .entry)) ⌝ }
 {
     let count = fields::get16(page, AT_COUNT);
-    let past = entries::spot(page, CHILD, count as usize, key);
-    entries::write_child(page, HEADER + CHILD * (past - 1), key, child, previous, c);
+    let past = entries::spot(page, INNER_HEADER, CHILD, count as usize, key);
+    entries::write_child(
+        page,
+        INNER_HEADER + CHILD * (past - 1),
+        key,
+        child,
+        previous,
+        c,
+    );
     stamp(page, count, c);
 }
 

@@ -13,6 +13,7 @@ use Rattle.rules.specs.Table.{pageAt, read, build}
 use Rattle.rules.specs.Place.{mendable, mended, cutView}
 use Rattle.rules.specs.Enter as rules
 use Rattle.rules.specs.declared.Place.{Place}
+use Rattle.rules.specs.declared.Reason.{Reason}
 use Rattle.head.specs.Head.{headIn}
 use Rattle.head.specs.declared.Head.{Head}
 use Rattle.head.proofs.Headers.{headOf, headIn-page}
@@ -57,9 +58,9 @@ head-read t i e = e ∙ headIn-page (pageAt t i)
 
 module _ (n c : ℕ) (t : List ℕ) (e : Place) (b : Bytes t) (w : Narrow c e) (l : length t ≡ n * pageSize) (h : e .child < n) where
   -- the table after a mend, and the header read there
-  pub mended-told : mendable n e (read t (e .previous)) ≡ true → (u : List ℕ) (a : Head)
+  pub mended-told : mendable n e (read t (e .previous)) ≡ true → (u : List ℕ) (a : Head) (r : Reason)
       → u ≡ build t (e .child) (mended c e (read t (e .previous))) → a ≡ headIn (pageAt u (e .child))
-      → entering u (Entered.Page a) ≡ told (rules.mend n c t e)
-  mended-told m u a f g =
-      let r = head-read u (e .child) g ∙ ap (λ (x : List ℕ). headOf (read x (e .child))) f ∙ ap headOf (read-mended n c t e b w l h m) in
-      cc (mend-page n c t e m)
+      → entering u (Entered.Page a r) ≡ told r (rules.mend n c t e)
+  mended-told m u a r f g =
+      let q = head-read u (e .child) g ∙ ap (λ (x : List ℕ). headOf (read x (e .child))) f ∙ ap headOf (read-mended n c t e b w l h m) in
+      cc (mend-page n c t e r m)

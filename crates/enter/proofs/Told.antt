@@ -13,28 +13,29 @@ use Rattle.rules.specs.Table.{read, build}
 use Rattle.rules.specs.Place.{fits, mendable, mended}
 use Rattle.rules.specs.Enter as rules
 use Rattle.rules.specs.declared.Place.{Place}
+use Rattle.rules.specs.declared.Reason.{Reason}
 use Rattle.head.specs.declared.Head.{Head}
 use Rattle.head.proofs.Headers.{headOf}
 use Rattle.enter.specs.Entering.{Entering, entering, answerOf, told}
 use Rattle.enter.specs.declared.Entered.{Entered}
 
-module _ (n c : ℕ) (t : List ℕ) (e : Place) where
-  pub mend-damaged : mendable n e (read t (e .previous)) ≡ false → entering t Entered.Damaged ≡ told (rules.mend n c t e)
+module _ (n c : ℕ) (t : List ℕ) (e : Place) (r : Reason) where
+  pub mend-damaged : mendable n e (read t (e .previous)) ≡ false → entering t Entered.Damaged ≡ told r (rules.mend n c t e)
   unfolding rules.mend told answerOf
   mend-damaged m = rw (m, rules.mend)
 
   pub mend-page : mendable n e (read t (e .previous)) ≡ true
-      → entering (build t (e .child) (mended c e (read t (e .previous)))) (Entered.Page (headOf (mended c e (read t (e .previous))))) ≡ told (rules.mend n c t e)
+      → entering (build t (e .child) (mended c e (read t (e .previous)))) (Entered.Page (headOf (mended c e (read t (e .previous)))) r) ≡ told r (rules.mend n c t e)
   unfolding rules.mend told answerOf
   mend-page m = rw (m, rules.mend)
 
   module _ (above : List ℕ) where
-    pub enter-above : mem (e .child) above ≡ true → entering t Entered.Damaged ≡ told (rules.enter n c above t e)
+    pub enter-above : mem (e .child) above ≡ true → entering t Entered.Damaged ≡ told r (rules.enter n c above t e)
     unfolding rules.enter told answerOf
     enter-above a = rw (a, rules.enter)
 
     pub enter-fits : mem (e .child) above ≡ false → fits n e (read t (e .child)) ≡ true
-        → entering t (Entered.Page (headOf (read t (e .child)))) ≡ told (rules.enter n c above t e)
+        → entering t (Entered.Page (headOf (read t (e .child))) r) ≡ told r (rules.enter n c above t e)
     unfolding rules.enter told answerOf
     enter-fits a f = rw (a, rules.enter, f)
 
@@ -64,23 +65,23 @@ enter-same n c xs ys t e h = rw (h, rules.enter)
 
 -- ── An answer taken apart ───────────────────────────────────────────────────────────────────────────────────────
 
-pub told-table : {t : List ℕ} {r : Entered} (x : rules.Entered) → entering t r ≡ told x → t ≡ x .table
+pub told-table : {t : List ℕ} {a : Entered} (r : Reason) (x : rules.Entered) → entering t a ≡ told r x → t ≡ x .table
 unfolding told
-told-table x h = ap (λ (y : Entering). y .table) h
+told-table r x h = ap (λ (y : Entering). y .table) h
 
-pub told-page : {t : List ℕ} (h : Head) (x : rules.Entered) → entering t (Entered.Page h) ≡ told x
-    → (p : Page) × (x .page ≡ some p) × (h ≡ headOf p)
+pub told-page : {t : List ℕ} (r : Reason) (h : Head) (s : Reason) (x : rules.Entered) → entering t (Entered.Page h s) ≡ told r x
+    → (p : Page) × (x .page ≡ some p) × (h ≡ headOf p) × (s ≡ r)
 unfolding told answerOf
-told-page h x f = go (x .page) refl (ap (λ (y : Entering). y .answer) f)
+told-page r h s x f = go (x .page) refl (ap (λ (y : Entering). y .answer) f)
   where
-    go : (o : Option Page) → x .page ≡ o → Entered.Page h ≡ answerOf o → (p : Page) × (x .page ≡ some p) × (h ≡ headOf p)
+    go : (o : Option Page) → x .page ≡ o → Entered.Page h s ≡ answerOf r o → (p : Page) × (x .page ≡ some p) × (h ≡ headOf p) × (s ≡ r)
     go none q g = absurd (let z : _≡_ {A = ℕ} 0 1 = cc in omega arith)
-    go (some p) q g = (p, q, cc)
+    go (some p) q g = (p, q, cc, cc)
 
-pub told-damaged : {t : List ℕ} (x : rules.Entered) → entering t Entered.Damaged ≡ told x → x .page ≡ none
+pub told-damaged : {t : List ℕ} (r : Reason) (x : rules.Entered) → entering t Entered.Damaged ≡ told r x → x .page ≡ none
 unfolding told answerOf
-told-damaged x h = go (x .page) refl (ap (λ (y : Entering). y .answer) h)
+told-damaged r x h = go (x .page) refl (ap (λ (y : Entering). y .answer) h)
   where
-    go : (o : Option Page) → x .page ≡ o → Entered.Damaged ≡ answerOf o → x .page ≡ none
+    go : (o : Option Page) → x .page ≡ o → Entered.Damaged ≡ answerOf r o → x .page ≡ none
     go none q g = q
     go (some p) q g = absurd (let z : _≡_ {A = ℕ} 0 1 = cc in omega arith)

@@ -7,12 +7,14 @@
 // Below stand `sound`, which tests pages, `build`, which mends them, and `head`, which reads them.
 use head::Head;
 use rules::Place;
+use rules::Reason;
 ghost use mathlib.Core.Path.{_≡_};
 ghost use Prim.Native.Nat.{_*_, _<_};
 ghost use lib.ListN.{length};
 ghost use Rattle.rules.specs.Layout.{pageSize};
 ghost use Rattle.rules.specs.Test.{mem};
 ghost use Rattle.rules.specs.Enter.{mend, enter};
+ghost use Rattle.rules.specs.Report.{reasonAt};
 ghost use Rattle.enter.specs.Entering.{aboveOf, entering, told};
 
 // The pages above on the way from the root, at most two; 0, which is never a child, stands for none.
@@ -21,9 +23,9 @@ pub struct Above {
     pub top: u16,
 }
 
-// The page entered, by its header, or the place is damaged.
+// The page entered, by its header, with the reason why it was mended, or none; or the place is damaged.
 pub enum Entered {
-    Page(Head),
+    Page(Head, Reason),
     Damaged,
 }
 
@@ -37,26 +39,28 @@ fn stands_above(above: Above, child: u16) -> bool
 }
 
 // A child that doesn't fit is lost: it is mended where its previous page allows it.
-fn mend(t: &mut [u8], n: usize, c: u32, e: Place) -> Entered
+fn mend(t: &mut [u8], n: usize, c: u32, e: Place, reason: Reason) -> Entered
     requires { ⌜ (length (now t) ≡ n * pageSize) × (e .child < n) ⌝ }
-    ensures { λ r. ⌜ entering (now (t .exit)) r ≡ told (mend n c (now (t .entry)) e) ⌝ }
+    ensures { λ r. ⌜ entering (now (t .exit)) r ≡ told reason (mend n c (now (t .entry)) e) ⌝ }
 {
     if !sound::mendable_at(t, e, n) {
         return Entered::Damaged;
     }
     build::build_mended(t, e, c);
-    Entered::Page(head::head_at(t, e.child as usize))
+    Entered::Page(head::head_at(t, e.child as usize), reason)
 }
 
 pub fn enter(t: &mut [u8], n: usize, c: u32, above: Above, e: Place) -> Entered
     requires { ⌜ (length (now t) ≡ n * pageSize) × (e .child < n) ⌝ }
-    ensures { λ r. ⌜ entering (now (t .exit)) r ≡ told (enter n c (aboveOf above) (now (t .entry)) e) ⌝ }
+    ensures { λ r. ⌜ entering (now (t .exit)) r
+        ≡ told (reasonAt n (now (t .entry)) e) (enter n c (aboveOf above) (now (t .entry)) e) ⌝ }
 {
     if stands_above(above, e.child) {
         return Entered::Damaged;
     }
-    if sound::fits_at(t, e, n) {
-        return Entered::Page(head::head_at(t, e.child as usize));
+    let reason = sound::unfit_at(t, e, n);
+    if reason.is_none() {
+        return Entered::Page(head::head_at(t, e.child as usize), reason);
     }
-    mend(t, n, c, e)
+    mend(t, n, c, e, reason)
 }

@@ -11,7 +11,7 @@ use lib.ListN.{length, drop, getD}
 use lib.Seq.{drop-drop}
 use Rattle.fields.specs.Field.{leAt}
 use Rattle.fields.proofs.Field.{leAt-drop}
-use Rattle.rules.specs.Layout.{headerSize, certSize, childSize}
+use Rattle.rules.specs.Layout.{leafHeader, innerHeader, certSize, childSize}
 use Rattle.rules.specs.Entry.{Entry, keys}
 use Rattle.rules.specs.Page.{readEach, certIn, childIn}
 use Rattle.rules.proofs.bytes.Each.{length-readEach, readEach-at}
@@ -23,24 +23,24 @@ unfolding keys readEach
 keys-readEach read size zero b f = refl
 keys-readEach read size (suc k) b f = rw (f b, keys-readEach read size k (drop size b) f)
 
-pub keys-certs : (k : ℕ) (b : List ℕ) → keys (readEach certIn certSize k (drop headerSize b)) ≡ keysIn certSize k b
+pub keys-certs : (k : ℕ) (b : List ℕ) → keys (readEach certIn certSize k (drop leafHeader b)) ≡ keysIn leafHeader certSize k b
 unfolding keysIn keyIn certIn
-keys-certs k b = keys-readEach certIn certSize k (drop headerSize b) (λ l. refl)
+keys-certs k b = keys-readEach certIn certSize k (drop leafHeader b) (λ l. refl)
 
-pub keys-children : (k : ℕ) (b : List ℕ) → keys (readEach childIn childSize k (drop headerSize b)) ≡ keysIn childSize k b
+pub keys-children : (k : ℕ) (b : List ℕ) → keys (readEach childIn childSize k (drop innerHeader b)) ≡ keysIn innerHeader childSize k b
 unfolding keysIn keyIn childIn
-keys-children k b = keys-readEach childIn childSize k (drop headerSize b) (λ l. refl)
+keys-children k b = keys-readEach childIn childSize k (drop innerHeader b) (λ l. refl)
 
-pub length-keysIn : (size k : ℕ) (b : List ℕ) → length (keysIn size k b) ≡ k
+pub length-keysIn : (header size k : ℕ) (b : List ℕ) → length (keysIn header size k b) ≡ k
 unfolding keysIn
-length-keysIn size k b = length-readEach keyIn size k (drop headerSize b)
+length-keysIn header size k b = length-readEach keyIn size k (drop header b)
 
 -- the key at an index, read where it lies
-pub key-at : (size count j : ℕ) (b : List ℕ) → j < count → getD (keysIn size count b) j 0 ≡ leAt b (headerSize + size * j) 8
+pub key-at : (header size count j : ℕ) (b : List ℕ) → j < count → getD (keysIn header size count b) j 0 ≡ leAt b (header + size * j) 8
 unfolding keysIn keyIn
-key-at size count j b h =
-    rw (readEach-at keyIn size count (drop headerSize b) j 0 h, drop-drop)
-    (leAt-drop b (headerSize + size * j) 0 8 ∙ ap (λ (n : ℕ). leAt b n 8) (add-zero (headerSize + size * j)))
+key-at header size count j b h =
+    rw (readEach-at keyIn size count (drop header b) j 0 h, drop-drop)
+    (leAt-drop b (header + size * j) 0 8 ∙ ap (λ (n : ℕ). leAt b n 8) (add-zero (header + size * j)))
 
 pub spot-bound : (k : ℕ) (ks : List ℕ) → spotOf k ks ≤ length ks
 unfolding spotOf

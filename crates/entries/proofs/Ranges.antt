@@ -9,7 +9,7 @@ use lib.ListN.{length, take, drop, length-drop}
 use lib.Seq.{drop-drop}
 use Rattle.fields.specs.Field.{Bytes}
 use Rattle.fields.proofs.Bytes.{bytes-drop}
-use Rattle.rules.specs.Layout.{headerSize, certSize, childSize}
+use Rattle.rules.specs.Layout.{leafHeader, innerHeader, certSize, childSize}
 use Rattle.rules.specs.Page.{readEach, writeEach, certIn, certBytes, childIn, childBytes}
 use Rattle.rules.proofs.bytes.Each.{take-readEach, drop-readEach, writeEach-readEach}
 use Rattle.rules.proofs.bytes.EntryBytes.{certBytes-certIn, childBytes-childIn}
@@ -26,10 +26,10 @@ module _ {A : Type 0} (read : List ℕ → A) (write : A → List ℕ) (size : �
       rw (drop-readEach read size first k (drop off b), take-readEach read size many (k - first) (drop (size * first) (drop off b)) (omega arith), drop-drop)
       (writeEach-readEach read write size forth many (drop (off + size * first) b) (bytes-drop (off + size * first) b h) (rw length-drop (omega arith)))
 
-pub write-certs : (b : List ℕ) (k first many : ℕ) → Bytes b → headerSize + certSize * k ≤ length b → first + many ≤ k
-    → writeEach certBytes (take many (drop first (readEach certIn certSize k (drop headerSize b)))) ≡ take (certSize * many) (drop (headerSize + certSize * first) b)
-write-certs b k first many h l m = write-range certIn certBytes certSize certBytes-certIn b headerSize k first many h l m
+pub write-certs : (b : List ℕ) (k first many : ℕ) → Bytes b → leafHeader + certSize * k ≤ length b → first + many ≤ k
+    → writeEach certBytes (take many (drop first (readEach certIn certSize k (drop leafHeader b)))) ≡ take (certSize * many) (drop (leafHeader + certSize * first) b)
+write-certs b k first many h l m = write-range certIn certBytes certSize certBytes-certIn b leafHeader k first many h l m
 
-pub write-children : (b : List ℕ) (k first many : ℕ) → Bytes b → headerSize + childSize * k ≤ length b → first + many ≤ k
-    → writeEach childBytes (take many (drop first (readEach childIn childSize k (drop headerSize b)))) ≡ take (childSize * many) (drop (headerSize + childSize * first) b)
-write-children b k first many h l m = write-range childIn childBytes childSize childBytes-childIn b headerSize k first many h l m
+pub write-children : (b : List ℕ) (k first many : ℕ) → Bytes b → innerHeader + childSize * k ≤ length b → first + many ≤ k
+    → writeEach childBytes (take many (drop first (readEach childIn childSize k (drop innerHeader b)))) ≡ take (childSize * many) (drop (innerHeader + childSize * first) b)
+write-children b k first many h l m = write-range childIn childBytes childSize childBytes-childIn b innerHeader k first many h l m

@@ -3,6 +3,9 @@ use mathlib.Core.Path.{refl, sym, _∙_}
 use Rattle.tight.specs.Tight.{Tight}
 use Rattle.entries.proofs as this
 
+pub header-size-tight : Tight this.header_size.Kinds.ps this.header_size.Kinds.r this.header_size.Reads.Pre this.header_size.Reads.Post
+header-size-tight κs a pre z z′ l l′ p q = (p ∙ sym q, refl)
+
 pub size-of-tight : Tight this.size_of.Kinds.ps this.size_of.Kinds.r this.size_of.Reads.Pre this.size_of.Reads.Post
 size-of-tight κs a pre z z′ l l′ p q = (p ∙ sym q, refl)
 

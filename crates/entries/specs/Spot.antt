@@ -5,9 +5,13 @@ use mathlib.Core.List.{List, [], _∷_}
 use lib.ListN.{drop}
 use lib.Dec.{eqb, leb}
 use Rattle.fields.specs.Field.{leAt}
-use Rattle.rules.specs.Layout.{headerSize, certSize, childSize, leafKind}
+use Rattle.rules.specs.Layout.{leafHeader, innerHeader, certSize, childSize, leafKind}
 use Rattle.rules.specs.Entry.{Cert}
 use Rattle.rules.specs.Page.{readEach}
+
+-- how many bytes the header of a page of this kind takes
+unfoldable pub headerSize : ℕ → ℕ
+headerSize kind = elim (eqb kind leafKind) [ true ↦ leafHeader | false ↦ innerHeader ]
 
 -- how many bytes an entry of a page of this kind takes
 unfoldable pub sizeOf : ℕ → ℕ
@@ -17,9 +21,9 @@ sizeOf kind = elim (eqb kind leafKind) [ true ↦ certSize | false ↦ childSize
 unfoldable pub keyIn : List ℕ → ℕ
 keyIn b = leAt b 0 8
 
--- the keys of a page's entries, of one size, so many of them
-unfoldable pub keysIn : ℕ → ℕ → List ℕ → List ℕ
-keysIn size count b = readEach keyIn size count (drop headerSize b)
+-- the keys of a page's entries, behind a header, of one size, so many of them
+unfoldable pub keysIn : ℕ → ℕ → ℕ → List ℕ → List ℕ
+keysIn header size count b = readEach keyIn size count (drop header b)
 
 -- how many keys stand before the first one above k
 unfoldable pub spotOf : ℕ → List ℕ → ℕ

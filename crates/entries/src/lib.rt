@@ -1,7 +1,7 @@
-// The entries of a page as runs of bytes: their size, the spot of a key among them, and runs copied, moved up and set to
+// The entries of a page as runs of bytes: where they start, their size, the spot of a key among them, and runs copied, moved up and set to
 // zero.
 //
-// A leaf's entries and an inner page's differ in size alone here: each starts with its key. The spot of a key is the
+// A leaf's entries and an inner page's differ in size and in where they start alone here: each starts with its key. The spot of a key is the
 // number of entries before the first one with a greater key. Every function that writes says which bytes it sets, and
 // all others stay.
 //
@@ -13,16 +13,28 @@ use rules::AT_CHILD_PREVIOUS;
 use rules::AT_RECORD;
 use rules::CERT;
 use rules::CHILD;
-use rules::HEADER;
+use rules::INNER_HEADER;
 use rules::LEAF;
+use rules::LEAF_HEADER;
 ghost use mathlib.Core.Path.{_≡_};
 ghost use Prim.Native.Nat.{_+_, _*_, _-_, _≤_, _<_};
 ghost use lib.ListN.{length, take, drop, replicate};
 ghost use lib.Seq.{sets};
-ghost use Rattle.rules.specs.Layout.{headerSize, certSize, childSize};
+ghost use Rattle.rules.specs.Layout.{certSize, childSize};
 ghost use Rattle.rules.specs.Page.{certBytes, childBytes};
 ghost use Rattle.rules.specs.Insert.{newChild};
-ghost use Rattle.entries.specs.Spot.{sizeOf, keysIn, spotOf, startOf, newCert};
+ghost use Rattle.entries.specs.Spot.{headerSize, sizeOf, keysIn, spotOf, startOf, newCert};
+
+// How many bytes the header of a page of this kind takes.
+pub fn header_size(kind: u16) -> usize
+    ensures { λ r. ⌜ r ≡ headerSize kind ⌝ }
+{
+    if kind == LEAF {
+        LEAF_HEADER
+    } else {
+        INNER_HEADER
+    }
+}
 
 // How many bytes an entry of a page of this kind takes.
 pub fn size_of(kind: u16) -> usize
@@ -32,13 +44,13 @@ pub fn size_of(kind: u16) -> usize
 }
 
 // How many entries stand before the first one with a key above this one.
-pub fn spot(page: &[u8], size: usize, count: usize, key: u64) -> usize
+pub fn spot(page: &[u8], header: usize, size: usize, count: usize, key: u64) -> usize
     requires { ⌜ 8 ≤ size ⌝ }
-    requires { ⌜ headerSize + size * count ≤ length (now page) ⌝ }
-    ensures { λ r. ⌜ r ≡ spotOf key (keysIn size count (now (page .entry))) ⌝ }
+    requires { ⌜ header + size * count ≤ length (now page) ⌝ }
+    ensures { λ r. ⌜ r ≡ spotOf key (keysIn header size count (now (page .entry))) ⌝ }
 {
     let mut j = 0;
-    let mut at = HEADER;
+    let mut at = header;
     while j < count {
         if fields::get64(page, at) > key {
             return j;
@@ -50,15 +62,15 @@ pub fn spot(page: &[u8], size: usize, count: usize, key: u64) -> usize
 }
 
 // How many entries stand before the first one with a key not below this one.
-pub fn start(page: &[u8], size: usize, count: usize, low: u64) -> usize
+pub fn start(page: &[u8], header: usize, size: usize, count: usize, low: u64) -> usize
     requires { ⌜ 8 ≤ size ⌝ }
-    requires { ⌜ headerSize + size * count ≤ length (now page) ⌝ }
-    ensures { λ r. ⌜ r ≡ startOf low (keysIn size count (now (page .entry))) ⌝ }
+    requires { ⌜ header + size * count ≤ length (now page) ⌝ }
+    ensures { λ r. ⌜ r ≡ startOf low (keysIn header size count (now (page .entry))) ⌝ }
 {
     if low == 0 {
         return 0;
     }
-    spot(page, size, count, low - 1)
+    spot(page, header, size, count, low - 1)
 }
 
 // Bytes from `from` on, put over as many at `to`, the first one first. A run that starts before its new place ends

@@ -28,6 +28,11 @@ kh-newest-tight κs a pre z z′ l l′ p q =
     let e = p ∙ sym q in
     ((λ i. e i .back), (λ i. (e i .working, l .1)))
 
+pub kh-has-any-tight : Tight this.kh_has_any.Kinds.ps this.kh_has_any.Kinds.r this.kh_has_any.Reads.Pre this.kh_has_any.Reads.Post
+kh-has-any-tight κs a pre z z′ l l′ p q =
+    let e = p ∙ sym q in
+    ((λ i. e i .back), (λ i. (e i .working, l .1)))
+
 pub kh-list-tight : Tight this.kh_list.Kinds.ps this.kh_list.Kinds.r this.kh_list.Reads.Pre this.kh_list.Reads.Post
 kh-list-tight κs a pre z z′ l l′ p q =
     let e = p ∙ sym q in

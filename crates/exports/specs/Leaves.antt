@@ -2,16 +2,22 @@
 -- numbers beside a refusal are 0.
 use Prim.Native.Nat.{ℕ}
 use mathlib.Core.List.{List}
-use Rattle.rules.specs.Call.{Left, formattedNo, lookedNo, lookedRecord, newestNo, newestIssue, newestRecord, listedNo, listedCount}
+use Rattle.rules.specs.Report.{Reported, reasonNo}
+use Rattle.rules.specs.Call.{Left, formattedNo, insertedNo, lookedNo, lookedRecord, newestNo, newestIssue, newestRecord, anyNo, anyYes, listedNo, listedCount}
 use Rattle.rules.specs.Format.{Formatting}
 use Rattle.rules.specs.List.{ListLeft}
 use Rattle.rules.specs.declared.Session.{Session}
+use Rattle.rules.specs.declared.Report.{Report}
+use Rattle.rules.specs.declared.Inserted.{Inserted}
 use Rattle.rules.specs.declared.Looked.{Looked}
 use Rattle.rules.specs.declared.Newest.{Newest}
+use Rattle.rules.specs.declared.Any.{Any}
 use Rattle.rules.specs.declared.Listed.{Listed}
 use Rattle.exports.specs.declared.KhAnswered.{KhAnswered}
+use Rattle.exports.specs.declared.KhChanged.{KhChanged}
 use Rattle.exports.specs.declared.KhLooked.{KhLooked}
 use Rattle.exports.specs.declared.KhNewest.{KhNewest}
+use Rattle.exports.specs.declared.KhAny.{KhAny}
 use Rattle.exports.specs.declared.KhListed.{KhListed}
 
 pub record Leaves (A : Type 0) : Type 0 where
@@ -52,19 +58,50 @@ listing back working stable keys records = record {
 abbrev pub answeredBack : ℕ → Session → KhAnswered
 answeredBack answer session = record { answer = answer; session = session }
 
-abbrev pub lookedBack : Looked → Session → KhLooked
-lookedBack a session = record { answer = lookedNo a; «record» = lookedRecord a; session = session }
-
-abbrev pub newestBack : Newest → Session → KhNewest
-newestBack a session = record {
-  answer = newestNo a;
-  issue = newestIssue a;
-  «record» = newestRecord a;
+abbrev pub insertedBack : Inserted → Report → Session → KhChanged
+insertedBack a x session = record {
+  answer = insertedNo a;
+  mended = x .mended;
+  reason = reasonNo (x .reason);
   session = session;
 }
 
-abbrev pub listedBack : Listed → Session → KhListed
-listedBack a session = record { answer = listedNo a; count = listedCount a; session = session }
+abbrev pub lookedBack : Looked → Report → Session → KhLooked
+lookedBack a x session = record {
+  answer = lookedNo a;
+  «record» = lookedRecord a;
+  mended = x .mended;
+  reason = reasonNo (x .reason);
+  session = session;
+}
+
+abbrev pub newestBack : Newest → Report → Session → KhNewest
+newestBack a x session = record {
+  answer = newestNo a;
+  issue = newestIssue a;
+  «record» = newestRecord a;
+  mended = x .mended;
+  reason = reasonNo (x .reason);
+  session = session;
+}
+
+abbrev pub anyBack : Any → Report → Session → KhAny
+anyBack a x session = record {
+  answer = anyNo a;
+  any = anyYes a;
+  mended = x .mended;
+  reason = reasonNo (x .reason);
+  session = session;
+}
+
+abbrev pub listedBack : Listed → Report → Session → KhListed
+listedBack a x session = record {
+  answer = listedNo a;
+  count = listedCount a;
+  mended = x .mended;
+  reason = reasonNo (x .reason);
+  session = session;
+}
 
 -- ── The same of what the rules say ──────────────────────────────────────────────────────────────────────────────
 
@@ -74,11 +111,23 @@ formatted l = formatting (formattedNo (l .answer)) (l .stable)
 abbrev pub answered : {A : Type 0} → (A → ℕ) → Left A → Leaves KhAnswered
 answered number l = leaves (answeredBack (number (l .answer)) (l .session)) (l .working) (l .stable)
 
-abbrev pub looked : Left Looked → Leaves KhLooked
-looked l = leaves (lookedBack (l .answer) (l .session)) (l .working) (l .stable)
+abbrev pub inserted : Reported (Left Inserted) → Leaves KhChanged
+inserted r = leaves (insertedBack (r .left .answer) (r .report) (r .left .session)) (r .left .working) (r .left .stable)
 
-abbrev pub newest : Left Newest → Leaves KhNewest
-newest l = leaves (newestBack (l .answer) (l .session)) (l .working) (l .stable)
+abbrev pub looked : Reported (Left Looked) → Leaves KhLooked
+looked r = leaves (lookedBack (r .left .answer) (r .report) (r .left .session)) (r .left .working) (r .left .stable)
 
-abbrev pub listed : ListLeft → Lists
-listed l = listing (listedBack (l .answer) (l .session)) (l .working) (l .stable) (l .keys) (l .records)
+abbrev pub newest : Reported (Left Newest) → Leaves KhNewest
+newest r = leaves (newestBack (r .left .answer) (r .report) (r .left .session)) (r .left .working) (r .left .stable)
+
+abbrev pub any : Reported (Left Any) → Leaves KhAny
+any r = leaves (anyBack (r .left .answer) (r .report) (r .left .session)) (r .left .working) (r .left .stable)
+
+abbrev pub listed : Reported ListLeft → Lists
+listed r =
+    listing
+    (listedBack (r .left .answer) (r .report) (r .left .session))
+    (r .left .working)
+    (r .left .stable)
+    (r .left .keys)
+    (r .left .records)

@@ -1,4 +1,4 @@
-// The store for callers in C: its seven calls under C names, with numbers for answers.
+// The store for callers in C: its eight calls under C names, with numbers for answers.
 //
 // Each call is that of `store`, of which every word holds here too: nothing is required but what C asks of any caller.
 // Slices are a pointer and a length; a session goes in and comes back by value, laid out as C lays it out. An answer is
@@ -13,10 +13,7 @@ ghost use mathlib.Core.Path.{_≡_};
 ghost use Rattle.rules.specs.Call.{openedNo, insertedNo, syncedNo};
 ghost use Rattle.rules.specs.Format;
 ghost use Rattle.rules.specs.Open;
-ghost use Rattle.rules.specs.Insert;
-ghost use Rattle.rules.specs.Lookup;
-ghost use Rattle.rules.specs.Newest;
-ghost use Rattle.rules.specs.List;
+ghost use Rattle.rules.specs.Reports.{insertReported, lookupReported, newestReported, hasAnyReported, listReported};
 ghost use Rattle.rules.specs.Sync;
 ghost use Rattle.exports.specs.Leaves as C;
 use rules::Session;
@@ -28,9 +25,19 @@ pub struct KhAnswered {
 }
 
 #[repr(C)]
+pub struct KhChanged {
+    pub answer: u32,
+    pub mended: u32,
+    pub reason: u32,
+    pub session: Session,
+}
+
+#[repr(C)]
 pub struct KhLooked {
     pub answer: u32,
     pub record: u32,
+    pub mended: u32,
+    pub reason: u32,
     pub session: Session,
 }
 
@@ -39,6 +46,17 @@ pub struct KhNewest {
     pub answer: u32,
     pub issue: u32,
     pub record: u32,
+    pub mended: u32,
+    pub reason: u32,
+    pub session: Session,
+}
+
+#[repr(C)]
+pub struct KhAny {
+    pub answer: u32,
+    pub any: u32,
+    pub mended: u32,
+    pub reason: u32,
     pub session: Session,
 }
 
@@ -46,6 +64,8 @@ pub struct KhNewest {
 pub struct KhListed {
     pub answer: u32,
     pub count: u64,
+    pub mended: u32,
+    pub reason: u32,
     pub session: Session,
 }
 
@@ -80,15 +100,19 @@ pub extern "C" fn kh_insert(
     serial: u32,
     issue: u16,
     value: u32,
-) -> KhAnswered
+) -> KhChanged
     ensures { λ r. ⌜ C.leaves r (now (working .exit)) (now (stable .entry))
-        ≡ C.answered insertedNo (Insert.insert (now (working .entry)) (now (stable .entry)) session model serial issue value) ⌝ }
+        ≡ C.inserted (insertReported (now (working .entry)) (now (stable .entry)) session model serial issue value) ⌝ }
 {
     let left = store::insert(working, stable, session, model, serial, issue, value);
     let answer = left.answer;
+    let report = left.report;
+    let reason = report.reason;
     let session = left.session;
-    KhAnswered {
+    KhChanged {
         answer: numbers::inserted(answer),
+        mended: report.mended,
+        reason: numbers::reason(reason),
         session,
     }
 }
@@ -103,13 +127,17 @@ pub extern "C" fn kh_lookup(
     issue: u16,
 ) -> KhLooked
     ensures { λ r. ⌜ C.leaves r (now (working .exit)) (now (stable .entry))
-        ≡ C.looked (Lookup.lookup (now (working .entry)) (now (stable .entry)) session model serial issue) ⌝ }
+        ≡ C.looked (lookupReported (now (working .entry)) (now (stable .entry)) session model serial issue) ⌝ }
 {
     let left = store::lookup(working, stable, session, model, serial, issue);
     let answer = left.answer;
+    let report = left.report;
+    let reason = report.reason;
     KhLooked {
         answer: numbers::looked(answer),
         record: numbers::looked_record(answer),
+        mended: report.mended,
+        reason: numbers::reason(reason),
         session,
     }
 }
@@ -123,14 +151,42 @@ pub extern "C" fn kh_newest(
     serial: u32,
 ) -> KhNewest
     ensures { λ r. ⌜ C.leaves r (now (working .exit)) (now (stable .entry))
-        ≡ C.newest (Newest.newest (now (working .entry)) (now (stable .entry)) session model serial) ⌝ }
+        ≡ C.newest (newestReported (now (working .entry)) (now (stable .entry)) session model serial) ⌝ }
 {
     let left = store::newest(working, stable, session, model, serial);
     let answer = left.answer;
+    let report = left.report;
+    let reason = report.reason;
     KhNewest {
         answer: numbers::newest(answer),
         issue: numbers::newest_issue(answer),
         record: numbers::newest_record(answer),
+        mended: report.mended,
+        reason: numbers::reason(reason),
+        session,
+    }
+}
+
+#[no_mangle]
+pub extern "C" fn kh_has_any(
+    working: &mut [u8],
+    stable: &[u8],
+    session: Session,
+    model: u16,
+    serial: u32,
+) -> KhAny
+    ensures { λ r. ⌜ C.leaves r (now (working .exit)) (now (stable .entry))
+        ≡ C.any (hasAnyReported (now (working .entry)) (now (stable .entry)) session model serial) ⌝ }
+{
+    let left = store::has_any(working, stable, session, model, serial);
+    let answer = left.answer;
+    let report = left.report;
+    let reason = report.reason;
+    KhAny {
+        answer: numbers::any(answer),
+        any: numbers::any_yes(answer),
+        mended: report.mended,
+        reason: numbers::reason(reason),
         session,
     }
 }
@@ -145,13 +201,17 @@ pub extern "C" fn kh_list(
     records: &mut [u32],
 ) -> KhListed
     ensures { λ r. ⌜ C.listing r (now (working .exit)) (now (stable .entry)) (now (keys .exit)) (now (records .exit))
-        ≡ C.listed (List.list (now (working .entry)) (now (stable .entry)) session start (now (keys .entry)) (now (records .entry))) ⌝ }
+        ≡ C.listed (listReported (now (working .entry)) (now (stable .entry)) session start (now (keys .entry)) (now (records .entry))) ⌝ }
 {
     let left = store::list(working, stable, session, start, keys, records);
     let answer = left.answer;
+    let report = left.report;
+    let reason = report.reason;
     KhListed {
         answer: numbers::listed(answer),
         count: numbers::listed_count(answer),
+        mended: report.mended,
+        reason: numbers::reason(reason),
         session,
     }
 }

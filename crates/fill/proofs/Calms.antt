@@ -5,7 +5,7 @@ use mathlib.Core.Path.{_≡_, refl, sym, ap, _∙_}
 use mathlib.Core.Bool.{Bool, true, false}
 use mathlib.Core.List.{List, [], _++_}
 use lib.ListN.{length, take, replicate}
-use Rattle.rules.specs.Layout.{pageSize, certSize, leafKind, leafRoom, mostPages}
+use Rattle.rules.specs.Layout.{pageSize, leafHeader, certSize, leafKind, leafRoom, mostPages}
 use Rattle.rules.specs.Entry.{Cert, cut, rising}
 use Rattle.rules.specs.Table.{pageAt, read}
 use Rattle.rules.specs.declared.Asked.{Asked}
@@ -110,7 +110,7 @@ module _ {n : ℕ} {a : Asked} {t ks xs : List ℕ} (calm : Calm n a t) where
           pub filling-count : h .count ≤ leafRoom
           filling-count = leaves.leaf-room t (l .page) h here kind sorted
 
-          pub filling-rises : rising (keysIn certSize (h .count) (pageAt t (l .page))) ≡ true
+          pub filling-rises : rising (keysIn leafHeader certSize (h .count) (pageAt t (l .page))) ≡ true
           filling-rises = leaves.leaf-rise t (l .page) h here kind sorted
 
           shown : leafView t a l seen ≡ asked a filled (certsFrom (pageAt t (l .page)) 0 (h .count))

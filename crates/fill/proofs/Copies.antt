@@ -7,7 +7,7 @@ use native.Mathlib.Numerals.{add-one}
 use native.Mathlib.Omega.{arith}
 use lib.ListN.{length, take, drop, getD, set, length-append}
 use lib.Seq.{paste, paste-suc, take-length, drop-drop}
-use Rattle.rules.specs.Layout.{headerSize, certSize}
+use Rattle.rules.specs.Layout.{leafHeader, certSize}
 use Rattle.rules.specs.Entry.{Cert, keys}
 use Rattle.rules.specs.Page.{certIn, over}
 use Rattle.rules.specs.List.{recordsOf}
@@ -49,12 +49,12 @@ copy-turn d e new at j v p l m q = rw (p, q, add-one j) (paste-suc d at new j 0 
 module _ (b : List ℕ) (first many : ℕ) where
   length-from : length (certsFrom b first many) ≡ many
   unfolding certsFrom
-  length-from = length-readEach certIn certSize many (drop (headerSize + certSize * first) b)
+  length-from = length-readEach certIn certSize many (drop (leafHeader + certSize * first) b)
 
   cert-from : (j : ℕ) → j < many → getD (certsFrom b first many) j nothing ≡ certAt b (first + j)
   unfolding certsFrom certAt
   cert-from j h =
-      rw (readEach-at certIn certSize many (drop (headerSize + certSize * first) b) j nothing h, drop-drop, mul-add, add-assoc)
+      rw (readEach-at certIn certSize many (drop (leafHeader + certSize * first) b) j nothing h, drop-drop, mul-add, add-assoc)
 
   module _ (d e : List ℕ) (at j v : ℕ) (h : j < many) (l : at + many ≤ length d) where
     pub key-turn : e ≡ paste d at (keys (certsFrom b first many)) j → v ≡ certAt b (first + j) .key

@@ -5,12 +5,14 @@ use mathlib.Core.Path.{_≡_, refl, sym, ap, _∙_}
 use mathlib.Core.Bool.{true, false}
 use mathlib.Core.List.{List, [], _++_}
 use lib.ListN.{length, take}
-use Rattle.rules.specs.Layout.{pageSize, certSize, leafKind, leafRoom, lastKey}
+use Rattle.rules.specs.Layout.{pageSize, leafHeader, certSize, leafKind, leafRoom, lastKey}
 use Rattle.rules.specs.Entry.{Cert, cut, rising}
 use Rattle.rules.specs.Page.{Page, count}
 use Rattle.rules.specs.Table.{pageAt, read}
-use Rattle.rules.specs.Walk.{Walked, wayOf, stops, walkOf}
+use Rattle.rules.specs.Report.{nothing}
+use Rattle.rules.specs.Walk.{Walked, wayOf, wayReport, stops, walkOf}
 use Rattle.rules.specs.declared.Asked.{Asked}
+use Rattle.rules.specs.declared.Report.{Report}
 use Rattle.rules.proofs.entries.Tests.{not-both}
 use Rattle.rules.proofs.entries.Views.{leaf-kind}
 use Rattle.head.specs.declared.Head.{Head}
@@ -22,14 +24,14 @@ use Rattle.enter.specs.declared.Above.{Above}
 use Rattle.leaves.specs.declared.Leaf.{Leaf}
 use Rattle.leaves.specs.declared.Stepped.{Stepped}
 use Rattle.leaves.proofs.Loops.{Reached}
-use Rattle.fill.specs.Fills.{Lists, listing, listsOf, filling, filledIn, Roomy, certsFrom, listed, asked, Sorted}
+use Rattle.fill.specs.Fills.{Lists, listing, listsOf, filling, filledIn, mending, mendedIn, Roomy, certsFrom, listed, asked, Sorted}
 use Rattle.fill.proofs.Copies.{lists-none, lists-count, lists-more}
 use Rattle.fill.proofs.Leaves as leaf
 use Rattle.fill.proofs.Climbing.{walkedTo, Climbing, more, climbing-begins, climbing-full, climbing-room, climbing-damaged, reached, climbing-ends, climbing-on, climbing-less}
 
 -- ── A leaf that was reached ─────────────────────────────────────────────────────────────────────────────────────
 
-module _ {n c k upto : ℕ} {t u : List ℕ} {l : Leaf} (r : Reached n c k upto t u l) where
+module _ {n c k upto : ℕ} {x : Report} {t u : List ℕ} {l : Leaf} (r : Reached n c k upto x t u l) where
   abbrev head : Head
   head = headOf (read u (l .child))
 
@@ -50,9 +52,9 @@ module _ {n c k upto : ℕ} {t u : List ℕ} {l : Leaf} (r : Reached n c k upto 
   pub reached-count : l .count ≤ leafRoom
   reached-count = omega (arith, counted, leaf.leaf-room u (l .child) head refl kind sorted)
 
-  pub reached-rises : rising (keysIn certSize (l .count) (pageAt u (l .child))) ≡ true
+  pub reached-rises : rising (keysIn leafHeader certSize (l .count) (pageAt u (l .child))) ≡ true
   reached-rises =
-      ap (λ (j : ℕ). rising (keysIn certSize j (pageAt u (l .child)))) counted ∙ leaf.leaf-rise u (l .child) head refl kind sorted
+      ap (λ (j : ℕ). rising (keysIn leafHeader certSize j (pageAt u (l .child)))) counted ∙ leaf.leaf-rise u (l .child) head refl kind sorted
 
   pub reached-certs : certsFrom (pageAt u (l .child)) 0 (l .count) ≡ read u (l .child) .view .certs
   reached-certs = ap (certsFrom (pageAt u (l .child)) 0) counted ∙ sym (leaf.leaf-certs u (l .child) head refl kind)
@@ -66,42 +68,47 @@ from low a = record { low = low; high = a .high; room = a .room }
 pub roomy-from : {low : ℕ} {a : Asked} {us vs : List ℕ} → Roomy a us vs → Roomy (from low a) us vs
 roomy-from r = record { keys = r .keys; records = r .records }
 
-pub record Writing (n c : ℕ) (a : Asked) (o ks xs t : List ℕ) (low : ℕ) (x : Above) (filled : ℕ) (us vs : List ℕ) : Type 0 where
+pub record Writing (n c : ℕ) (a : Asked) (o ks xs t : List ℕ) (low : ℕ) (x : Above) (filled : ℕ) (us vs : List ℕ) (z : Report) : Type 0 where
   pub found : List Cert
-  pub climbing : Climbing n c a o t (from low a) found x
+  pub climbing : Climbing n c a o t (from low a) found x z
   pub lists : listing filled us vs ≡ listsOf ks xs found
   pub roomy : Roomy a us vs
 
 module _ {n c : ℕ} {a : Asked} {o ks xs : List ℕ} where
   pub writing-begins : Ground n c o → a .low ≤ a .high → a .high ≤ lastKey → Roomy a ks xs → (x : Above) → x ≡ noCursor
-      → Writing n c a o ks xs o (a .low) x 0 ks xs
-  writing-begins g l h r x e = record { found = []; climbing = climbing-begins g l h x e; lists = lists-none ks xs; roomy = r }
+      → (z : Report) → z ≡ nothing → Writing n c a o ks xs o (a .low) x 0 ks xs z
+  writing-begins g l h r x e z q = record {
+    found = [];
+    climbing = climbing-begins g l h x e z q;
+    lists = lists-none ks xs;
+    roomy = r;
+  }
 
-  module _ {t : List ℕ} {low : ℕ} {x : Above} {filled : ℕ} {us vs : List ℕ} (y : Writing n c a o ks xs t low x filled us vs) where
+  module _ {t : List ℕ} {low : ℕ} {x : Above} {filled : ℕ} {us vs : List ℕ} {z : Report} (y : Writing n c a o ks xs t low x filled us vs z) where
     count-is : filled ≡ length (y .found)
     count-is = lists-count ks xs (y .found) filled us vs (y .lists)
 
-    written : (u : List ℕ) (found : List Cert) (k : ℕ) (ms ns : List ℕ) → listing k ms ns ≡ listsOf ks xs found → walkedTo u found ≡ walkOf n c a o
-        → filling u k ms ns ≡ filledIn ks xs (walkOf n c a o)
+    written : (u : List ℕ) (found : List Cert) (r : Report) (k : ℕ) (ms ns : List ℕ) → listing k ms ns ≡ listsOf ks xs found → walkedTo u found r ≡ walkOf n c a o
+        → filling u (record { count = k; report = r }) ms ns ≡ filledIn ks xs (walkOf n c a o)
     unfolding filledIn
-    written u found k ms ns p q = ap (λ (z : Lists). record { table = u; lists = z }) p ∙ ap (filledIn ks xs) q
+    written u found r k ms ns p q = ap (λ (v : Lists). record { table = u; lists = v; report = r }) p ∙ ap (filledIn ks xs) q
 
-    pub writing-full : a .room ≤ filled → filling t filled us vs ≡ filledIn ks xs (walkOf n c a o)
-    writing-full h = written t (y .found) filled us vs (y .lists) (climbing-full (y .climbing) (omega (arith, count-is)))
+    pub writing-full : a .room ≤ filled → filling t (record { count = filled; report = z }) us vs ≡ filledIn ks xs (walkOf n c a o)
+    writing-full h = written t (y .found) z filled us vs (y .lists) (climbing-full (y .climbing) (omega (arith, count-is)))
 
     module _ (room : filled < a .room) (upto : ℕ) (u : List ℕ) where
       room′ : length (y .found) < a .room
       room′ = omega (arith, count-is)
 
       -- a walk that ends whole meets no damaged place
-      pub writing-damaged : walkOf n c a o .whole ≡ true → nexting u Stepped.Damaged ≡ nextOf upto (wayOf n c low t)
-          → filling u filled us vs ≡ filledIn ks xs (walkOf n c a o)
+      pub writing-damaged : walkOf n c a o .whole ≡ true → (r : Report) → nexting u (Stepped.Damaged r) ≡ nextOf upto (wayOf n c low t) (wayReport n c low t z)
+          → filling u (record { count = filled; report = z }) us vs ≡ filledIn ks xs (walkOf n c a o)
       unfolding stops
-      writing-damaged h f =
-          absurd (not-both h (sym (ap (λ (w : Walked). w .whole) (climbing-damaged (y .climbing) room′ upto u f))))
+      writing-damaged h r f =
+          absurd (not-both h (sym (ap (λ (w : Walked). w .whole) (climbing-damaged (y .climbing) room′ upto u r f))))
 
-      module _ (l : Leaf) (f : nexting u (Stepped.Leaf l) ≡ nextOf upto (wayOf n c low t)) where
-        pub writing-reached : Reached n c low upto t u l
+      module _ (l : Leaf) (f : nexting u (Stepped.Leaf l) ≡ nextOf upto (wayOf n c low t) (wayReport n c low t z)) where
+        pub writing-reached : Reached n c low upto z t u l
         writing-reached = reached (y .climbing) room′ upto u l f
 
         module _ (k : ℕ) (ms ns : List ℕ) (g : listing k ms ns ≡ listed (asked (from low a) filled (certsFrom (pageAt u (l .child)) 0 (l .count))) filled us vs) where
@@ -117,10 +124,10 @@ module _ {n c : ℕ} {a : Asked} {o ks xs : List ℕ} where
               ∙ ap (λ (zs : List Cert). listed zs filled us vs) same
               ∙ lists-more ks xs filled us vs (y .found) (more (from low a) u (l .child) (y .found)) (y .lists)
 
-          pub writing-ends : a .high ≤ l .high → filling u k ms ns ≡ filledIn ks xs (walkOf n c a o)
-          writing-ends h = written u _ k ms ns now (climbing-ends (y .climbing) room′ upto u l f h)
+          pub writing-ends : a .high ≤ l .high → filling u (record { count = k; report = l .report }) ms ns ≡ filledIn ks xs (walkOf n c a o)
+          writing-ends h = written u _ (l .report) k ms ns now (climbing-ends (y .climbing) room′ upto u l f h)
 
-          pub writing-on : l .high < a .high → Roomy a ms ns → Writing n c a o ks xs u (l .high + 1) (l .behind) k ms ns
+          pub writing-on : l .high < a .high → Roomy a ms ns → Writing n c a o ks xs u (l .high + 1) (l .behind) k ms ns (l .report)
           writing-on h r = record {
             found = y .found ++ more (from low a) u (l .child) (y .found);
             climbing = climbing-on (y .climbing) room′ upto u l f h;
@@ -133,30 +140,32 @@ module _ {n c : ℕ} {a : Asked} {o ks xs : List ℕ} where
 
 -- ── The loop that only mends ────────────────────────────────────────────────────────────────────────────────────
 
-pub record Mending (n c : ℕ) (a : Asked) (o t : List ℕ) (low : ℕ) (x : Above) : Type 0 where
+pub record Mending (n c : ℕ) (a : Asked) (o t : List ℕ) (low : ℕ) (x : Above) (z : Report) : Type 0 where
   pub found : List Cert
-  pub climbing : Climbing n c a o t (from low a) found x
+  pub climbing : Climbing n c a o t (from low a) found x z
 
 module _ {n c : ℕ} {a : Asked} {o : List ℕ} where
-  pub mending-begins : Ground n c o → a .low ≤ a .high → a .high ≤ lastKey → (x : Above) → x ≡ noCursor → Mending n c a o o (a .low) x
-  mending-begins g l h x e = record { found = []; climbing = climbing-begins g l h x e }
+  pub mending-begins : Ground n c o → a .low ≤ a .high → a .high ≤ lastKey → (x : Above) → x ≡ noCursor
+      → (z : Report) → z ≡ nothing → Mending n c a o o (a .low) x z
+  mending-begins g l h x e z q = record { found = []; climbing = climbing-begins g l h x e z q }
 
-  module _ {t : List ℕ} {low : ℕ} {x : Above} (y : Mending n c a o t low x) (damaged : walkOf n c a o .whole ≡ false) (upto : ℕ) (u : List ℕ) where
+  module _ {t : List ℕ} {low : ℕ} {x : Above} {z : Report} (y : Mending n c a o t low x z) (damaged : walkOf n c a o .whole ≡ false) (upto : ℕ) (u : List ℕ) where
     room : length (y .found) < a .room
     room = climbing-room (y .climbing) damaged
 
-    pub mending-stops : nexting u Stepped.Damaged ≡ nextOf upto (wayOf n c low t) → u ≡ walkOf n c a o .table
+    pub mending-stops : (r : Report) → nexting u (Stepped.Damaged r) ≡ nextOf upto (wayOf n c low t) (wayReport n c low t z)
+        → mending u r ≡ mendedIn (walkOf n c a o)
     unfolding stops
-    mending-stops f = ap (λ (w : Walked). w .table) (climbing-damaged (y .climbing) room upto u f)
+    mending-stops r f = ap mendedIn (climbing-damaged (y .climbing) room upto u r f)
 
-    module _ (l : Leaf) (f : nexting u (Stepped.Leaf l) ≡ nextOf upto (wayOf n c low t)) where
+    module _ (l : Leaf) (f : nexting u (Stepped.Leaf l) ≡ nextOf upto (wayOf n c low t) (wayReport n c low t z)) where
       -- the damaged place comes before the end of the range
-      pub mending-ends : a .high ≤ l .high → u ≡ walkOf n c a o .table
+      pub mending-ends : a .high ≤ l .high → mending u (l .report) ≡ mendedIn (walkOf n c a o)
       mending-ends h =
           absurd (not-both (sym (ap (λ (w : Walked). w .whole) (climbing-ends (y .climbing) room upto u l f h))) damaged)
 
       module _ (h : l .high < a .high) where
-        pub mending-on : Mending n c a o u (l .high + 1) (l .behind)
+        pub mending-on : Mending n c a o u (l .high + 1) (l .behind) (l .report)
         mending-on = record { found = _; climbing = climbing-on (y .climbing) room upto u l f h }
 
         pub mending-less : a .high + 1 - (l .high + 1) < a .high + 1 - low

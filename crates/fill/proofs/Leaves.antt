@@ -5,7 +5,7 @@ use mathlib.Core.List.{List}
 use Prim.Native.Nat.{ℕ, _≤_}
 use native.Mathlib.Omega.{arith}
 use lib.ListN.{length, drop}
-use Rattle.rules.specs.Layout.{headerSize, certSize, leafKind, leafRoom}
+use Rattle.rules.specs.Layout.{leafHeader, certSize, leafKind, leafRoom}
 use Rattle.rules.specs.Entry.{keys, rising}
 use Rattle.rules.specs.Page.{certIn}
 use Rattle.rules.specs.Table.{pageAt, read}
@@ -25,8 +25,8 @@ module _ (t : List ℕ) (page : ℕ) (h : Head) (f : h ≡ headOf (read t page))
     pub leaf-room : h .count ≤ leafRoom
     unfolding certsFrom
     leaf-room =
-        omega (arith, r .room, ap length leaf-certs, length-readEach certIn certSize (h .count) (drop headerSize (pageAt t page)))
+        omega (arith, r .room, ap length leaf-certs, length-readEach certIn certSize (h .count) (drop leafHeader (pageAt t page)))
 
-    pub leaf-rise : rising (keysIn certSize (h .count) (pageAt t page)) ≡ true
+    pub leaf-rise : rising (keysIn leafHeader certSize (h .count) (pageAt t page)) ≡ true
     unfolding certsFrom
     leaf-rise = ap rising (sym (ap keys leaf-certs ∙ keys-certs (h .count) (pageAt t page))) ∙ r .rise

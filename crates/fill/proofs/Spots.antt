@@ -9,7 +9,7 @@ use borrow.Author.Tests.{leb-true, leb-false}
 use lib.Dec.{leb}
 use lib.ListN.{take, drop, getD, length-take}
 use lib.Seq.{take-all, take-take, drop-drop}
-use Rattle.rules.specs.Layout.{headerSize, certSize}
+use Rattle.rules.specs.Layout.{leafHeader, certSize}
 use Rattle.rules.specs.Entry.{keys, rising}
 use Rattle.rules.specs.Page.{certIn}
 use Rattle.rules.specs.declared.Asked.{Asked}
@@ -23,26 +23,26 @@ use Rattle.fill.specs.Fills.{certsFrom, asked}
 
 -- ── A spot at either end ────────────────────────────────────────────────────────────────────────────────────────
 
-key-cert : (count j : ℕ) (b : List ℕ) → j < count → getD (keysIn certSize count b) j 0 ≡ certAt b j .key
+key-cert : (count j : ℕ) (b : List ℕ) → j < count → getD (keysIn leafHeader certSize count b) j 0 ≡ certAt b j .key
 unfolding keysIn keyIn certAt certIn
-key-cert count j b h = rw (readEach-at keyIn certSize count (drop headerSize b) j 0 h, drop-drop)
+key-cert count j b h = rw (readEach-at keyIn certSize count (drop leafHeader b) j 0 h, drop-drop)
 
 module _ (b : List ℕ) (count k : ℕ) where
-  pub spot-none : count ≡ 0 → 0 ≡ spotOf k (keysIn certSize count b)
-  spot-none z = omega (arith, spot-bound k (keysIn certSize count b), length-keysIn certSize count b)
+  pub spot-none : count ≡ 0 → 0 ≡ spotOf k (keysIn leafHeader certSize count b)
+  spot-none z = omega (arith, spot-bound k (keysIn leafHeader certSize count b), length-keysIn leafHeader certSize count b)
 
-  pub spot-start : 0 < count → (x : ℕ) → x ≡ certAt b 0 .key → k < x → 0 ≡ spotOf k (keysIn certSize count b)
+  pub spot-start : 0 < count → (x : ℕ) → x ≡ certAt b 0 .key → k < x → 0 ≡ spotOf k (keysIn leafHeader certSize count b)
   spot-start h x e l =
-      let at : k < getD (keysIn certSize count b) 0 0 = omega (arith, key-cert count 0 b h) in
-      let s = spot-below k 0 (keysIn certSize count b) (omega (arith, length-keysIn certSize count b)) at in
+      let at : k < getD (keysIn leafHeader certSize count b) 0 0 = omega (arith, key-cert count 0 b h) in
+      let s = spot-below k 0 (keysIn leafHeader certSize count b) (omega (arith, length-keysIn leafHeader certSize count b)) at in
       omega arith
 
-  pub spot-end : rising (keysIn certSize count b) ≡ true → 0 < count → (x : ℕ) → x ≡ certAt b (count - 1) .key → x ≤ k
-      → count ≡ spotOf k (keysIn certSize count b)
+  pub spot-end : rising (keysIn leafHeader certSize count b) ≡ true → 0 < count → (x : ℕ) → x ≡ certAt b (count - 1) .key → x ≤ k
+      → count ≡ spotOf k (keysIn leafHeader certSize count b)
   spot-end r h x e l =
-      let at : getD (keysIn certSize count b) (count - 1) 0 ≤ k = omega (arith, key-cert count (count - 1) b (omega arith)) in
-      let s = spot-above k (count - 1) (keysIn certSize count b) r (omega (arith, length-keysIn certSize count b)) at in
-      omega (arith, spot-bound k (keysIn certSize count b), length-keysIn certSize count b)
+      let at : getD (keysIn leafHeader certSize count b) (count - 1) 0 ≤ k = omega (arith, key-cert count (count - 1) b (omega arith)) in
+      let s = spot-above k (count - 1) (keysIn leafHeader certSize count b) r (omega (arith, length-keysIn leafHeader certSize count b)) at in
+      omega (arith, spot-bound k (keysIn leafHeader certSize count b), length-keysIn leafHeader certSize count b)
 
 -- ── Those asked for ─────────────────────────────────────────────────────────────────────────────────────────────
 
@@ -59,18 +59,18 @@ certs-run : (b : List ℕ) (count first many : ℕ) → many ≤ count - first
     → take many (drop first (certsFrom b 0 count)) ≡ certsFrom b first many
 unfolding certsFrom
 certs-run b count first many h =
-    rw (drop-readEach certIn certSize first count (drop headerSize b), take-readEach certIn certSize many (count - first) (drop (certSize * first) (drop headerSize b)) h, drop-drop)
+    rw (drop-readEach certIn certSize first count (drop leafHeader b), take-readEach certIn certSize many (count - first) (drop (certSize * first) (drop leafHeader b)) h, drop-drop)
 
-module _ (b : List ℕ) (count : ℕ) (a : Asked) (filled : ℕ) (r : rising (keysIn certSize count b) ≡ true) (first past many : ℕ) (f : first ≡ startOf (a .low) (keysIn certSize count b)) (p : past ≡ spotOf (a .high) (keysIn certSize count b)) (m : many ≡ min (a .room - filled) (past - first)) where
+module _ (b : List ℕ) (count : ℕ) (a : Asked) (filled : ℕ) (r : rising (keysIn leafHeader certSize count b) ≡ true) (first past many : ℕ) (f : first ≡ startOf (a .low) (keysIn leafHeader certSize count b)) (p : past ≡ spotOf (a .high) (keysIn leafHeader certSize count b)) (m : many ≡ min (a .room - filled) (past - first)) where
   many-room : many ≤ count - first
   many-room =
-      omega (arith, min-le-right (a .room - filled) (past - first), spot-bound (a .high) (keysIn certSize count b), length-keysIn certSize count b)
+      omega (arith, min-le-right (a .room - filled) (past - first), spot-bound (a .high) (keysIn leafHeader certSize count b), length-keysIn leafHeader certSize count b)
 
   -- they lie in the page
   pub run-within : first + many ≤ count
-  run-within = omega (arith, many-room, start-bound (a .low) (keysIn certSize count b), length-keysIn certSize count b)
+  run-within = omega (arith, many-room, start-bound (a .low) (keysIn leafHeader certSize count b), length-keysIn leafHeader certSize count b)
 
-  same-keys : keys (certsFrom b 0 count) ≡ keysIn certSize count b
+  same-keys : keys (certsFrom b 0 count) ≡ keysIn leafHeader certSize count b
   unfolding certsFrom
   same-keys = keys-certs count b
 

@@ -5,14 +5,17 @@ use mathlib.Core.Bool.{true, false}
 use mathlib.Core.List.{List}
 use lib.ListN.{length, take, drop}
 use lib.Seq.{paste}
-use Rattle.rules.specs.Layout.{pageSize, mostPages, headerSize, certSize, leafRoom}
+use Rattle.rules.specs.Layout.{pageSize, mostPages, leafHeader, certSize, leafRoom}
 use Rattle.rules.specs.Entry.{Cert, keys, cut, rising}
 use Rattle.rules.specs.Page.{readEach, certIn, over}
+use Rattle.rules.specs.Report.{Reported}
 use Rattle.rules.specs.Walk.{Walked}
 use Rattle.rules.specs.List.{recordsOf}
 use Rattle.rules.specs.declared.Asked.{Asked}
+use Rattle.rules.specs.declared.Report.{Report}
 use Rattle.rules.specs.Table.{fit0}
 use Rattle.dry.specs.Walk.{marked, dryOver}
+use Rattle.fill.specs.declared.Filled.{Filled}
 
 -- ── What was found ──────────────────────────────────────────────────────────────────────────────────────────────
 
@@ -29,16 +32,24 @@ listing filled ks xs = record { filled = filled; keys = ks; records = xs }
 unfoldable pub listsOf : List ℕ → List ℕ → List Cert → Lists
 listsOf ks xs found = record { filled = length found; keys = over (keys found) ks; records = over (recordsOf found) xs }
 
--- the table too
+-- the table too, and what was mended
 pub record Fill : Type 0 where
   pub table : List ℕ
   pub lists : Lists
+  pub report : Report
 
-abbrev pub filling : List ℕ → ℕ → List ℕ → List ℕ → Fill
-filling t filled ks xs = record { table = t; lists = listing filled ks xs }
+abbrev pub filling : List ℕ → Filled → List ℕ → List ℕ → Fill
+filling t r ks xs = record { table = t; lists = listing (r .count) ks xs; report = r .report }
 
 unfoldable pub filledIn : List ℕ → List ℕ → Walked → Fill
-filledIn ks xs w = record { table = w .table; lists = listsOf ks xs (w .found) }
+filledIn ks xs w = record { table = w .table; lists = listsOf ks xs (w .found); report = w .report }
+
+-- the table and what was mended alone
+abbrev pub mending : List ℕ → Report → Reported (List ℕ)
+mending t x = record { left = t; report = x }
+
+abbrev pub mendedIn : Walked → Reported (List ℕ)
+mendedIn w = mending (w .table) (w .report)
 
 -- ── What lies ahead ─────────────────────────────────────────────────────────────────────────────────────────────
 
@@ -59,7 +70,7 @@ pub record Calm (n : ℕ) (a : Asked) (t : List ℕ) : Type 0 where
 
 -- so many certificates of a leaf, from one on
 unfoldable pub certsFrom : List ℕ → ℕ → ℕ → List Cert
-certsFrom b first many = readEach certIn certSize many (drop (headerSize + certSize * first) b)
+certsFrom b first many = readEach certIn certSize many (drop (leafHeader + certSize * first) b)
 
 -- certificates put into the lists behind those found
 unfoldable pub listed : List Cert → ℕ → List ℕ → List ℕ → Lists

@@ -12,25 +12,33 @@ use dry::Step;
 use leaves::Stepped;
 use rules::Asked;
 use rules::CERT;
+use rules::LEAF_HEADER;
 use rules::MOST;
 use rules::PAGE;
+use rules::Report;
 ghost use mathlib.Core.Path.{_≡_};
 ghost use mathlib.Core.Bool.{true, false};
 ghost use Prim.Native.Nat.{min, _+_, _-_, _*_, _≤_};
 ghost use lib.ListN.{length};
-ghost use Rattle.rules.specs.Layout.{pageSize, headerSize, certSize, leafRoom, lastKey};
+ghost use Rattle.rules.specs.Layout.{pageSize, leafHeader, certSize, leafRoom, lastKey};
 ghost use Rattle.rules.specs.Entry.{rising};
 ghost use Rattle.rules.specs.Table.{pageAt, fit0};
 ghost use Rattle.rules.specs.Walk.{walkOf};
 ghost use Rattle.entries.specs.Spot.{keysIn, spotOf, startOf};
 ghost use Rattle.dry.specs.Walk.{dryOver};
-ghost use Rattle.fill.specs.Fills.{listing, listsOf, filling, filledIn, Roomy, Calm, certsFrom, listed, asked};
+ghost use Rattle.fill.specs.Fills.{listing, listsOf, filling, filledIn, mending, mendedIn, Roomy, Calm, certsFrom, listed, asked};
+
+// How many certificates were written, and what was mended on the way.
+pub struct Filled {
+    pub count: usize,
+    pub report: Report,
+}
 
 // How many of a leaf's keys are not above one. As a rule that is none or all of them, so both ends are tried first.
 fn spot(page: &[u8], count: usize, key: u64) -> usize
-    requires { ⌜ (headerSize + certSize * count ≤ length (now page)) × (length (now page) ≤ pageSize)
-        × (rising (keysIn certSize count (now page)) ≡ true) ⌝ }
-    ensures { λ r. ⌜ r ≡ spotOf key (keysIn certSize count (now (page .entry))) ⌝ }
+    requires { ⌜ (leafHeader + certSize * count ≤ length (now page)) × (length (now page) ≤ pageSize)
+        × (rising (keysIn leafHeader certSize count (now page)) ≡ true) ⌝ }
+    ensures { λ r. ⌜ r ≡ spotOf key (keysIn leafHeader certSize count (now (page .entry))) ⌝ }
 {
     if count == 0 {
         return 0;
@@ -41,14 +49,14 @@ fn spot(page: &[u8], count: usize, key: u64) -> usize
     if head::cert_key(page, count - 1) <= key {
         return count;
     }
-    seek::seek(page, CERT, count, key)
+    seek::seek(page, LEAF_HEADER, CERT, count, key)
 }
 
 // How many of a leaf's keys are below one.
 fn start(page: &[u8], count: usize, low: u64) -> usize
-    requires { ⌜ (headerSize + certSize * count ≤ length (now page)) × (length (now page) ≤ pageSize)
-        × (rising (keysIn certSize count (now page)) ≡ true) ⌝ }
-    ensures { λ r. ⌜ r ≡ startOf low (keysIn certSize count (now (page .entry))) ⌝ }
+    requires { ⌜ (leafHeader + certSize * count ≤ length (now page)) × (length (now page) ≤ pageSize)
+        × (rising (keysIn leafHeader certSize count (now page)) ≡ true) ⌝ }
+    ensures { λ r. ⌜ r ≡ startOf low (keysIn leafHeader certSize count (now (page .entry))) ⌝ }
 {
     if low == 0 {
         return 0;
@@ -78,7 +86,7 @@ fn copy(
     records: &mut [u32],
     filled: usize,
 ) -> usize
-    requires { ⌜ (headerSize + certSize * (first + many) ≤ length (now page)) × (length (now page) ≤ pageSize)
+    requires { ⌜ (leafHeader + certSize * (first + many) ≤ length (now page)) × (length (now page) ≤ pageSize)
         × (filled + many ≤ length (now keys)) × (filled + many ≤ length (now records)) ⌝ }
     ensures { λ r. ⌜ listing r (now (keys .exit)) (now (records .exit))
         ≡ listed (certsFrom (now (page .entry)) first many) filled (now (keys .entry)) (now (records .entry)) ⌝ }
@@ -101,8 +109,8 @@ fn fill_leaf(
     records: &mut [u32],
     filled: usize,
 ) -> usize
-    requires { ⌜ (headerSize + certSize * count ≤ length (now page)) × (length (now page) ≤ pageSize)
-        × (rising (keysIn certSize count (now page)) ≡ true) × (filled ≤ a .room) × Roomy a (now keys) (now records) ⌝ }
+    requires { ⌜ (leafHeader + certSize * count ≤ length (now page)) × (length (now page) ≤ pageSize)
+        × (rising (keysIn leafHeader certSize count (now page)) ≡ true) × (filled ≤ a .room) × Roomy a (now keys) (now records) ⌝ }
     ensures { λ r. ⌜ listing r (now (keys .exit)) (now (records .exit))
         ≡ listed (asked a filled (certsFrom (now (page .entry)) 0 count)) filled (now (keys .entry)) (now (records .entry)) ⌝ }
 {
@@ -122,7 +130,7 @@ fn fill_leaf_at(
     records: &mut [u32],
     filled: usize,
 ) -> usize
-    requires { ⌜ ((page + 1) * pageSize ≤ length (now t)) × (count ≤ leafRoom) × (rising (keysIn certSize count (pageAt (now t) page)) ≡ true)
+    requires { ⌜ ((page + 1) * pageSize ≤ length (now t)) × (count ≤ leafRoom) × (rising (keysIn leafHeader certSize count (pageAt (now t) page)) ≡ true)
         × (filled ≤ a .room) × Roomy a (now keys) (now records) ⌝ }
     ensures { λ r. ⌜ listing r (now (keys .exit)) (now (records .exit))
         ≡ listed (asked a filled (certsFrom (pageAt (now (t .entry)) page) 0 count)) filled (now (keys .entry)) (now (records .entry)) ⌝ }
@@ -173,7 +181,7 @@ pub fn fill(
     a: Asked,
     keys: &mut [u64],
     records: &mut [u32],
-) -> usize
+) -> Filled
     requires { ⌜ (length (now t) ≡ n * pageSize) × (fit0 n (now t) ≡ true) × (a .low ≤ a .high) × (a .high ≤ lastKey)
         × Roomy a (now keys) (now records) × (walkOf n c a (now t) .whole ≡ true) ⌝ }
     ensures { λ r. ⌜ filling (now (t .exit)) r (now (keys .exit)) (now (records .exit))
@@ -182,10 +190,15 @@ pub fn fill(
     let mut key = a.low;
     let mut cursor = leaves::start();
     let mut filled = 0;
+    let mut report = Report::nothing();
     while filled < a.room {
-        let Stepped::Leaf(leaf) = leaves::next(t, n, c, key, key, cursor) else {
-            return filled;
+        let Stepped::Leaf(leaf) = leaves::next(t, n, c, key, key, cursor, report) else {
+            return Filled {
+                count: filled,
+                report,
+            };
         };
+        report = leaf.report;
         let page = leaf.child as usize;
         let asked = Asked {
             low: key,
@@ -194,30 +207,43 @@ pub fn fill(
         };
         filled = fill_leaf_at(t, page, leaf.count as usize, asked, keys, records, filled);
         if leaf.high >= a.high {
-            return filled;
+            return Filled {
+                count: filled,
+                report,
+            };
         }
         key = leaf.high + 1;
         cursor = leaf.behind;
     }
-    filled
+    Filled {
+        count: filled,
+        report,
+    }
 }
 
 // The walk that only mends, up to the damaged place that lies ahead. So there is room to the end, and nothing is counted.
-pub fn mend(t: &mut [u8], n: usize, c: u32, a: Asked)
+pub fn mend(t: &mut [u8], n: usize, c: u32, a: Asked) -> Report
     requires { ⌜ (length (now t) ≡ n * pageSize) × (fit0 n (now t) ≡ true) × (a .low ≤ a .high) × (a .high ≤ lastKey)
         × (walkOf n c a (now t) .whole ≡ false) ⌝ }
-    ensures { λ r. ⌜ now (t .exit) ≡ walkOf n c a (now (t .entry)) .table ⌝ }
+    ensures { λ r. ⌜ mending (now (t .exit)) r ≡ mendedIn (walkOf n c a (now (t .entry))) ⌝ }
 {
     let mut key = a.low;
     let mut cursor = leaves::start();
+    let mut report = Report::nothing();
     while key <= a.high {
-        let Stepped::Leaf(leaf) = leaves::next(t, n, c, key, key, cursor) else {
-            return;
-        };
-        if leaf.high >= a.high {
-            return;
+        match leaves::next(t, n, c, key, key, cursor, report) {
+            Stepped::Damaged(told) => {
+                return told;
+            }
+            Stepped::Leaf(leaf) => {
+                report = leaf.report;
+                if leaf.high >= a.high {
+                    return report;
+                }
+                key = leaf.high + 1;
+                cursor = leaf.behind;
+            }
         }
-        key = leaf.high + 1;
-        cursor = leaf.behind;
     }
+    report
 }

@@ -5,7 +5,7 @@ use mathlib.Core.List.{List, []}
 use lib.ListN.{drop}
 use borrow.Author.Tests.{eq-eqb, ne-eqb}
 use Rattle.fields.specs.Field.{leAt}
-use Rattle.rules.specs.Layout.{headerSize, certSize, childSize, leafKind}
+use Rattle.rules.specs.Layout.{leafHeader, innerHeader, certSize, childSize, leafKind}
 use Rattle.rules.specs.Page.{Page, count, readEach, certIn, childIn, viewIn, pageIn, View}
 use Rattle.rules.specs.Table.{pageAt, read}
 use Rattle.rules.proofs.bytes.Pages.{viewIn-leaf, viewIn-inner, kind-viewIn, count-viewIn}
@@ -27,11 +27,11 @@ headOf p = record {
 module _ (b : List ℕ) where
   -- what a page shows, by its kind
   pub view-leaf : leAt b 0 2 ≡ leafKind
-      → viewIn b ≡ record { kind = leAt b 0 2; certs = readEach certIn certSize (leAt b 2 2) (drop headerSize b); children = [] }
+      → viewIn b ≡ record { kind = leAt b 0 2; certs = readEach certIn certSize (leAt b 2 2) (drop leafHeader b); children = [] }
   view-leaf h = viewIn-leaf b (eq-eqb (leAt b 0 2) leafKind h)
 
   pub view-inner : (leAt b 0 2 ≡ leafKind → ⊥)
-      → viewIn b ≡ record { kind = leAt b 0 2; certs = []; children = readEach childIn childSize (leAt b 2 2) (drop headerSize b) }
+      → viewIn b ≡ record { kind = leAt b 0 2; certs = []; children = readEach childIn childSize (leAt b 2 2) (drop innerHeader b) }
   view-inner h = viewIn-inner b (ne-eqb (leAt b 0 2) leafKind h)
 
   pub kind-view : viewIn b .kind ≡ leAt b 0 2
@@ -56,11 +56,11 @@ module _ (t : List ℕ) (page : ℕ) (h : Head) (f : h ≡ headOf (read t page))
   count-here = ap (λ (x : Head). x .count) f ∙ count-view (pageAt t page)
 
   pub certs-leaf : h .kind ≡ leafKind
-      → read t page .view .certs ≡ readEach certIn certSize (h .count) (drop headerSize (pageAt t page))
+      → read t page .view .certs ≡ readEach certIn certSize (h .count) (drop leafHeader (pageAt t page))
   unfolding read pageIn
   certs-leaf q =
       ap (λ (v : View). v .certs) (view-leaf (pageAt t page) (sym kind-here ∙ q))
-      ∙ ap (λ (n : ℕ). readEach certIn certSize n (drop headerSize (pageAt t page))) (sym count-here)
+      ∙ ap (λ (n : ℕ). readEach certIn certSize n (drop leafHeader (pageAt t page))) (sym count-here)
 
   pub certs-inner : (h .kind ≡ leafKind → ⊥) → read t page .view .certs ≡ []
   unfolding read pageIn

@@ -7,7 +7,7 @@ use native.Mathlib.Omega.{arith}
 use lib.ListN.{length, getD, drop, drop-of-length-le}
 use lib.Seq.{drop-cons, drop-drop}
 use Rattle.fields.specs.Field.{leAt}
-use Rattle.rules.specs.Layout.{headerSize, childSize, leafKind}
+use Rattle.rules.specs.Layout.{innerHeader, childSize, leafKind}
 use Rattle.rules.specs.Entry.{Child}
 use Rattle.rules.specs.Page.{readEach, childIn, viewIn}
 use Rattle.rules.specs.Place.{highBefore, placeOf, placesIn, kids}
@@ -26,11 +26,11 @@ places-at want high (y ∷ ys) (suc j) d x h = places-at want high ys j d x (ome
 -- the j-th of so many children in a page's bytes
 module _ (b : List ℕ) (count high : ℕ) where
   abbrev pub entries : List Child
-  entries = readEach childIn childSize count (drop headerSize b)
+  entries = readEach childIn childSize count (drop innerHeader b)
 
   pub entry-at : (j : ℕ) (x : Child) → j < count → getD entries j x ≡ childAt b j
   unfolding childAt
-  entry-at j x h = rw (readEach-at childIn childSize count (drop headerSize b) j x h, drop-drop)
+  entry-at j x h = rw (readEach-at childIn childSize count (drop innerHeader b) j x h, drop-drop)
 
   -- where the range of the child before index i ends
   pub high-last : (i : ℕ) → count ≤ i → high ≡ highBefore high (drop i entries)

@@ -3,24 +3,23 @@
 use Prim.Native.Nat.{ℕ, suc, _+_, _-_, _*_, _≤_, _<_}
 use mathlib.Core.Path.{_≡_}
 use mathlib.Core.List.{List, [], _∷_}
-use native.Mathlib.Nat.{mul-suc, mul-zero, add-assoc, sub-zero}
+use native.Mathlib.Nat.{mul-suc, mul-zero, add-zero, add-assoc, sub-zero}
 use native.Mathlib.Numerals.{add-one}
 use native.Mathlib.Omega.{arith}
 use lib.ListN.{drop}
 use lib.Seq.{drop-drop}
-use Rattle.rules.specs.Layout.{headerSize}
 use Rattle.rules.specs.Page.{readEach}
 
-module _ {A : Type 0} (read : List ℕ → A) (size : ℕ) (b : List ℕ) (count : ℕ) where
+module _ {A : Type 0} (read : List ℕ → A) (header size : ℕ) (b : List ℕ) (count : ℕ) where
   -- the entry at an index, and those from an index on
   abbrev pub entry : ℕ → A
-  entry j = read (drop (headerSize + size * j) b)
+  entry j = read (drop (header + size * j) b)
 
   abbrev pub left : ℕ → List A
-  left j = readEach read size (count - j) (drop (headerSize + size * j) b)
+  left j = readEach read size (count - j) (drop (header + size * j) b)
 
-  pub left-all : readEach read size count (drop headerSize b) ≡ left 0
-  left-all = rw (mul-zero, sub-zero)
+  pub left-all : readEach read size count (drop header b) ≡ left 0
+  left-all = rw (mul-zero, add-zero, sub-zero)
 
   pub left-more : (j : ℕ) → j < count → left j ≡ entry j ∷ left (j + 1)
   unfolding readEach

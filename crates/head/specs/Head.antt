@@ -4,7 +4,7 @@ use Prim.Native.Nat.{ℕ, _+_, _*_}
 use mathlib.Core.List.{List}
 use lib.ListN.{drop}
 use Rattle.fields.specs.Field.{leAt}
-use Rattle.rules.specs.Layout.{headerSize, certSize, childSize}
+use Rattle.rules.specs.Layout.{leafHeader, innerHeader, certSize, childSize}
 use Rattle.rules.specs.Entry.{Cert, Child}
 use Rattle.rules.specs.Page.{certIn, childIn}
 use Rattle.rules.specs.Table.{kind0, n0, number0, root0, previous0, birth0}
@@ -26,10 +26,10 @@ headIn b = record {
 
 -- the entry at an index, whatever the count says
 unfoldable pub certAt : List ℕ → ℕ → Cert
-certAt b j = certIn (drop (headerSize + certSize * j) b)
+certAt b j = certIn (drop (leafHeader + certSize * j) b)
 
 unfoldable pub childAt : List ℕ → ℕ → Child
-childAt b j = childIn (drop (headerSize + childSize * j) b)
+childAt b j = childIn (drop (innerHeader + childSize * j) b)
 
 -- an inner page's entry as one flat value
 unfoldable pub entryOf : Child → ChildEntry

@@ -28,15 +28,16 @@ use rules::AT_ROOT_PREVIOUS;
 use rules::AT_TOUCHED;
 use rules::CERT;
 use rules::CHILD;
-use rules::HEADER;
+use rules::INNER_HEADER;
 use rules::LAST_KEY;
+use rules::LEAF_HEADER;
 use rules::PAGE;
 use rules::Place;
 use rules::ZERO;
 ghost use mathlib.Core.Path.{_≡_};
 ghost use Prim.Native.Nat.{_+_, _*_, _≤_, _<_};
 ghost use lib.ListN.{length, drop, getD};
-ghost use Rattle.rules.specs.Layout.{pageSize, headerSize, certSize, childSize, leafRoom, innerRoom};
+ghost use Rattle.rules.specs.Layout.{pageSize, commonHeader, leafHeader, innerHeader, certSize, childSize, leafRoom, innerRoom};
 ghost use Rattle.rules.specs.Table.{pageAt, fit0, number0, setNumber, setRoot};
 ghost use Rattle.rules.specs.Page.{readEach, childIn};
 ghost use Rattle.rules.specs.Place.{rootPlace, highBefore, placesIn};
@@ -72,7 +73,7 @@ pub struct Zero {
 }
 
 pub fn read_head(page: &[u8]) -> Head
-    requires { ⌜ headerSize ≤ length (now page) ⌝ }
+    requires { ⌜ commonHeader ≤ length (now page) ⌝ }
     ensures { λ r. ⌜ r ≡ headIn (now (page .entry)) ⌝ }
 {
     Head {
@@ -96,49 +97,49 @@ pub fn head_at(table: &[u8], i: usize) -> Head
 }
 
 pub fn cert_key(page: &[u8], j: usize) -> u64
-    requires { ⌜ headerSize + certSize * (j + 1) ≤ length (now page) ⌝ }
+    requires { ⌜ leafHeader + certSize * (j + 1) ≤ length (now page) ⌝ }
     ensures { λ r. ⌜ r ≡ certAt (now (page .entry)) j .key ⌝ }
 {
-    get64(page, HEADER + CERT * j)
+    get64(page, LEAF_HEADER + CERT * j)
 }
 
 pub fn cert_record(page: &[u8], j: usize) -> u32
-    requires { ⌜ headerSize + certSize * (j + 1) ≤ length (now page) ⌝ }
+    requires { ⌜ leafHeader + certSize * (j + 1) ≤ length (now page) ⌝ }
     ensures { λ r. ⌜ r ≡ certAt (now (page .entry)) j .value ⌝ }
 {
-    get32(page, HEADER + CERT * j + AT_RECORD)
+    get32(page, LEAF_HEADER + CERT * j + AT_RECORD)
 }
 
 pub fn child_key(page: &[u8], j: usize) -> u64
-    requires { ⌜ headerSize + childSize * (j + 1) ≤ length (now page) ⌝ }
+    requires { ⌜ innerHeader + childSize * (j + 1) ≤ length (now page) ⌝ }
     ensures { λ r. ⌜ r ≡ childAt (now (page .entry)) j .key ⌝ }
 {
-    get64(page, HEADER + CHILD * j)
+    get64(page, INNER_HEADER + CHILD * j)
 }
 
 pub fn child_number(page: &[u8], j: usize) -> u16
-    requires { ⌜ headerSize + childSize * (j + 1) ≤ length (now page) ⌝ }
+    requires { ⌜ innerHeader + childSize * (j + 1) ≤ length (now page) ⌝ }
     ensures { λ r. ⌜ r ≡ childAt (now (page .entry)) j .value .child ⌝ }
 {
-    get16(page, HEADER + CHILD * j + AT_CHILD)
+    get16(page, INNER_HEADER + CHILD * j + AT_CHILD)
 }
 
 pub fn child_previous(page: &[u8], j: usize) -> u16
-    requires { ⌜ headerSize + childSize * (j + 1) ≤ length (now page) ⌝ }
+    requires { ⌜ innerHeader + childSize * (j + 1) ≤ length (now page) ⌝ }
     ensures { λ r. ⌜ r ≡ childAt (now (page .entry)) j .value .previous ⌝ }
 {
-    get16(page, HEADER + CHILD * j + AT_CHILD_PREVIOUS)
+    get16(page, INNER_HEADER + CHILD * j + AT_CHILD_PREVIOUS)
 }
 
 pub fn child_birth(page: &[u8], j: usize) -> u32
-    requires { ⌜ headerSize + childSize * (j + 1) ≤ length (now page) ⌝ }
+    requires { ⌜ innerHeader + childSize * (j + 1) ≤ length (now page) ⌝ }
     ensures { λ r. ⌜ r ≡ childAt (now (page .entry)) j .value .birth ⌝ }
 {
-    get32(page, HEADER + CHILD * j + AT_CHILD_BIRTH)
+    get32(page, INNER_HEADER + CHILD * j + AT_CHILD_BIRTH)
 }
 
 pub fn child_entry(page: &[u8], j: usize) -> ChildEntry
-    requires { ⌜ headerSize + childSize * (j + 1) ≤ length (now page) ⌝ }
+    requires { ⌜ innerHeader + childSize * (j + 1) ≤ length (now page) ⌝ }
     ensures { λ r. ⌜ r ≡ entryOf (childAt (now (page .entry)) j) ⌝ }
 {
     ChildEntry {
@@ -151,8 +152,8 @@ pub fn child_entry(page: &[u8], j: usize) -> ChildEntry
 
 // Where the range of the child at j ends: before the next entry's key, or with the page's.
 fn child_high(page: &[u8], count: usize, j: usize, high: u64) -> u64
-    requires { ⌜ (j < count) × (headerSize + childSize * count ≤ length (now page)) ⌝ }
-    ensures { λ r. ⌜ r ≡ highBefore high (drop (j + 1) (readEach childIn childSize count (drop headerSize (now (page .entry))))) ⌝ }
+    requires { ⌜ (j < count) × (innerHeader + childSize * count ≤ length (now page)) ⌝ }
+    ensures { λ r. ⌜ r ≡ highBefore high (drop (j + 1) (readEach childIn childSize count (drop innerHeader (now (page .entry))))) ⌝ }
 {
     let next = j + 1;
     if next >= count {
@@ -167,8 +168,8 @@ fn child_high(page: &[u8], count: usize, j: usize, high: u64) -> u64
 
 // The place that entry j of an inner page asks for, if the page's range ends at high.
 pub fn kid(page: &[u8], count: usize, j: usize, want: u16, high: u64) -> Place
-    requires { ⌜ (j < count) × (headerSize + childSize * count ≤ length (now page)) ⌝ }
-    ensures { λ r. ⌜ r ≡ getD (placesIn want high (readEach childIn childSize count (drop headerSize (now (page .entry))))) j nowhere ⌝ }
+    requires { ⌜ (j < count) × (innerHeader + childSize * count ≤ length (now page)) ⌝ }
+    ensures { λ r. ⌜ r ≡ getD (placesIn want high (readEach childIn childSize count (drop innerHeader (now (page .entry))))) j nowhere ⌝ }
 {
     let entry = child_entry(page, j);
     Place {
@@ -212,7 +213,7 @@ pub fn child_key_at(table: &[u8], i: usize, j: usize) -> u64
 
 pub fn kid_at(table: &[u8], i: usize, count: usize, j: usize, want: u16, high: u64) -> Place
     requires { ⌜ ((i + 1) * pageSize ≤ length (now table)) × (j < count) × (count ≤ innerRoom) ⌝ }
-    ensures { λ r. ⌜ r ≡ getD (placesIn want high (readEach childIn childSize count (drop headerSize (pageAt (now (table .entry)) i)))) j nowhere ⌝ }
+    ensures { λ r. ⌜ r ≡ getD (placesIn want high (readEach childIn childSize count (drop innerHeader (pageAt (now (table .entry)) i)))) j nowhere ⌝ }
 {
     let from = i * PAGE;
     let to = from + PAGE;

@@ -14,7 +14,7 @@ use Rattle.rules.specs.Layout.{pageSize}
 use Rattle.rules.specs.Entry.{Cert, find}
 use Rattle.rules.specs.Page.{isLeaf}
 use Rattle.rules.specs.Table.{read}
-use Rattle.rules.specs.Marks.{freePages}
+use Rattle.rules.specs.Marks.{counted, freePages}
 use Rattle.rules.specs.Walk.{numbers, certsAt}
 use Rattle.rules.specs.Walk as rules
 use Rattle.rules.specs.Call.{Left}
@@ -39,7 +39,7 @@ use Rattle.plan.proofs.Plans.{splits-within, need-few}
 use Rattle.plan.proofs.Pages.{need-is, chosen-is}
 use Rattle.apply.specs.Leads.{Stands, Leads, EndsInLeaf, HeadRead, listed, stepsIn, ReadyWay, done}
 use Rattle.apply.proofs.Going.{leads-first}
-use Rattle.insert.specs.Inserts.{leaving, presentIn, answerOf, stepsOf, Walked, decidedOn}
+use Rattle.insert.specs.Inserts.{left, presentIn, answerOf, stepsOf, Walked, decidedOn}
 
 -- ── The rules' chain, by the plan ───────────────────────────────────────────────────────────────────────────────
 
@@ -58,7 +58,7 @@ module _ (k x : ℕ) (s : Session) (steps : List rules.Step) (w t : List ℕ) wh
   leftBy Planned.Present = insertRefused Inserted.Present s w t
   leftBy Planned.SyncFirst = insertRefused Inserted.SyncFirst s w t
   leftBy Planned.Full = insertRefused Inserted.Full s w t
-  leftBy Planned.Go = insertDone k x s steps w t
+  leftBy Planned.Go = insertDone k x (counted s) steps w t
 
   along-planned : leftBy planned ≡ insertAlong k x s steps w t
   unfolding insertAlong planOf presentIn
@@ -72,7 +72,7 @@ module _ (k x : ℕ) (s : Session) (steps : List rules.Step) (w t : List ℕ) wh
       go none f false q false r = rw (f, insertAlong, q, r) (rw (planOf, q, r))
 
   module _ (a : Inserted) (f : a ≡ answerOf planned) where
-    pub refused-along : (a ≡ Inserted.Done → ⊥) → leaving (record { answer = a; session = s }) w t ≡ insertAlong k x s steps w t
+    pub refused-along : (a ≡ Inserted.Done → ⊥) → left a s w t ≡ insertAlong k x s steps w t
     unfolding insertRefused answerOf
     refused-along n = ap (λ (b : Inserted). insertRefused b s w t) f ∙ (go planned (λ e. n (f ∙ e)) ∙ along-planned)
       where
@@ -82,10 +82,10 @@ module _ (k x : ℕ) (s : Session) (steps : List rules.Step) (w t : List ℕ) wh
         go Planned.Full m = refl
         go Planned.Go m = absurd (m refl)
 
-    pub done-along : a ≡ Inserted.Done → (r : Session) (u : List ℕ) → done r u t ≡ insertDone k x s steps w t
-        → leaving (record { answer = a; session = r }) u t ≡ insertAlong k x s steps w t
+    pub done-along : a ≡ Inserted.Done → (r : Session) (u : List ℕ) → done r u t ≡ insertDone k x (counted s) steps w t
+        → left a r u t ≡ insertAlong k x s steps w t
     done-along g r u d =
-        ap (λ (b : Inserted). leaving (record { answer = b; session = r }) u t) g
+        ap (λ (b : Inserted). left b r u t) g
         ∙ (d ∙ (ap leftBy (done-goes planned (sym f ∙ g)) ∙ along-planned))
 
 module _ (s : Session) (steps : List rules.Step) where
@@ -207,7 +207,8 @@ module _ {k : ℕ} {t : List ℕ} {s : Session} {w : Way} (W : Walked k t s w) w
       omega (arith, need-is (W .headed), need-few (w .len) (splitsBy (headsOf w)) (omega (arith, few)))
 
   pub ready : (x : Chosen) → x ≡ chosenBy s w → answerOf (planOf s (presentIn (find k (certsAt (stepsOf t w)))) (stepsOf t w)) ≡ Inserted.Done
-      → ReadyWay k t s w (x .pages)
+      → ReadyWay k t (counted s) w (x .pages)
+  unfolding freePages
   ready x e d = record {
     len = few;
     heads = W .heads;

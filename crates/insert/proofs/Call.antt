@@ -12,12 +12,17 @@ use Rattle.rules.specs.Layout.{pageSize, mostPages, lastKey}
 use Rattle.rules.specs.Key.{keyOf, goodParts}
 use Rattle.rules.specs.Entry.{find}
 use Rattle.rules.specs.Table.{fit0}
+use Rattle.rules.specs.Report.{nothing}
 use Rattle.rules.specs.Walk.{certsAt}
 use Rattle.rules.specs.Walk as rules
+use Rattle.rules.specs.Marks.{begun, counted}
 use Rattle.rules.specs.Call.{lengthsFor}
 use Rattle.rules.specs.Insert.{insert, insertKey, insertAlong, insertDone, insertRefused}
+use Rattle.rules.specs.Reports.{keyReport, insertReported}
 use Rattle.rules.specs.declared.Session.{Session}
+use Rattle.rules.specs.declared.Report.{Report}
 use Rattle.rules.specs.declared.Inserted.{Inserted}
+use Rattle.rules.proofs.demand1.Tested.{tested-length, tested-key, tested-zero, tested-done}
 use Rattle.rules.proofs.bytes.Lengths.{lengthsFor-true}
 use Rattle.marks.specs.declared.Chosen.{Chosen}
 use Rattle.way.specs.Ways.{walking, told}
@@ -26,7 +31,7 @@ use Rattle.way.proofs.Stood.{WayStands, way-stands}
 use Rattle.way.proofs.Linked.{WayLinked, way-linked}
 use Rattle.plan.specs.Plan.{chosenBy, planOf}
 use Rattle.apply.specs.Leads.{ReadyWay, done}
-use Rattle.insert.specs.Inserts.{leaving, presentIn, answerOf, stepsOf, Walked, decidedOn, Deciding, testedBy}
+use Rattle.insert.specs.Inserts.{left, leaving, presentIn, answerOf, stepsOf, Walked, decidedOn, Deciding, testedBy}
 use Rattle.insert.proofs.Went.{Went, went, went-nowhere, steps-here, walked}
 use Rattle.insert.proofs.Along.{refused-along, done-along, ready}
 
@@ -96,11 +101,11 @@ module _ (k x : ℕ) (s : Session) (t : List ℕ) (long : length t ≡ s .n * pa
       some-pages : a ≡ Inserted.Done → w .len ≡ 0 → ⊥
       some-pages g z = let e : _≡_ {A = ℕ} 0 1 = cc (damaged z) in omega arith
 
-      pub key-refused : (stable : List ℕ) → (a ≡ Inserted.Done → ⊥) → leaving (record { answer = a; session = s }) u stable ≡ insertKey k x s t stable
+      pub key-refused : (stable : List ℕ) → (a ≡ Inserted.Done → ⊥) → left a s u stable ≡ insertKey k x s t stable
       unfolding insertRefused
       key-refused stable n = go (eqb (w .len) 0) refl
         where
-          go : (d : Bool) → eqb (w .len) 0 ≡ d → leaving (record { answer = a; session = s }) u stable ≡ insertKey k x s t stable
+          go : (d : Bool) → eqb (w .len) 0 ≡ d → left a s u stable ≡ insertKey k x s t stable
           go true e =
               let z = eqb-true (w .len) 0 e in
               ap (λ (c : Inserted). insertRefused c s u stable) (damaged z) ∙ key-nowhere stable z
@@ -109,11 +114,11 @@ module _ (k x : ℕ) (s : Session) (t : List ℕ) (long : length t ≡ s .n * pa
               refused-along k x s (stepsOf u w) u stable a (by-plan o) n ∙ key-along o stable
 
       module _ (g : a ≡ Inserted.Done) where
-        pub key-ready : ReadyWay k u s w (y .pages)
+        pub key-ready : ReadyWay k u (counted s) w (y .pages)
         key-ready = let o = some-pages g in ready (key-walked o few l b) y q (sym (by-plan o) ∙ g)
 
-        pub key-done : (stable : List ℕ) (r : Session) (v : List ℕ) → done r v stable ≡ insertDone k x s (stepsOf u w) u stable
-            → leaving (record { answer = a; session = r }) v stable ≡ insertKey k x s t stable
+        pub key-done : (stable : List ℕ) (r : Session) (v : List ℕ) → done r v stable ≡ insertDone k x (counted s) (stepsOf u w) u stable
+            → left a r v stable ≡ insertKey k x s t stable
         key-done stable r v e =
             let o = some-pages g in
             done-along k x s (stepsOf u w) u stable a (by-plan o) g r v e ∙ key-along o stable
@@ -123,7 +128,7 @@ module _ (k x : ℕ) (s : Session) (t : List ℕ) (long : length t ≡ s .n * pa
 -- a table of the right length has a page
 pub has-page : (n : ℕ) (w t : List ℕ) (r : Bool) → ((s : Session) → s .n ≡ n → r ≡ lengthsFor s w t) → r ≡ true → pageSize ≤ length w
 has-page n w t r f e =
-    let l = lengthsFor-true (record { n = n; c = 0; free = []; waiting = [] }) w t (sym (f (record { n = n; c = 0; free = []; waiting = [] }) refl) ∙ e) in
+    let l = lengthsFor-true (begun n 0 0 [] []) w t (sym (f (begun n 0 0 [] []) refl) ∙ e) in
     omega (arith, l .working, l .least)
 
 module _ (w t : List ℕ) (s : Session) (model serial issue : ℕ) where
@@ -149,6 +154,7 @@ module _ (w t : List ℕ) (s : Session) (model serial issue : ℕ) where
   module _ (x : ℕ) where
     pub record Passed : Type 0 where
       pub lengths : lengthsFor s w t ≡ true
+      pub parts : goodParts model serial issue ≡ true
       pub zero : fit0 (s .n) w ≡ true
       pub keyed : insert w t s model serial issue x ≡ insertKey (keyOf model serial issue) x s w t
 
@@ -156,6 +162,24 @@ module _ (w t : List ℕ) (s : Session) (model serial issue : ℕ) where
     Told a =
         (a ≡ Inserted.Done → Passed)
         × ((a ≡ Inserted.Done → ⊥) → insertRefused a s w t ≡ insert w t s model serial issue x)
+
+    good : Bool
+    good = goodParts model serial issue
+
+    along : Report
+    along = rules.wayReport (s .n) (s .c) (keyOf model serial issue) w nothing
+
+    -- a call that the tests refuse has nothing to report
+    quiet : (testedBy s w t model serial issue ≡ Inserted.Done → ⊥) → keyReport w t s model serial issue ≡ nothing
+    unfolding keyReport good along
+    quiet n = go (lengthsFor s w t) refl (goodParts model serial issue) refl (fit0 (s .n) w) refl
+      where
+        go : (a : Bool) → lengthsFor s w t ≡ a → (b : Bool) → goodParts model serial issue ≡ b → (d : Bool) → fit0 (s .n) w ≡ d
+            → keyReport w t s model serial issue ≡ nothing
+        go false l b g d f = tested-length s w t good along l
+        go true l false g d f = tested-key s w t good along l g
+        go true l true g false f = tested-zero s w t good along l g f
+        go true l true g true f = absurd (n (sym (all-tested l g f)))
 
     tests : Told (testedBy s w t model serial issue)
     unfolding testedBy insert
@@ -167,10 +191,24 @@ module _ (w t : List ℕ) (s : Session) (model serial issue : ℕ) where
         go true l false g d f = rw (testedBy, l, g) ((λ e. let z : _≡_ {A = ℕ} 0 1 = cc in absurd (omega arith)), (λ n. rw (insert, l, g)))
         go true l true g false f = rw (testedBy, l, g, f) ((λ e. let z : _≡_ {A = ℕ} 0 1 = cc in absurd (omega arith)), (λ n. rw (insert, l, g, f)))
         go true l true g true f =
-            rw (testedBy, l, g, f) ((λ e. record { lengths = l; zero = f; keyed = rw (insert, l, g, f) }), (λ n. absurd (n refl)))
+            rw (testedBy, l, g, f) ((λ e. record { lengths = l; parts = g; zero = f; keyed = rw (insert, l, g, f) }), (λ n. absurd (n refl)))
+
+    -- what is left and what is reported, together
+    pub told-too : {a : Inserted} {r : Session} {u : List ℕ} {y : Report} → left a r u t ≡ insert w t s model serial issue x
+        → y ≡ keyReport w t s model serial issue
+        → leaving (record { answer = a; report = y; session = r }) u t ≡ insertReported w t s model serial issue x
+    unfolding insertReported
+    told-too p q = cc
+
+    pub passed-report : Passed → keyReport w t s model serial issue ≡ rules.wayReport (s .n) (s .c) (keyOf model serial issue) w nothing
+    unfolding keyReport good along
+    passed-report p = tested-done s w t good along (p .lengths) (p .parts) (p .zero)
 
     module _ (a : Inserted) (e : a ≡ testedBy s w t model serial issue) where
-      pub test-refused : (a ≡ Inserted.Done → ⊥) → leaving (record { answer = a; session = s }) w t ≡ insert w t s model serial issue x
+      pub nothing-told : (a ≡ Inserted.Done → ⊥) → keyReport w t s model serial issue ≡ nothing
+      nothing-told n = quiet (λ q. n (e ∙ q))
+
+      pub test-refused : (a ≡ Inserted.Done → ⊥) → left a s w t ≡ insert w t s model serial issue x
       unfolding insertRefused
       test-refused n = subst Told (sym e) tests .1 n
 

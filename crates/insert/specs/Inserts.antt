@@ -8,6 +8,7 @@ use lib.Dec.{eqb}
 use Rattle.rules.specs.Key.{goodParts}
 use Rattle.rules.specs.Entry.{find}
 use Rattle.rules.specs.Table.{fit0}
+use Rattle.rules.specs.Report.{Reported}
 use Rattle.rules.specs.Walk.{Step, certsAt}
 use Rattle.rules.specs.Call.{Left, lengthsFor}
 use Rattle.rules.specs.declared.Session.{Session}
@@ -20,9 +21,12 @@ use Rattle.plan.specs.Plan.{chosenBy, Headed, planOf}
 use Rattle.plan.specs.declared.Planned.{Planned}
 use Rattle.apply.specs.Leads.{Whole, Leads, EndsInLeaf, HeadRead, listed, stepsIn}
 
--- the whole of it
-abbrev pub leaving : Inserting → List ℕ → List ℕ → Left Inserted
-leaving r w t = record { answer = r .answer; session = r .session; working = w; stable = t }
+-- what is left, and with the report the whole of it
+abbrev pub left : Inserted → Session → List ℕ → List ℕ → Left Inserted
+left answer s w t = record { answer = answer; session = s; working = w; stable = t }
+
+abbrev pub leaving : Inserting → List ℕ → List ℕ → Reported (Left Inserted)
+leaving r w t = record { left = left (r .answer) (r .session) w t; report = r .report }
 
 -- the key is there, any record
 unfoldable pub presentIn : Option ℕ → Bool

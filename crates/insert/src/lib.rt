@@ -2,7 +2,7 @@
 //
 // `insert` asks nothing and tests everything, in document 01's order: lengths, the key's parts, page 0, the way of the
 // key, whether the key is there, whether a full page must wait for a sync, whether pages enough are free. Only then does
-// it write. Answer, session and every byte lent are those of the rules' `insert`; what the walk mended stays mended, also
+// it count and write. Answer, session and every byte lent are those of the rules' `insert`; what the walk mended stays mended, also
 // behind a refusal.
 //
 // Below stand `tables`, which tests lengths, `keys`, `way`, which walks, `lookup`, which finds a key in a leaf, `plan`,
@@ -12,6 +12,7 @@ use plan::Planned;
 use rules::Inserted;
 use rules::Inserting;
 use rules::Looked;
+use rules::Report;
 use rules::Session;
 use way::Step;
 use way::Way;
@@ -21,7 +22,7 @@ ghost use lib.ListN.{length};
 ghost use Rattle.rules.specs.Layout.{pageSize};
 ghost use Rattle.rules.specs.Entry.{find};
 ghost use Rattle.rules.specs.Table.{read};
-ghost use Rattle.rules.specs.Insert;
+ghost use Rattle.rules.specs.Reports.{insertReported};
 ghost use Rattle.rules.specs.declared.Session.{Session};
 ghost use Rattle.head.proofs.Headers.{headOf};
 ghost use Rattle.way.specs.Ways.{Holds};
@@ -90,25 +91,32 @@ pub fn insert(
     value: u32,
 ) -> Inserting
     ensures { λ r. ⌜ leaving r (now (working .exit)) (now (stable .entry))
-        ≡ Insert.insert (now (working .entry)) (now (stable .entry)) session model serial issue value ⌝ }
+        ≡ insertReported (now (working .entry)) (now (stable .entry)) session model serial issue value ⌝ }
 {
     let tests = tested(working, stable, session.n, model, serial, issue);
     let Inserted::Done = tests else {
         return Inserting {
             answer: tests,
+            report: Report::nothing(),
             session,
         };
     };
     let key = keys::key_of(model, serial, issue);
-    let way = way::way_of(working, session.n as usize, session.c, key);
-    let chosen = plan::choose(session, way);
-    let answer = decided(working, session.c, key, way, chosen);
+    let went = way::way_of(working, session.n as usize, session.c, key);
+    let report = went.report;
+    let chosen = plan::choose(session, went.way);
+    let answer = decided(working, session.c, key, went.way, chosen);
     let Inserted::Done = answer else {
-        return Inserting { answer, session };
+        return Inserting {
+            answer,
+            report,
+            session,
+        };
     };
-    let left = apply::apply(working, session, key, value, way, chosen);
+    let left = apply::apply(working, session.count(), key, value, went.way, chosen);
     Inserting {
         answer,
+        report,
         session: left,
     }
 }

@@ -12,6 +12,7 @@ use Rattle.rules.specs.Page.{Page, count}
 use Rattle.rules.specs.Table.{read}
 use Rattle.rules.specs.Place.{rootPlace}
 use Rattle.rules.specs.Walk as rules
+use Rattle.rules.specs.declared.Report.{Report}
 use Rattle.rules.proofs.entries.Places.{Fits}
 use Rattle.entries.specs.Spot.{spotOf}
 use Rattle.enter.specs.declared.Above.{Above}
@@ -43,8 +44,8 @@ kept-on n t u x K z f = record {
 
 -- ── A step that met a damaged place, and one to a leaf ──────────────────────────────────────────────────────────
 
--- the leaf that the rules' way ends with, as it stands in the table left, and the cursor behind it
-pub record Reached (n c k upto : ℕ) (t u : List ℕ) (l : Leaf) : Type 0 where
+-- the leaf that the rules' way ends with, as it stands in the table left, the cursor behind it, and the report after x
+pub record Reached (n c k upto : ℕ) (x : Report) (t u : List ℕ) (l : Leaf) : Type 0 where
   pub leaf : rules.Step
   pub above : List rules.Step
   pub way : rules.wayOf n c k t ≡ record { table = u; steps = some (leaf ∷ above) }
@@ -52,6 +53,7 @@ pub record Reached (n c k upto : ℕ) (t u : List ℕ) (l : Leaf) : Type 0 where
   pub count : l .count ≡ count (leaf .page .view)
   pub high : l .high ≡ leaf .place .high
   pub spot : l .spot ≡ spotOf upto (keys (leaf .page .view .certs))
+  pub report : l .report ≡ rules.wayReport n c k t x
   pub here : read u (l .child) ≡ leaf .page
   pub fits : Fits n (leaf .place) (leaf .page)
   pub holds : Holds (read u (l .child) .view)
@@ -64,44 +66,45 @@ pub record Reached (n c k upto : ℕ) (t u : List ℕ) (l : Leaf) : Type 0 where
   pub ground : Ground n c u
 
 -- the steps, and what the answer says of them
-record Told (n c k upto : ℕ) (t : List ℕ) (l : Leaf) : Type 0 where
+record Told (n c k upto : ℕ) (x : Report) (t : List ℕ) (l : Leaf) : Type 0 where
   leaf : rules.Step
   above : List rules.Step
   steps : rules.wayOf n c k t .steps ≡ some (leaf ∷ above)
-  are : l ≡ leafOf upto leaf above
+  are : l ≡ leafOf upto leaf above (rules.wayReport n c k t x)
 
 way-same : {t u : List ℕ} {o p : Option (List rules.Step)} → t ≡ u → o ≡ p
     → _≡_ {A = rules.Way} (record { table = t; steps = o }) (record { table = u; steps = p })
 way-same f g = cc
 
-module _ {n c k : ℕ} {t u : List ℕ} (g : Ground n c t) (h : k ≤ lastKey) (upto : ℕ) where
-  table-is : (r : Stepped) → nexting u r ≡ nextOf upto (rules.wayOf n c k t) → u ≡ rules.wayOf n c k t .table
+module _ {n c k : ℕ} {t u : List ℕ} (g : Ground n c t) (h : k ≤ lastKey) (upto : ℕ) (x : Report) where
+  table-is : (r : Stepped) → nexting u r ≡ nextOf upto (rules.wayOf n c k t) (rules.wayReport n c k t x) → u ≡ rules.wayOf n c k t .table
   unfolding nextOf
   table-is r f = ap (λ (y : Nexting). y .table) f
 
-  pub next-damaged : nexting u Stepped.Damaged ≡ nextOf upto (rules.wayOf n c k t) → rules.wayOf n c k t ≡ rules.noWay u
+  pub next-damaged : (y : Report) → nexting u (Stepped.Damaged y) ≡ nextOf upto (rules.wayOf n c k t) (rules.wayReport n c k t x)
+      → (rules.wayOf n c k t ≡ rules.noWay u) × (y ≡ rules.wayReport n c k t x)
   unfolding nextOf nextOr
-  next-damaged f =
-      let s = go (rules.wayOf n c k t .steps) refl (ap (λ (y : Nexting). y .next) f) in
-      way-same (sym (table-is Stepped.Damaged f)) s
+  next-damaged y f =
+      let s = go (rules.wayOf n c k t .steps) refl (ap (λ (z : Nexting). z .next) f) in
+      (way-same (sym (table-is (Stepped.Damaged y) f)) (s .0), s .1)
     where
-      go : (o : Option (List rules.Step)) → rules.wayOf n c k t .steps ≡ o → Stepped.Damaged ≡ nextOr upto o
-          → rules.wayOf n c k t .steps ≡ none
-      go none q e = q
+      go : (o : Option (List rules.Step)) → rules.wayOf n c k t .steps ≡ o → Stepped.Damaged y ≡ nextOr upto o (rules.wayReport n c k t x)
+          → (rules.wayOf n c k t .steps ≡ none) × (y ≡ rules.wayReport n c k t x)
+      go none q e = (q, cc)
       go (some []) q e = absurd (no-way-empty g k h q)
       go (some (s ∷ above)) q e = absurd (let z : _≡_ {A = ℕ} 0 1 = cc in omega arith)
 
-  told : (l : Leaf) → nexting u (Stepped.Leaf l) ≡ nextOf upto (rules.wayOf n c k t) → Told n c k upto t l
+  told : (l : Leaf) → nexting u (Stepped.Leaf l) ≡ nextOf upto (rules.wayOf n c k t) (rules.wayReport n c k t x) → Told n c k upto x t l
   unfolding nextOf nextOr
   told l f = go (rules.wayOf n c k t .steps) refl (ap (λ (y : Nexting). y .next) f)
     where
-      go : (o : Option (List rules.Step)) → rules.wayOf n c k t .steps ≡ o → Stepped.Leaf l ≡ nextOr upto o → Told n c k upto t l
+      go : (o : Option (List rules.Step)) → rules.wayOf n c k t .steps ≡ o → Stepped.Leaf l ≡ nextOr upto o (rules.wayReport n c k t x) → Told n c k upto x t l
       go none q e = absurd (let z : _≡_ {A = ℕ} 0 1 = cc in omega arith)
       go (some []) q e = absurd (no-way-empty g k h q)
       go (some (s ∷ above)) q e = record { leaf = s; above = above; steps = q; are = cc }
 
-  module _ (l : Leaf) (f : nexting u (Stepped.Leaf l) ≡ nextOf upto (rules.wayOf n c k t)) where
-    told-here : Told n c k upto t l
+  module _ (l : Leaf) (f : nexting u (Stepped.Leaf l) ≡ nextOf upto (rules.wayOf n c k t) (rules.wayReport n c k t x)) where
+    told-here : Told n c k upto x t l
     told-here = told l f
 
     left : rules.wayOf n c k t .table ≡ u
@@ -133,11 +136,10 @@ module _ {n c k : ℕ} {t u : List ℕ} (g : Ground n c t) (h : k ≤ lastKey) (
           steps = told-here .above;
           are = ap (λ (y : Leaf). y .behind) (told-here .are);
           short = omega (arith, w .short);
-          kept = subst (λ (v : List ℕ). KeptSteps n v (told-here .above)) left
-              (way-keeps g k h (told-here .leaf ∷ told-here .above) (told-here .steps));
+          kept = subst (λ (v : List ℕ). KeptSteps n v (told-here .above)) left (way-keeps g k h (told-here .leaf ∷ told-here .above) (told-here .steps));
         }
 
-    pub next-leaf : Reached n c k upto t u l
+    pub next-leaf : Reached n c k upto x t u l
     next-leaf =
         let a = told-here .are in
         let s = leaf-stood g k h (told-here .leaf) (told-here .above) (told-here .steps) in
@@ -151,6 +153,7 @@ module _ {n c k : ℕ} {t u : List ℕ} (g : Ground n c t) (h : k ≤ lastKey) (
           count = ap (λ (y : Leaf). y .count) a;
           high = ap (λ (y : Leaf). y .high) a;
           spot = ap (λ (y : Leaf). y .spot) a;
+          report = ap (λ (y : Leaf). y .report) a;
           here = here;
           fits = s .fits;
           holds = holds-here;

@@ -14,6 +14,7 @@ use Rattle.rules.specs.Table.{read}
 use Rattle.rules.specs.Place.{rootPlace, pick}
 use Rattle.rules.specs.Walk as rules
 use Rattle.rules.specs.declared.Place.{Place}
+use Rattle.rules.specs.declared.Report.{Report}
 use Rattle.entries.specs.Spot.{spotOf}
 use Rattle.head.proofs.Headers.{headOf}
 use Rattle.enter.specs.declared.Above.{Above}
@@ -47,25 +48,25 @@ pub record Nexting : Type 0 where
 abbrev pub nexting : List ℕ → Stepped → Nexting
 nexting t x = record { table = t; next = x }
 
--- a leaf with how many of its keys are not above one, and the pages above it
-abbrev pub leafOf : ℕ → rules.Step → List rules.Step → Leaf
-leafOf upto s above = record {
+-- a leaf with how many of its keys are not above one, the pages above it, and what was reported down to it
+abbrev pub leafOf : ℕ → rules.Step → List rules.Step → Report → Leaf
+leafOf upto s above x = record {
   child = s .place .child;
   count = count (s .page .view);
   high = s .place .high;
   spot = spotOf upto (keys (s .page .view .certs));
   behind = cursorOf above;
+  report = x;
 }
 
--- no steps: a damaged place was met; a way of none there never is
-unfoldable pub nextOr : ℕ → Option (List rules.Step) → Stepped
-nextOr upto none = Stepped.Damaged
-nextOr upto (some []) = Stepped.Damaged
-nextOr upto (some (s ∷ above)) = Stepped.Leaf (leafOf upto s above)
+unfoldable pub nextOr : ℕ → Option (List rules.Step) → Report → Stepped
+nextOr upto none x = Stepped.Damaged x
+nextOr upto (some []) x = Stepped.Damaged x
+nextOr upto (some (s ∷ above)) x = Stepped.Leaf (leafOf upto s above x)
 
--- the end of a way, and what is kept of it
-unfoldable pub nextOf : ℕ → rules.Way → Nexting
-nextOf upto w = nexting (w .table) (nextOr upto (w .steps))
+-- the end of a way, and what is kept of it; the report is handed back with damage too
+unfoldable pub nextOf : ℕ → rules.Way → Report → Nexting
+nextOf upto w x = nexting (w .table) (nextOr upto (w .steps) x)
 
 -- ── Where a step begins ─────────────────────────────────────────────────────────────────────────────────────────
 
@@ -90,10 +91,9 @@ placeIn k t x =
       | false ↦ pick k (placesBelow (headOf (read t (x .parent))) (read t (x .parent) .view))
     ]
 
--- the deepest page, if there is one, lies in the table
+-- the deepest page lies in the table, and leads on where its range holds the key
 abbrev pub Lies : List ℕ → Above → Type 0
 Lies t x = (x .parent ≡ 0 → ⊥) → (x .parent + 1) * pageSize ≤ length t
 
--- and leads on, as one does whose range holds the key
 abbrev pub LeadsOn : ℕ → List ℕ → Above → Type 0
 LeadsOn k t x = (x .parent ≡ 0 → ⊥) → Leads k (headOf (read t (x .parent))) (read t (x .parent) .view)

@@ -10,8 +10,10 @@ use Rattle.rules.specs.Test.{between, mem}
 use Rattle.rules.specs.Page.{isLeaf}
 use Rattle.rules.specs.Table.{read}
 use Rattle.rules.specs.Place.{rootPlace, kids, pick, fits}
-use Rattle.rules.specs.Walk.{Step, Way, numbers, descend, wayOf}
+use Rattle.rules.specs.Report.{Reported}
+use Rattle.rules.specs.Walk.{Step, Way, numbers, descend, wayOf, descendReport, wayReport}
 use Rattle.rules.specs.declared.Place.{Place}
+use Rattle.rules.specs.declared.Report.{Report}
 
 -- a place is asked for by the page above it, or by page 0
 abbrev pub AskedBy : List ℕ → Place → List Step → Type 0
@@ -37,11 +39,21 @@ holding k [] = []
 holding k (s ∷ above) =
     elim (between (s .place .low) (s .place .high) k) [ true ↦ s ∷ above | false ↦ holding k above ]
 
+-- a way with what it reports after the report x, from page 0 and from a place down
+abbrev pub wayReported : ℕ → ℕ → ℕ → List ℕ → Report → Reported Way
+wayReported n c k t x = record { left = wayOf n c k t; report = wayReport n c k t x }
+
+abbrev pub descendReported : ℕ → ℕ → ℕ → ℕ → List Step → List ℕ → Place → Report → Reported Way
+descendReported level n c k above t e x = record {
+  left = descend level n c k above t e;
+  report = descendReport level n c k above t e x;
+}
+
 -- the way that goes on from the deepest of them without entering it again; from page 0 if there is none
-unfoldable pub resume : ℕ → ℕ → ℕ → List ℕ → List Step → Way
-resume n c k t [] = wayOf n c k t
-resume n c k t (s ∷ above) =
+unfoldable pub resume : ℕ → ℕ → ℕ → List ℕ → Report → List Step → Reported Way
+resume n c k t x [] = wayReported n c k t x
+resume n c k t x (s ∷ above) =
     elim (pick k (kids (s .place) (s .page .view))) [
-      | none ↦ record { table = t; steps = some (s ∷ above) }
-      | some e ↦ descend (topKind - length (s ∷ above)) n c k (s ∷ above) t e
+      | none ↦ record { left = record { table = t; steps = some (s ∷ above) }; report = x }
+      | some e ↦ descendReported (topKind - length (s ∷ above)) n c k (s ∷ above) t e x
     ]

@@ -1,5 +1,5 @@
 -- The call, by the tests it passed. Assumes nothing.
-use mathlib.Core.Path.{_≡_, refl, ap, _∙_}
+use mathlib.Core.Path.{_≡_, refl, sym, ap, _∙_}
 use mathlib.Core.Bool.{Bool, true, false}
 use mathlib.Core.List.{List}
 use Prim.Native.Nat.{ℕ, min}
@@ -8,14 +8,19 @@ use native.Mathlib.Omega.{arith}
 use lib.ListN.{length}
 use Rattle.rules.specs.Layout.{lastKey}
 use Rattle.rules.specs.Table.{fit0}
+use Rattle.rules.specs.Report.{Reported, nothing}
+use Rattle.rules.specs.Reports.{onceTested, listReported}
 use Rattle.rules.specs.Walk.{walkOf}
 use Rattle.rules.specs.Call.{lengthsFor}
 use Rattle.rules.specs.List as rules
 use Rattle.rules.specs.declared.Session.{Session}
 use Rattle.rules.specs.declared.Listed.{Listed}
 use Rattle.rules.specs.declared.Asked.{Asked}
+use Rattle.rules.specs.declared.Report.{Report}
+use Rattle.rules.proofs.demand1.Tested.{tested-length, tested-zero, tested-done}
 use Rattle.fill.specs.Fills.{Roomy}
-use Rattle.list.specs.Lists.{Told, telling, told}
+use Rattle.list.specs.Lists.{Told, telling, sought, told}
+use Rattle.list.specs.declared.Sought.{Sought}
 
 -- an answer with the session and the stable table as they came
 abbrev pub left : Session → List ℕ → Told → rules.ListLeft
@@ -28,6 +33,10 @@ left s t x = record {
   records = x .records;
 }
 
+-- the same with what was mended
+abbrev pub handed : Session → List ℕ → Told → Reported rules.ListLeft
+handed s t x = record { left = left s t x; report = x .report }
+
 -- the shorter list is as long as there is room, and the other one longer
 pub roomy : (a : Asked) (ks xs : List ℕ) → a .room ≡ min (length ks) (length xs) → Roomy a ks xs
 roomy a ks xs h = record {
@@ -36,14 +45,27 @@ roomy a ks xs h = record {
 }
 
 module _ (w t : List ℕ) (s : Session) (start : ℕ) (ks xs : List ℕ) where
-  pub bad-length : lengthsFor s w t ≡ false → left s t (telling w Listed.Length ks xs) ≡ rules.list w t s start ks xs
+  -- what the walk reports
+  along : Report
+  along = walkOf (s .n) (s .c) (rules.upFrom start ks xs) w .report
+
+  hands : (x : Told) → left s t x ≡ rules.list w t s start ks xs → x .report ≡ onceTested s w t true along
+      → handed s t x ≡ listReported w t s start ks xs
+  unfolding listReported along
+  hands x p q = cc
+
+  pub bad-length : (y : Report) → y ≡ nothing → lengthsFor s w t ≡ false
+      → handed s t (telling w (sought Listed.Length y) ks xs) ≡ listReported w t s start ks xs
   unfolding rules.list rules.listRefused
-  bad-length h = rw (rules.list, h)
+  bad-length y q h =
+      hands (telling w (sought Listed.Length y) ks xs) (rw (rules.list, h)) (q ∙ sym (tested-length s w t true along h))
 
   module _ (h : lengthsFor s w t ≡ true) where
-    pub bad-zero : fit0 (s .n) w ≡ false → left s t (telling w Listed.Damaged ks xs) ≡ rules.list w t s start ks xs
+    pub bad-zero : (y : Report) → y ≡ nothing → fit0 (s .n) w ≡ false
+        → handed s t (telling w (sought Listed.Damaged y) ks xs) ≡ listReported w t s start ks xs
     unfolding rules.list rules.listRefused
-    bad-zero z = rw (rules.list, h, z)
+    bad-zero y q z =
+        hands (telling w (sought Listed.Damaged y) ks xs) (rw (rules.list, h, z)) (q ∙ sym (tested-zero s w t true along h refl z))
 
     module _ (z : fit0 (s .n) w ≡ true) where
       goes : rules.listFrom s w t start ks xs ≡ rules.list w t s start ks xs
@@ -59,9 +81,19 @@ module _ (w t : List ℕ) (s : Session) (start : ℕ) (ks xs : List ℕ) where
           go true q = rw (q, told, rules.listFrom)
           go false q = rw (q, told, rules.listFrom)
 
+      reports : told ks xs (walkOf (s .n) (s .c) (rules.upFrom start ks xs) w) .report ≡ onceTested s w t true along
+      unfolding told along
+      reports = go (walkOf (s .n) (s .c) (rules.upFrom start ks xs) w .whole) refl ∙ sym (tested-done s w t true along h refl z)
+        where
+          go : (b : Bool) → walkOf (s .n) (s .c) (rules.upFrom start ks xs) w .whole ≡ b
+              → told ks xs (walkOf (s .n) (s .c) (rules.upFrom start ks xs) w) .report ≡ along
+          go true q = rw (q, told)
+          go false q = rw (q, told)
+
       pub answers : (a : Asked) → a ≡ record { low = start; high = lastKey; room = min (length ks) (length xs) }
-          → (u : List ℕ) (r : Listed) (us vs : List ℕ) → telling u r us vs ≡ told ks xs (walkOf (s .n) (s .c) a w)
-          → left s t (telling u r us vs) ≡ rules.list w t s start ks xs
+          → (u : List ℕ) (r : Sought) (us vs : List ℕ) → telling u r us vs ≡ told ks xs (walkOf (s .n) (s .c) a w)
+          → handed s t (telling u r us vs) ≡ listReported w t s start ks xs
       unfolding rules.upFrom
       answers a g u r us vs f =
-          ap (left s t) (f ∙ ap (λ (b : Asked). told ks xs (walkOf (s .n) (s .c) b w)) g) ∙ (walks ∙ goes)
+          let e = f ∙ ap (λ (b : Asked). told ks xs (walkOf (s .n) (s .c) b w)) g in
+          hands (telling u r us vs) (ap (left s t) e ∙ (walks ∙ goes)) (ap (λ (x : Told). x .report) e ∙ reports)

@@ -5,36 +5,46 @@ use mathlib.Core.List.{List}
 use lib.ListN.{length}
 use Rattle.rules.specs.Entry.{keys}
 use Rattle.rules.specs.Page.{over}
+use Rattle.rules.specs.Report.{Reported}
 use Rattle.rules.specs.Walk.{Walked}
 use Rattle.rules.specs.List.{ListLeft, recordsOf}
 use Rattle.rules.specs.declared.Listed.{Listed}
 use Rattle.rules.specs.declared.Listing.{Listing}
+use Rattle.rules.specs.declared.Report.{Report}
+use Rattle.list.specs.declared.Sought.{Sought}
 
 -- the whole of it
-abbrev pub leaving : Listing → List ℕ → List ℕ → List ℕ → List ℕ → ListLeft
+abbrev pub leaving : Listing → List ℕ → List ℕ → List ℕ → List ℕ → Reported ListLeft
 leaving r w t ks xs = record {
-  answer = r .answer;
-  session = r .session;
-  working = w;
-  stable = t;
-  keys = ks;
-  records = xs;
+  left = record {
+    answer = r .answer;
+    session = r .session;
+    working = w;
+    stable = t;
+    keys = ks;
+    records = xs;
+  };
+  report = r .report;
 }
 
--- the table and the lists left and the answer, before the session is handed back
+-- the table and the lists left, the answer and what was mended, before the session is handed back
 pub record Told : Type 0 where
   pub table : List ℕ
   pub answer : Listed
   pub keys : List ℕ
   pub records : List ℕ
+  pub report : Report
 
-abbrev pub telling : List ℕ → Listed → List ℕ → List ℕ → Told
-telling t r ks xs = record { table = t; answer = r; keys = ks; records = xs }
+abbrev pub telling : List ℕ → Sought → List ℕ → List ℕ → Told
+telling t r ks xs = record { table = t; answer = r .answer; keys = ks; records = xs; report = r .report }
+
+abbrev pub sought : Listed → Report → Sought
+sought r x = record { answer = r; report = x }
 
 -- what a walk gives to tell: the lists stay as they came where it met a damaged place
 unfoldable pub told : List ℕ → List ℕ → Walked → Told
 told ks xs w =
     elim (w .whole) [
-      | false ↦ telling (w .table) Listed.Damaged ks xs
-      | true ↦ telling (w .table) (Listed.Filled (length (w .found))) (over (keys (w .found)) ks) (over (recordsOf (w .found)) xs)
+      | false ↦ telling (w .table) (sought Listed.Damaged (w .report)) ks xs
+      | true ↦ telling (w .table) (sought (Listed.Filled (length (w .found))) (w .report)) (over (keys (w .found)) ks) (over (recordsOf (w .found)) xs)
     ]

@@ -1,7 +1,7 @@
 // List: the certificates from a start key upwards, written into two lent lists up to the shorter one.
 //
 // `list` asks nothing and tests everything, in document 01's order: lengths, page 0, then the walk. Answer, session,
-// every byte lent and both lists are those of the rules' `list`. A refused list changes neither list, and what was found
+// every byte lent, both lists and the report of what was mended are those of the rules' `list`. A refused list changes neither list, and what was found
 // cannot be kept elsewhere, so damage is known before the first place is written: the dry walk goes first. Where it is
 // whole the lists are filled, without another test of any page if nothing is to be mended. Where it is not, the pages are
 // only mended, up to the damage, since mends made before a refusal stand.
@@ -11,6 +11,7 @@ use rules::Asked;
 use rules::LAST_KEY;
 use rules::Listed;
 use rules::Listing;
+use rules::Report;
 use rules::Session;
 ghost use mathlib.Core.Path.{_≡_};
 ghost use mathlib.Core.Bool.{true};
@@ -19,9 +20,15 @@ ghost use lib.ListN.{length};
 ghost use Rattle.rules.specs.Layout.{pageSize, mostPages, lastKey};
 ghost use Rattle.rules.specs.Table.{fit0};
 ghost use Rattle.rules.specs.Walk.{walkOf};
-ghost use Rattle.rules.specs.List as rules;
+ghost use Rattle.rules.specs.Reports.{listReported};
 ghost use Rattle.fill.specs.Fills.{Roomy};
 ghost use Rattle.list.specs.Lists.{leaving, telling, told};
+
+// An answer, and what was mended on the way.
+pub struct Sought {
+    pub answer: Listed,
+    pub report: Report,
+}
 
 // The asked range: from the start upwards, while the shorter list has room.
 fn up_from(start: u64, keys: usize, records: usize) -> Asked
@@ -42,7 +49,7 @@ fn up_from(start: u64, keys: usize, records: usize) -> Asked
 }
 
 // The certificates of a range. What lies ahead is known before a byte is written.
-fn look(t: &mut [u8], n: usize, c: u32, a: Asked, keys: &mut [u64], records: &mut [u32]) -> Listed
+fn look(t: &mut [u8], n: usize, c: u32, a: Asked, keys: &mut [u64], records: &mut [u32]) -> Sought
     requires { ⌜ (length (now t) ≡ n * pageSize) × (n ≤ mostPages) × (fit0 n (now t) ≡ true) × (a .low ≤ a .high) × (a .high ≤ lastKey)
         × Roomy a (now keys) (now records) ⌝ }
     ensures { λ r. ⌜ telling (now (t .exit)) r (now (keys .exit)) (now (records .exit))
@@ -50,15 +57,25 @@ fn look(t: &mut [u8], n: usize, c: u32, a: Asked, keys: &mut [u64], records: &mu
 {
     let ahead = dry::dry_of(t, n, a);
     if !ahead.whole {
-        fill::mend(t, n, c, a);
-        return Listed::Damaged;
+        let report = fill::mend(t, n, c, a);
+        return Sought {
+            answer: Listed::Damaged,
+            report,
+        };
     }
     if dry::mends_nothing(ahead) {
         let known = fill::fill_known(t, n, a, keys, records);
-        return Listed::Filled(known);
+        return Sought {
+            answer: Listed::Filled(known),
+            report: Report::nothing(),
+        };
     }
     let filled = fill::fill(t, n, c, a, keys, records);
-    Listed::Filled(filled)
+    let report = filled.report;
+    Sought {
+        answer: Listed::Filled(filled.count),
+        report,
+    }
 }
 
 pub fn list(
@@ -70,11 +87,12 @@ pub fn list(
     records: &mut [u32],
 ) -> Listing
     ensures { λ r. ⌜ leaving r (now (working .exit)) (now (stable .entry)) (now (keys .exit)) (now (records .exit))
-        ≡ rules.list (now (working .entry)) (now (stable .entry)) session start (now (keys .entry)) (now (records .entry)) ⌝ }
+        ≡ listReported (now (working .entry)) (now (stable .entry)) session start (now (keys .entry)) (now (records .entry)) ⌝ }
 {
     if !tables::lengths_for(session.n, working, stable) {
         return Listing {
             answer: Listed::Length,
+            report: Report::nothing(),
             session,
         };
     }
@@ -82,10 +100,17 @@ pub fn list(
     if !head::fit0(working, n) {
         return Listing {
             answer: Listed::Damaged,
+            report: Report::nothing(),
             session,
         };
     }
     let asked = up_from(start, keys.len(), records.len());
-    let answer = look(working, n, session.c, asked, keys, records);
-    Listing { answer, session }
+    let sought = look(working, n, session.c, asked, keys, records);
+    let answer = sought.answer;
+    let report = sought.report;
+    Listing {
+        answer,
+        report,
+        session,
+    }
 }

@@ -12,14 +12,19 @@ use Rattle.rules.specs.Table.{pageAt, read}
 use Rattle.rules.specs.Walk as rules
 use Rattle.rules.specs.Lookup.{foundIn}
 use Rattle.rules.specs.declared.Looked.{Looked}
+use Rattle.rules.specs.declared.Report.{Report}
 use Rattle.rules.proofs.bytes.All.{All, all-head}
 use Rattle.head.proofs.Headers.{headOf}
-use Rattle.way.specs.Ways.{Holds, stepOf, wayFor, walking, wayOr, told, spotAt, Walking}
+use Rattle.way.specs.Ways.{Holds, stepOf, wayFor, walking, wayOr, told, spotAt, Walking, reported}
 use Rattle.way.specs.declared.Way.{Way}
 use Rattle.way.specs.declared.Step.{Step}
 use Rattle.way.proofs.Stood.{Stood, WayStands}
-use Rattle.lookup.specs.Looks.{foundBefore, lookedIn, looked, answerOn, lookedAlong}
+use Rattle.lookup.specs.Looks.{Look, foundBefore, lookedIn, looked, answerOn, lookedAlong}
 use Rattle.lookup.proofs.Leaf.{spot-room, found-leaf}
+
+-- what was looked for and what was mended, together
+pub reported-too : {a b : Look} {x y : Report} → x ≡ y → a ≡ b → reported a x ≡ reported b y
+reported-too p q = cc
 
 module _ (n k : ℕ) (x : rules.Way) (u : List ℕ) (w : Way) (h : walking u w ≡ told x)
     (a : (steps : List rules.Step) → x .steps ≡ some steps → WayStands n k (x .table) steps) where

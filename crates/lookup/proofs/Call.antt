@@ -6,46 +6,72 @@ use mathlib.Core.Option.{Option, some, none}
 use Prim.Native.Nat.{ℕ}
 use Rattle.rules.specs.Key.{keyOf, goodParts}
 use Rattle.rules.specs.Table.{fit0}
-use Rattle.rules.specs.Walk.{Step, wayOf}
+use Rattle.rules.specs.Report.{Reported, nothing}
+use Rattle.rules.specs.Walk.{Step, wayOf, wayReport}
 use Rattle.rules.specs.Call.{lengthsFor}
 use Rattle.rules.specs.Lookup.{lookup, lookupKey, lookupLeft}
+use Rattle.rules.specs.Reports.{keyReport, lookupReported}
 use Rattle.rules.specs.declared.Session.{Session}
+use Rattle.rules.specs.declared.Report.{Report}
 use Rattle.rules.specs.declared.Looked.{Looked}
-use Rattle.lookup.specs.Looks.{leaving, looked, answerOn, lookedAlong, Look}
+use Rattle.rules.proofs.demand1.Tested.{tested-length, tested-key, tested-zero, tested-done}
+use Rattle.way.specs.Ways.{reported}
+use Rattle.lookup.specs.declared.Sought.{Sought}
+use Rattle.lookup.specs.Looks.{leaving, looking, answerOn, lookedAlong, Look}
+
+-- what is left and what is reported, together
+told : {w t : List ℕ} {s : Session} {r : Looked} {x : Report} (model serial issue : ℕ) (w₀ : List ℕ)
+    → lookupLeft s w t r ≡ lookup w₀ t s model serial issue → x ≡ keyReport w₀ t s model serial issue
+    → leaving (record { answer = r; report = x; session = s }) w t ≡ lookupReported w₀ t s model serial issue
+unfolding lookupReported lookupLeft
+told model serial issue w₀ p q = cc
 
 module _ (w t : List ℕ) (s : Session) (model serial issue : ℕ) where
-  pub bad-length : lengthsFor s w t ≡ false
-      → leaving (record { answer = Looked.Length; session = s }) w t ≡ lookup w t s model serial issue
-  unfolding lookup lookupLeft
-  bad-length l = rw (lookup, l)
+  along : Report
+  along = wayReport (s .n) (s .c) (keyOf model serial issue) w nothing
+
+  pub bad-length : {x : Report} → lengthsFor s w t ≡ false → x ≡ nothing
+      → leaving (record { answer = Looked.Length; report = x; session = s }) w t ≡ lookupReported w t s model serial issue
+  unfolding lookup lookupLeft keyReport along
+  bad-length l q = told model serial issue w (rw (lookup, l)) (q ∙ sym (tested-length s w t (goodParts model serial issue) along l))
 
   module _ (l : lengthsFor s w t ≡ true) where
-    pub bad-key : goodParts model serial issue ≡ false
-        → leaving (record { answer = Looked.BadKey; session = s }) w t ≡ lookup w t s model serial issue
-    unfolding lookup lookupLeft
-    bad-key g = rw (lookup, l, g)
+    pub bad-key : {x : Report} → goodParts model serial issue ≡ false → x ≡ nothing
+        → leaving (record { answer = Looked.BadKey; report = x; session = s }) w t ≡ lookupReported w t s model serial issue
+    unfolding lookup lookupLeft keyReport along
+    bad-key g q = told model serial issue w (rw (lookup, l, g)) (q ∙ sym (tested-key s w t (goodParts model serial issue) along l g))
 
     module _ (g : goodParts model serial issue ≡ true) where
-      pub bad-zero : fit0 (s .n) w ≡ false
-          → leaving (record { answer = Looked.Damaged; session = s }) w t ≡ lookup w t s model serial issue
-      unfolding lookup lookupLeft
-      bad-zero f = rw (lookup, l, g, f)
+      pub bad-zero : {x : Report} → fit0 (s .n) w ≡ false → x ≡ nothing
+          → leaving (record { answer = Looked.Damaged; report = x; session = s }) w t ≡ lookupReported w t s model serial issue
+      unfolding lookup lookupLeft keyReport along
+      bad-zero f q =
+          told model serial issue w (rw (lookup, l, g, f)) (q ∙ sym (tested-zero s w t (goodParts model serial issue) along l g f))
 
-      pub looked-up : fit0 (s .n) w ≡ true → (u : List ℕ) (r : Looked) (k : ℕ) → k ≡ keyOf model serial issue
-          → looked u r ≡ lookedAlong k (wayOf (s .n) (s .c) k w)
-          → leaving (record { answer = r; session = s }) u t ≡ lookup w t s model serial issue
-      unfolding lookup lookupKey lookupLeft lookedAlong answerOn
-      looked-up f u r k e h =
-          ap (λ (y : Look). leaving (record { answer = y .answer; session = s }) (y .table) t) h
-          ∙ (along k ∙ (ap (λ (j : ℕ). lookupKey j s w t) e ∙ sym (as-key f)))
-        where
-          as-key : fit0 (s .n) w ≡ true → lookup w t s model serial issue ≡ lookupKey (keyOf model serial issue) s w t
-          as-key f = rw (lookup, l, g, f)
+      module _ (f : fit0 (s .n) w ≡ true) where
+        as-key : lookup w t s model serial issue ≡ lookupKey (keyOf model serial issue) s w t
+        unfolding lookup
+        as-key = rw (lookup, l, g, f)
 
-          along : (j : ℕ) → leaving (record { answer = lookedAlong j (wayOf (s .n) (s .c) j w) .answer; session = s }) (lookedAlong j (wayOf (s .n) (s .c) j w) .table) t ≡ lookupKey j s w t
-          along j = go (wayOf (s .n) (s .c) j w .steps) refl
-            where
-              go : (o : Option (List Step)) → wayOf (s .n) (s .c) j w .steps ≡ o
-                  → leaving (record { answer = lookedAlong j (wayOf (s .n) (s .c) j w) .answer; session = s }) (lookedAlong j (wayOf (s .n) (s .c) j w) .table) t ≡ lookupKey j s w t
-              go none q = rw (lookupKey, q)
-              go (some ss) q = rw (lookupKey, q)
+        by-way : (j : ℕ) → lookupLeft s (lookedAlong j (wayOf (s .n) (s .c) j w) .table) t (lookedAlong j (wayOf (s .n) (s .c) j w) .answer)
+            ≡ lookupKey j s w t
+        unfolding lookupKey lookedAlong answerOn
+        by-way j = go (wayOf (s .n) (s .c) j w .steps) refl
+          where
+            go : (o : Option (List Step)) → wayOf (s .n) (s .c) j w .steps ≡ o
+                → lookupLeft s (lookedAlong j (wayOf (s .n) (s .c) j w) .table) t (lookedAlong j (wayOf (s .n) (s .c) j w) .answer)
+                ≡ lookupKey j s w t
+            go none q = rw (lookupKey, q)
+            go (some ss) q = rw (lookupKey, q)
+
+        pub looked-up : (u : List ℕ) (r : Sought) (k : ℕ) → k ≡ keyOf model serial issue
+            → looking u r ≡ reported (lookedAlong k (wayOf (s .n) (s .c) k w)) (wayReport (s .n) (s .c) k w nothing)
+            → leaving (record { answer = r .answer; report = r .report; session = s }) u t ≡ lookupReported w t s model serial issue
+        unfolding keyReport along
+        looked-up u r k e h =
+            told model serial issue w
+            (ap (λ (y : Reported Look). lookupLeft s (y .left .table) t (y .left .answer)) h
+            ∙ (by-way k ∙ (ap (λ (j : ℕ). lookupKey j s w t) e ∙ sym as-key)))
+            (ap (λ (y : Reported Look). y .report) h
+            ∙ (ap (λ (j : ℕ). wayReport (s .n) (s .c) j w nothing) e
+            ∙ sym (tested-done s w t (goodParts model serial issue) along l g f)))

@@ -8,7 +8,7 @@ use borrow.Author.Tests.{eq-eqb, ne-eqb, eqb-true, eqb-false}
 use lib.Dec.{eqb}
 use lib.ListN.{drop, getD}
 use lib.Seq.{drop-drop}
-use Rattle.rules.specs.Layout.{headerSize, certSize, leafRoom}
+use Rattle.rules.specs.Layout.{leafHeader, certSize, leafRoom}
 use Rattle.rules.specs.Entry.{Cert, keys, find, rising}
 use Rattle.rules.specs.Page.{certIn, viewIn, pageIn}
 use Rattle.rules.specs.declared.Looked.{Looked}
@@ -54,16 +54,16 @@ module _ (b : List ℕ) (k : ℕ) where
 -- ── Among keys that rise ────────────────────────────────────────────────────────────────────────────────────────
 
 module _ (b : List ℕ) (count : ℕ) (r : rising (keys (certsIn count b)) ≡ true) where
-  pub rising-keysIn : rising (keysIn certSize count b) ≡ true
+  pub rising-keysIn : rising (keysIn leafHeader certSize count b) ≡ true
   rising-keysIn = rw (keys-certs count b) at r
 
   cert-at : (j : ℕ) (d : Cert) → j < count → getD (certsIn count b) j d ≡ certAt b j
   unfolding certAt
-  cert-at j d h = rw (readEach-at certIn certSize count (drop headerSize b) j d h, drop-drop)
+  cert-at j d h = rw (readEach-at certIn certSize count (drop leafHeader b) j d h, drop-drop)
 
-  module _ (k s : ℕ) (e : s ≡ spotOf k (keysIn certSize count b)) where
+  module _ (k s : ℕ) (e : s ≡ spotOf k (keysIn leafHeader certSize count b)) where
     pub spot-within : s ≤ count
-    spot-within = omega (arith, e, rw (length-keysIn certSize count b) at (spot-bound k (keysIn certSize count b)))
+    spot-within = omega (arith, e, rw (length-keysIn leafHeader certSize count b) at (spot-bound k (keysIn leafHeader certSize count b)))
 
     as-spot : spotOf k (keys (certsIn count b)) ≡ s
     as-spot = ap (spotOf k) (keys-certs count b) ∙ sym e
@@ -93,7 +93,7 @@ module _ (b : List ℕ) (count : ℕ) (r : rising (keys (certsIn count b)) ≡ t
 -- ── A leaf by its header ────────────────────────────────────────────────────────────────────────────────────────
 
 module _ (b : List ℕ) (h : Head) (f : h ≡ headOf (pageIn b)) (l : Holds (viewIn b)) (k s : ℕ)
-    (e : s ≡ spotOf k (keysIn certSize (h .count) b)) where
+    (e : s ≡ spotOf k (keysIn leafHeader certSize (h .count) b)) where
   pub spot-room : s ≤ leafRoom
   spot-room = omega (arith, spot-within b (h .count) (holds-rise b h f l) k s e, holds-room b h f l)
 

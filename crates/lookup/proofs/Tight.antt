@@ -6,7 +6,7 @@ use Rattle.lookup.proofs as this
 pub lookup-tight : Tight this.lookup.Kinds.ps this.lookup.Kinds.r this.lookup.Reads.Pre this.lookup.Reads.Post
 lookup-tight κs a pre z z′ l l′ p q =
     let e = p ∙ sym q in
-    ((λ i. record { answer = e i .answer; session = e i .session }), (λ i. (e i .working, l .1)))
+    ((λ i. record { answer = e i .left .answer; report = e i .report; session = e i .left .session }), (λ i. (e i .left .working, l .1)))
 
 pub find-at-tight : Tight this.find_at.Kinds.ps this.find_at.Kinds.r this.find_at.Reads.Pre this.find_at.Reads.Post
 find-at-tight κs a pre z z′ l l′ p q = (p ∙ sym q, refl)

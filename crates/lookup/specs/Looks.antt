@@ -5,15 +5,20 @@ use mathlib.Core.List.{List}
 use mathlib.Core.Option.{Option, some, none}
 use lib.Dec.{eqb}
 use Rattle.rules.specs.Walk.{Step, Way}
+use Rattle.rules.specs.Report.{Reported}
 use Rattle.rules.specs.Call.{Left}
 use Rattle.rules.specs.Lookup.{foundIn}
 use Rattle.rules.specs.declared.Looked.{Looked}
 use Rattle.rules.specs.declared.Looking.{Looking}
 use Rattle.head.specs.Head.{certAt}
+use Rattle.lookup.specs.declared.Sought.{Sought}
 
 -- the whole of it
-abbrev pub leaving : Looking → List ℕ → List ℕ → Left Looked
-leaving r w t = record { answer = r .answer; session = r .session; working = w; stable = t }
+abbrev pub leaving : Looking → List ℕ → List ℕ → Reported (Left Looked)
+leaving r w t = record {
+  left = record { answer = r .answer; session = r .session; working = w; stable = t };
+  report = r .report;
+}
 
 -- what was found in a leaf
 unfoldable pub lookedIn : Option ℕ → Looked
@@ -32,6 +37,10 @@ pub record Look : Type 0 where
 
 abbrev pub looked : List ℕ → Looked → Look
 looked t r = record { table = t; answer = r }
+
+-- the same with what was mended
+abbrev pub looking : List ℕ → Sought → Reported Look
+looking t r = record { left = looked t (r .answer); report = r .report }
 
 unfoldable pub answerOn : ℕ → Option (List Step) → Looked
 answerOn k none = Looked.Damaged

@@ -1,7 +1,7 @@
 // Lookup: the record of a certificate.
 //
 // `lookup` asks nothing and tests everything, in document 01's order: lengths, the key's parts, page 0, then the way of
-// the key. Answer, session and every byte lent are those of the rules' `lookup`; what the walk mended stays mended, also
+// the key. Answer, report, session and every byte lent are those of the rules' `lookupReported`; what the walk mended stays mended, also
 // behind a refusal. The record is that of an entry with the whole key: where the last key not above it is another one,
 // the certificate is missing.
 //
@@ -12,25 +12,27 @@
 use rules::Looked;
 use rules::Looking;
 use rules::PAGE;
+use rules::Report;
 use rules::Session;
 use way::Step;
 ghost use mathlib.Core.Path.{_≡_};
 ghost use mathlib.Core.Bool.{true};
 ghost use Prim.Native.Nat.{_+_, _*_, _≤_};
 ghost use lib.ListN.{length, drop};
-ghost use Rattle.rules.specs.Layout.{pageSize, headerSize, certSize, leafRoom};
+ghost use Rattle.rules.specs.Layout.{pageSize, leafHeader, certSize, leafRoom};
 ghost use Rattle.rules.specs.Entry.{keys, find, rising};
 ghost use Rattle.rules.specs.Page.{readEach, certIn};
 ghost use Rattle.rules.specs.Table.{pageAt, read, fit0};
-ghost use Rattle.rules.specs.Walk.{wayOf};
-ghost use Rattle.rules.specs.Lookup;
+ghost use Rattle.rules.specs.Report.{nothing};
+ghost use Rattle.rules.specs.Walk.{wayOf, wayReport};
+ghost use Rattle.rules.specs.Reports.{lookupReported};
 ghost use Rattle.head.proofs.Headers.{headOf};
-ghost use Rattle.way.specs.Ways.{Holds};
-ghost use Rattle.lookup.specs.Looks.{foundBefore, lookedIn, leaving, looked, lookedAlong};
+ghost use Rattle.way.specs.Ways.{Holds, reported};
+ghost use Rattle.lookup.specs.Looks.{foundBefore, lookedIn, leaving, looking, lookedAlong};
 
 // What stands under a key in a leaf, by the key's spot: the entry before it has the key, or none has.
 fn find_in(page: &[u8], spot: usize, key: u64) -> Looked
-    requires { ⌜ headerSize + certSize * spot ≤ length (now page) ⌝ }
+    requires { ⌜ leafHeader + certSize * spot ≤ length (now page) ⌝ }
     ensures { λ r. ⌜ r ≡ foundBefore key spot (now (page .entry)) ⌝ }
 {
     if spot == 0 {
@@ -54,11 +56,11 @@ fn find_on(table: &[u8], i: u16, spot: usize, key: u64) -> Looked
 
 // What stands under a key in a leaf whose keys rise.
 fn seek_in(page: &[u8], count: usize, key: u64) -> Looked
-    requires { ⌜ (headerSize + certSize * count ≤ length (now page)) × (length (now page) ≤ pageSize)
-        × (rising (keys (readEach certIn certSize count (drop headerSize (now page)))) ≡ true) ⌝ }
-    ensures { λ r. ⌜ r ≡ lookedIn (find key (readEach certIn certSize count (drop headerSize (now (page .entry))))) ⌝ }
+    requires { ⌜ (leafHeader + certSize * count ≤ length (now page)) × (length (now page) ≤ pageSize)
+        × (rising (keys (readEach certIn certSize count (drop leafHeader (now page)))) ≡ true) ⌝ }
+    ensures { λ r. ⌜ r ≡ lookedIn (find key (readEach certIn certSize count (drop leafHeader (now (page .entry))))) ⌝ }
 {
-    let spot = seek::seek(page, rules::CERT, count, key);
+    let spot = seek::seek(page, rules::LEAF_HEADER, rules::CERT, count, key);
     find_in(page, spot, key)
 }
 
@@ -73,16 +75,30 @@ pub fn find_at(table: &[u8], leaf: Step, key: u64) -> Looked
     seek_in(&table[from..to], leaf.head.count as usize, key)
 }
 
+// What a search along a way comes to: the answer, and what was mended.
+pub struct Sought {
+    pub answer: Looked,
+    pub report: Report,
+}
+
 // A key looked for along its way.
-fn look(t: &mut [u8], n: usize, c: u32, key: u64) -> Looked
+fn look(t: &mut [u8], n: usize, c: u32, key: u64) -> Sought
     requires { ⌜ (length (now t) ≡ n * pageSize) × (fit0 n (now t) ≡ true) ⌝ }
-    ensures { λ r. ⌜ looked (now (t .exit)) r ≡ lookedAlong key (wayOf n c key (now (t .entry))) ⌝ }
+    ensures { λ r. ⌜ looking (now (t .exit)) r
+        ≡ reported (lookedAlong key (wayOf n c key (now (t .entry)))) (wayReport n c key (now (t .entry)) nothing) ⌝ }
 {
-    let end = way::leaf_of(t, n, c, key);
-    if end.len == 0 {
-        return Looked::Damaged;
+    let ended = way::leaf_of(t, n, c, key);
+    let report = ended.report;
+    if ended.end.len == 0 {
+        return Sought {
+            answer: Looked::Damaged,
+            report,
+        };
     }
-    find_on(t, end.leaf.place.child, end.spot, key)
+    Sought {
+        answer: find_on(t, ended.end.leaf.place.child, ended.end.spot, key),
+        report,
+    }
 }
 
 pub fn lookup(
@@ -94,17 +110,19 @@ pub fn lookup(
     issue: u16,
 ) -> Looking
     ensures { λ r. ⌜ leaving r (now (working .exit)) (now (stable .entry))
-        ≡ Lookup.lookup (now (working .entry)) (now (stable .entry)) session model serial issue ⌝ }
+        ≡ lookupReported (now (working .entry)) (now (stable .entry)) session model serial issue ⌝ }
 {
     if !tables::lengths_for(session.n, working, stable) {
         return Looking {
             answer: Looked::Length,
+            report: Report::nothing(),
             session,
         };
     }
     if !keys::good_parts(model, serial, issue) {
         return Looking {
             answer: Looked::BadKey,
+            report: Report::nothing(),
             session,
         };
     }
@@ -112,9 +130,16 @@ pub fn lookup(
     if !head::fit0(working, n) {
         return Looking {
             answer: Looked::Damaged,
+            report: Report::nothing(),
             session,
         };
     }
-    let answer = look(working, n, session.c, keys::key_of(model, serial, issue));
-    Looking { answer, session }
+    let looked = look(working, n, session.c, keys::key_of(model, serial, issue));
+    let answer = looked.answer;
+    let report = looked.report;
+    Looking {
+        answer,
+        report,
+        session,
+    }
 }

@@ -6,7 +6,7 @@ use Prim.Native.Nat.{ℕ, _+_, _<_}
 use native.Mathlib.Omega.{arith}
 use lib.ListN.{length, getD, set}
 use Rattle.rules.specs.Layout.{mostPages}
-use Rattle.rules.specs.Marks.{marksFrom, isPage, turned, raised}
+use Rattle.rules.specs.Marks.{marking, raised, marksFrom, isPage, turned}
 use Rattle.rules.specs.declared.Session.{Session}
 use Rattle.marks.proofs.Fill.{filled, filled-at, filled-more, filled-all}
 
@@ -18,21 +18,13 @@ waitingAfter n waiting i = not (isPage n i) && getD waiting i false
 
 -- the pages below a number have turned
 abbrev pub turning : Session → ℕ → Session
-turning s i = record {
-  n = s .n;
-  c = s .c;
-  free = filled (freeAfter (s .n) (s .free) (s .waiting)) i (s .free);
-  waiting = filled (waitingAfter (s .n) (s .waiting)) i (s .waiting);
-}
+turning s i =
+    marking (filled (freeAfter (s .n) (s .free) (s .waiting)) i (s .free)) (filled (waitingAfter (s .n) (s .waiting)) i (s .waiting)) s
 
 -- one page turns
 abbrev pub turnPage : ℕ → ℕ → Session → Session
-turnPage n i t = record {
-  n = t .n;
-  c = t .c;
-  free = set (t .free) i (freeAfter n (t .free) (t .waiting) i);
-  waiting = set (t .waiting) i (waitingAfter n (t .waiting) i);
-}
+turnPage n i t =
+    marking (set (t .free) i (freeAfter n (t .free) (t .waiting) i)) (set (t .waiting) i (waitingAfter n (t .waiting) i)) t
 
 pub turning-none : (s : Session) → s ≡ turning s 0
 unfolding marksFrom

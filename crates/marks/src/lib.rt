@@ -49,15 +49,16 @@ pub fn nobody() -> Session
     Session {
         n: 0,
         c: 0,
+        total: 0,
         free: [false; MOST],
         waiting: [false; MOST],
     }
 }
 
-// What an opening hands out, from the marks of the numbers that its tree names: as child, and as the previous page of
-// a lost entry.
-pub fn opened(n: u16, c: u32, children: [bool; MOST], spared: [bool; MOST]) -> Session
-    ensures { λ r. ⌜ r ≡ openedBy n c children spared ⌝ }
+// What an opening hands out, from the number of certificates and the marks of the numbers that its tree names: as child,
+// and as the previous page of a lost entry.
+pub fn opened(n: u16, c: u32, total: u32, children: [bool; MOST], spared: [bool; MOST]) -> Session
+    ensures { λ r. ⌜ r ≡ openedBy n c total children spared ⌝ }
 {
     let mut free = [false; MOST];
     let mut i = 0;
@@ -68,6 +69,7 @@ pub fn opened(n: u16, c: u32, children: [bool; MOST], spared: [bool; MOST]) -> S
     Session {
         n,
         c,
+        total,
         free,
         waiting: [false; MOST],
     }

@@ -1,5 +1,5 @@
 -- The call, by the tests it passed. Assumes nothing.
-use mathlib.Core.Path.{_≡_, refl, ap, _∙_}
+use mathlib.Core.Path.{_≡_, refl, sym, ap, _∙_}
 use mathlib.Core.Bool.{Bool, true, false, _&&_}
 use mathlib.Core.List.{List}
 use Prim.Native.Nat.{ℕ, _+_, _≤_, _<_}
@@ -9,17 +9,18 @@ use borrow.Author.Tests.{lt-ltb, le-ltb}
 use Rattle.rules.specs.Layout.{lastKey, lastFinal}
 use Rattle.rules.specs.Key.{keyOf}
 use Rattle.rules.specs.Table.{fit0}
+use Rattle.rules.specs.Report.{nothing}
 use Rattle.rules.specs.Walk.{walkOf}
 use Rattle.rules.specs.Call.{Left, lengthsFor}
 use Rattle.rules.specs.Newest as rules
+use Rattle.rules.specs.Reports.{onceTested, newestReported}
 use Rattle.rules.specs.declared.Session.{Session}
 use Rattle.rules.specs.declared.Newest.{Newest}
 use Rattle.rules.specs.declared.Asked.{Asked}
-use Rattle.newest.specs.Newests.{range, answerOf, Seen, seeing, seen}
-
--- an answer with the session as it came
-abbrev pub left : Session → List ℕ → List ℕ → Newest → Left Newest
-left s w t answer = record { answer = answer; session = s; working = w; stable = t }
+use Rattle.rules.specs.declared.Report.{Report}
+use Rattle.rules.proofs.demand1.Tested.{tested-length, tested-key, tested-zero, tested-done}
+use Rattle.newest.specs.declared.Sought.{Sought}
+use Rattle.newest.specs.Newests.{leaving, range, answerOf, Seen, seeing, seen}
 
 -- ── The keys of a meter ─────────────────────────────────────────────────────────────────────────────────────────
 
@@ -38,37 +39,61 @@ module _ (model serial low high : ℕ) (f : low ≡ keyOf model serial 1) (g : h
 
 -- ── The tests ───────────────────────────────────────────────────────────────────────────────────────────────────
 
+-- an answer with the session as it came
+abbrev left : Session → List ℕ → List ℕ → Newest → Left Newest
+left s w t answer = record { answer = answer; session = s; working = w; stable = t }
+
 module _ (w t : List ℕ) (s : Session) (model serial : ℕ) where
-  pub bad-length : lengthsFor s w t ≡ false → left s w t Newest.Length ≡ rules.newest w t s model serial
+  good : Bool
+  good = ltb 0 model && ltb 0 serial
+
+  along : Report
+  along = walkOf (s .n) (s .c) (rules.meter model serial) w .report
+
+  -- what is left and what is reported, together
+  told : {u : List ℕ} {r : Newest} {x : Report} → left s u t r ≡ rules.newest w t s model serial → x ≡ onceTested s w t good along
+      → leaving (record { answer = r; report = x; session = s }) u t ≡ newestReported w t s model serial
+  unfolding newestReported good along
+  told p q = cc
+
+  pub bad-length : {x : Report} → lengthsFor s w t ≡ false → x ≡ nothing
+      → leaving (record { answer = Newest.Length; report = x; session = s }) w t ≡ newestReported w t s model serial
   unfolding rules.newest rules.newestLeft
-  bad-length h = rw (rules.newest, h)
+  bad-length h q = told (rw (rules.newest, h)) (q ∙ sym (tested-length s w t good along h))
 
   module _ (h : lengthsFor s w t ≡ true) where
-    bad-key : (ltb 0 model && ltb 0 serial) ≡ false → left s w t Newest.BadKey ≡ rules.newest w t s model serial
-    unfolding rules.newest rules.newestLeft
-    bad-key k = rw (rules.newest, h, k)
+    bad-key : {x : Report} → good ≡ false → x ≡ nothing
+        → leaving (record { answer = Newest.BadKey; report = x; session = s }) w t ≡ newestReported w t s model serial
+    unfolding rules.newest rules.newestLeft good
+    bad-key k q = told (rw (rules.newest, h, k)) (q ∙ sym (tested-key s w t good along h k))
 
-    pub bad-model : model ≡ 0 → left s w t Newest.BadKey ≡ rules.newest w t s model serial
+    pub bad-model : {x : Report} → model ≡ 0 → x ≡ nothing
+        → leaving (record { answer = Newest.BadKey; report = x; session = s }) w t ≡ newestReported w t s model serial
+    unfolding good
     bad-model z = bad-key (rw (le-ltb 0 model (omega arith)))
 
     module _ (m : model ≡ 0 → ⊥) where
       model-above : ltb 0 model ≡ true
       model-above = lt-ltb 0 model (omega arith)
 
-      pub bad-serial : serial ≡ 0 → left s w t Newest.BadKey ≡ rules.newest w t s model serial
+      pub bad-serial : {x : Report} → serial ≡ 0 → x ≡ nothing
+          → leaving (record { answer = Newest.BadKey; report = x; session = s }) w t ≡ newestReported w t s model serial
+      unfolding good
       bad-serial z = bad-key (rw (model-above, le-ltb 0 serial (omega arith)))
 
       module _ (r : serial ≡ 0 → ⊥) where
-        good-key : (ltb 0 model && ltb 0 serial) ≡ true
+        good-key : good ≡ true
+        unfolding good
         good-key = rw (model-above, lt-ltb 0 serial (omega arith))
 
-        pub bad-zero : fit0 (s .n) w ≡ false → left s w t Newest.Damaged ≡ rules.newest w t s model serial
-        unfolding rules.newest rules.newestLeft
-        bad-zero z = rw (rules.newest, h, good-key, z)
+        pub bad-zero : {x : Report} → fit0 (s .n) w ≡ false → x ≡ nothing
+            → leaving (record { answer = Newest.Damaged; report = x; session = s }) w t ≡ newestReported w t s model serial
+        unfolding rules.newest rules.newestLeft good
+        bad-zero z q = told (rw (rules.newest, h, good-key, z)) (q ∙ sym (tested-zero s w t good along h good-key z))
 
         module _ (z : fit0 (s .n) w ≡ true) (a : Asked) (g : a ≡ rules.meter model serial) where
           goes : rules.newestMeter a s w t ≡ rules.newest w t s model serial
-          unfolding rules.newest
+          unfolding rules.newest good
           goes = rw (rules.newest, h, good-key, z) (ap (λ (b : Asked). rules.newestMeter b s w t) g)
 
           walks : left s (walkOf (s .n) (s .c) a w .table) t (answerOf (walkOf (s .n) (s .c) a w)) ≡ rules.newestMeter a s w t
@@ -80,5 +105,10 @@ module _ (w t : List ℕ) (s : Session) (model serial : ℕ) where
               go true q = rw (q, answerOf, rules.newestMeter)
               go false q = rw (q, answerOf, rules.newestMeter)
 
-          pub answers : (u : List ℕ) (r : Newest) → seeing u r ≡ seen (walkOf (s .n) (s .c) a w) → left s u t r ≡ rules.newest w t s model serial
-          answers u r f = ap (λ (x : Seen). left s (x .table) t (x .answer)) f ∙ (walks ∙ goes)
+          pub answers : (u : List ℕ) (r : Sought) → seeing u r ≡ seen (walkOf (s .n) (s .c) a w)
+              → leaving (record { answer = r .answer; report = r .report; session = s }) u t ≡ newestReported w t s model serial
+          unfolding along
+          answers u r f =
+              told (ap (λ (x : Seen). left s (x .table) t (x .answer)) f ∙ (walks ∙ goes))
+              (ap (λ (x : Seen). x .report) f
+              ∙ (ap (λ (b : Asked). walkOf (s .n) (s .c) b w .report) g ∙ sym (tested-done s w t good along h good-key z)))

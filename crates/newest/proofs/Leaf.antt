@@ -5,7 +5,7 @@ use mathlib.Core.Path.{_≡_, refl, sym, ap, _∙_}
 use mathlib.Core.List.{List}
 use lib.ListN.{length, getD, drop}
 use lib.Seq.{drop-drop}
-use Rattle.rules.specs.Layout.{headerSize, certSize}
+use Rattle.rules.specs.Layout.{leafHeader, certSize}
 use Rattle.rules.specs.Key.{issueOf}
 use Rattle.rules.specs.Entry.{Cert}
 use Rattle.rules.specs.Page.{certIn, pageIn}
@@ -41,7 +41,7 @@ module _ (low : ℕ) (b : List ℕ) (before : Newest) where
 
 cert-at : (count j : ℕ) (b : List ℕ) (d : Cert) → j < count → getD (certsIn count b) j d ≡ certAt b j
 unfolding certAt
-cert-at count j b d h = rw (readEach-at certIn certSize count (drop headerSize b) j d h, drop-drop)
+cert-at count j b d h = rw (readEach-at certIn certSize count (drop leafHeader b) j d h, drop-drop)
 
 last-certs : (low s count : ℕ) (b : List ℕ) (d : Cert) (before : Newest) → s ≤ count
     → lastIn low s b before ≡ lastBefore low s (certsIn count b) d before
@@ -56,5 +56,5 @@ last-read low s t i d before l h =
     let b = pageAt t i in
     let n = headOf (pageIn b) .count in
     let q = certs-are b (headOf (pageIn b)) refl l in
-    last-certs low s n b d before (omega (arith, ap length q, length-readEach certIn certSize n (drop headerSize b)))
+    last-certs low s n b d before (omega (arith, ap length q, length-readEach certIn certSize n (drop leafHeader b)))
     ∙ ap (λ (xs : List Cert). lastBefore low s xs d before) (sym q)

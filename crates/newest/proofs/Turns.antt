@@ -1,5 +1,5 @@
 -- Newest goes from leaf to leaf: what is left to do is the rules' walk behind the last leaf, and the answer so far is that of
--- the certificates found so far. Assumes nothing.
+-- the certificates found so far; the report is that of the ways so far. Assumes nothing.
 use Prim.Native.Nat.{ℕ, _+_, _-_, _≤_, _<_}
 use native.Mathlib.Omega.{arith}
 use mathlib.Core.Path.{_≡_, refl, sym, ap, _∙_}
@@ -11,10 +11,12 @@ use Rattle.rules.specs.Layout.{leafRoom, lastKey}
 use Rattle.rules.specs.Entry.{Cert, keys, cut}
 use Rattle.rules.specs.Page.{Page}
 use Rattle.rules.specs.Table.{pageAt, read}
-use Rattle.rules.specs.Walk.{Way, wayOf, Walked, finds, stops, walkOf}
+use Rattle.rules.specs.Report.{nothing}
+use Rattle.rules.specs.Walk.{Way, wayOf, wayReport, Walked, finds, stops, walkOf}
 use Rattle.rules.specs.Newest.{newestIn}
 use Rattle.rules.specs.declared.Asked.{Asked}
 use Rattle.rules.specs.declared.Newest.{Newest}
+use Rattle.rules.specs.declared.Report.{Report}
 use Rattle.rules.proofs.entries.Rises.{length-keys}
 use Rattle.entries.proofs.KeysIn.{spot-bound}
 use Rattle.climbs.specs.Rest.{rest}
@@ -33,16 +35,16 @@ use Rattle.newest.proofs.Leaf.{last-read}
 use Rattle.newest.proofs.Few.{few-asked, few-within}
 
 -- what a walk has come to that met no damage
-abbrev sofar : List ℕ → List Cert → Walked
-sofar t found = record { table = t; whole = true; found = found }
+abbrev sofar : List ℕ → List Cert → Report → Walked
+sofar t found report = record { table = t; whole = true; found = found; report = report }
 
 abbrev noCert : Cert
 noCert = record { key = 0; value = 0 }
 
 -- the loop stands before a key of the range
-pub record Going (n c low high : ℕ) (t₀ t : List ℕ) (newest : Newest) (cursor : Above) (key : ℕ) : Type 0 where
+pub record Going (n c low high : ℕ) (t₀ t : List ℕ) (newest : Newest) (cursor : Above) (key : ℕ) (report : Report) : Type 0 where
   pub found : List Cert
-  pub left : walkOf n c (range low high) t₀ ≡ rest n c (range key high) (sofar t found)
+  pub left : walkOf n c (range low high) t₀ ≡ rest n c (range key high) (sofar t found report)
   pub answer : newest ≡ newestIn found
   pub few : length found ≤ key - low
   pub from : low ≤ key
@@ -52,13 +54,12 @@ pub record Going (n c low high : ℕ) (t₀ t : List ℕ) (newest : Newest) (cur
   pub kept : Kept n t cursor
   pub ground : Ground n c t
 
-pub goes-first : {n c low high : ℕ} {t : List ℕ} {cursor : Above} → Ground n c t → low ≤ high → high < low + lastKey → high ≤ lastKey
-    → cursor ≡ noCursor
-    → Going n c low high t t Newest.Missing cursor low
+pub goes-first : {n c low high : ℕ} {t : List ℕ} {cursor : Above} {report : Report} → Ground n c t → low ≤ high → high < low + lastKey → high ≤ lastKey
+    → cursor ≡ noCursor → report ≡ nothing → Going n c low high t t Newest.Missing cursor low report
 unfolding newestIn
-goes-first {n} {c} {low} {high} {t} {cursor} g h s m q = record {
+goes-first {n} {c} {low} {high} {t} {cursor} g h s m q o = record {
   found = [];
-  left = rest-begins n c (range low high) t;
+  left = rest-begins n c (range low high) t ∙ ap (λ (y : Report). rest n c (range low high) (sofar t [] y)) (sym o);
   answer = refl;
   few = omega arith;
   from = omega arith;
@@ -69,27 +70,30 @@ goes-first {n} {c} {low} {high} {t} {cursor} g h s m q = record {
   ground = g;
 }
 
-module _ {n c low high : ℕ} {t₀ t : List ℕ} {newest : Newest} {cursor : Above} {key : ℕ} (x : Going n c low high t₀ t newest cursor key)
-    {u : List ℕ} {r : Stepped} (f : nexting u r ≡ nextOf high (wayOf n c key t)) where
+module _ {n c low high : ℕ} {t₀ t : List ℕ} {newest : Newest} {cursor : Above} {key : ℕ} {report : Report}
+    (x : Going n c low high t₀ t newest cursor key report)
+    {u : List ℕ} {r : Stepped} (f : nexting u r ≡ nextOf high (wayOf n c key t) (wayReport n c key t report)) where
   key-within : key ≤ lastKey
   key-within = omega (arith, x .to, x .last)
 
-  asks : Asks (range key high) (sofar t (x .found))
+  asks : Asks (range key high) (sofar t (x .found) report)
   asks = record { low = x .to; high = x .last; whole = refl; room = omega (arith, x .few, x .from, x .to, x .short) }
 
   -- damage ends the walk
-  pub ends-damaged : r ≡ Stepped.Damaged → seeing u Newest.Damaged ≡ seen (walkOf n c (range low high) t₀)
+  pub ends-damaged : {y : Report} → r ≡ Stepped.Damaged y
+      → seeing u (record { answer = Newest.Damaged; report = y }) ≡ seen (walkOf n c (range low high) t₀)
   unfolding answerOf stops
-  ends-damaged e =
-      let q = next-damaged (x .ground) key-within high (ap (nexting u) (sym e) ∙ f) in
-      sym (ap seen (x .left ∙ (climb-damaged (x .ground) asks (ap (λ (w : Way). w .steps) q)
-      ∙ ap (λ (w : Way). stops (sofar t (x .found)) (w .table)) q)))
+  ends-damaged {y} e =
+      let q = next-damaged (x .ground) key-within high report y (ap (nexting u) (sym e) ∙ f) in
+      ap (λ (z : Report). seeing u (record { answer = Newest.Damaged; report = z })) (q .1)
+      ∙ sym (ap seen (x .left ∙ (climb-damaged (x .ground) asks (ap (λ (w : Way). w .steps) (q .0))
+      ∙ ap (λ (w : Way). stops (sofar t (x .found) (wayReport n c key t report)) (w .table)) (q .0))))
 
   -- ── A leaf ──────────────────────────────────────────────────────────────────────────────────────────────────────
 
   module _ {l : Leaf} (e : r ≡ Stepped.Leaf l) where
-    pub reached : Reached n c key high t u l
-    reached = next-leaf (x .ground) key-within high l (ap (nexting u) (sym e) ∙ f)
+    pub reached : Reached n c key high report t u l
+    reached = next-leaf (x .ground) key-within high report l (ap (nexting u) (sym e) ∙ f)
 
     abbrev certs : List Cert
     certs = reached .leaf .page .view .certs
@@ -105,22 +109,24 @@ module _ {n c low high : ℕ} {t₀ t : List ℕ} {newest : Newest} {cursor : Ab
     spot-room = omega (arith, spot-within, reached .holds .room)
 
     -- there is room for all that the leaf has
-    all-found : finds (range key high) (reached .leaf .page .view) (sofar t (x .found)) u ≡ sofar u (x .found ++ more)
+    all-found : (y : Report) → finds (range key high) (reached .leaf .page .view) (sofar t (x .found) y) u ≡ sofar u (x .found ++ more) y
     unfolding finds
-    all-found =
-        ap (λ (xs : List Cert). sofar u (x .found ++ xs))
+    all-found y =
+        ap (λ (xs : List Cert). sofar u (x .found ++ xs) y)
         (take-all (lastKey - length (x .found)) more
         (omega (arith, few-asked key high certs (reached .fits .sound .certs-rise), x .few, x .from, x .to, x .short)))
 
-    goes-on : walkOf n c (range low high) t₀ ≡ rest n c (after (l .high) (range key high)) (sofar u (x .found ++ more))
+    goes-on : walkOf n c (range low high) t₀ ≡ rest n c (after (l .high) (range key high)) (sofar u (x .found ++ more) (l .report))
     goes-on =
         let next = after (reached .leaf .place .high) (range key high) in
-        let w = sofar t (x .found) in
+        let y = wayReport n c key t report in
         x .left
         ∙ (climb-leaf (x .ground) asks (reached .leaf) (reached .above) (ap (λ (y : Way). y .steps) (reached .way))
-        ∙ (ap (λ (y : Way). rest n c next (finds (range key high) (reached .leaf .page .view) w (y .table))) (reached .way)
-        ∙ (ap (rest n c next) all-found
-        ∙ ap (λ (k : ℕ). rest n c (after k (range key high)) (sofar u (x .found ++ more))) (sym (reached .high)))))
+        ∙ (ap (λ (w : Way). rest n c next (finds (range key high) (reached .leaf .page .view) (sofar t (x .found) y) (w .table)))
+        (reached .way)
+        ∙ (ap (rest n c next) (all-found y)
+        ∙ (ap (λ (k : ℕ). rest n c (after k (range key high)) (sofar u (x .found ++ more) y)) (sym (reached .high))
+        ∙ ap (λ (z : Report). rest n c (after (l .high) (range key high)) (sofar u (x .found ++ more) z)) (sym (reached .report))))))
 
     -- each turn leaves fewer keys
     pub turns-less : high + 1 - (l .high + 1) < high + 1 - key
@@ -137,18 +143,20 @@ module _ {n c low high : ℕ} {t₀ t : List ℕ} {newest : Newest} {cursor : Ab
           ∙ (ap (λ (a : Newest). newestAfter a more) (x .answer) ∙ sym (newest-append (x .found) more))))))
 
       -- the range ends in this leaf
-      pub ends-leaf : high ≤ l .high → seeing u next ≡ seen (walkOf n c (range low high) t₀)
+      pub ends-leaf : high ≤ l .high
+          → seeing u (record { answer = next; report = l .report }) ≡ seen (walkOf n c (range low high) t₀)
       unfolding answerOf
       ends-leaf h =
-          ap (seeing u) answered
-          ∙ sym (ap seen (goes-on ∙ rest-ended n c (l .high) (range key high) (sofar u (x .found ++ more)) h))
+          ap (λ (a : Newest). seeing u (record { answer = a; report = l .report })) answered
+          ∙ sym (ap seen (goes-on ∙ rest-ended n c (l .high) (range key high) (sofar u (x .found ++ more) (l .report)) h))
 
-      pub goes-next : l .high < high → Going n c low high t₀ u next (l .behind) (l .high + 1)
+      pub goes-next : l .high < high → Going n c low high t₀ u next (l .behind) (l .high + 1) (l .report)
       goes-next h =
           let s = reached .fits .sound in
           record {
             found = x .found ++ more;
-            left = goes-on ∙ ap (λ (a : Asked). rest n c a (sofar u (x .found ++ more))) (after-more (l .high) (range key high) h);
+            left = goes-on
+                ∙ ap (λ (a : Asked). rest n c a (sofar u (x .found ++ more) (l .report))) (after-more (l .high) (range key high) h);
             answer = answered;
             few = omega (
               arith,

@@ -6,17 +6,23 @@ use lib.Dec.{leb}
 use Rattle.rules.specs.Layout.{lastKey}
 use Rattle.rules.specs.Key.{issueOf}
 use Rattle.rules.specs.Entry.{Cert}
+use Rattle.rules.specs.Report.{Reported}
 use Rattle.rules.specs.Walk.{Walked}
 use Rattle.rules.specs.Call.{Left}
 use Rattle.rules.specs.Newest.{newestIn}
 use Rattle.rules.specs.declared.Asked.{Asked}
 use Rattle.rules.specs.declared.Newest.{Newest}
 use Rattle.rules.specs.declared.NewestOf.{NewestOf}
+use Rattle.rules.specs.declared.Report.{Report}
 use Rattle.head.specs.Head.{certAt}
+use Rattle.newest.specs.declared.Sought.{Sought}
 
 -- the whole of it
-abbrev pub leaving : NewestOf → List ℕ → List ℕ → Left Newest
-leaving r w t = record { answer = r .answer; session = r .session; working = w; stable = t }
+abbrev pub leaving : NewestOf → List ℕ → List ℕ → Reported (Left Newest)
+leaving r w t = record {
+  left = record { answer = r .answer; session = r .session; working = w; stable = t };
+  report = r .report;
+}
 
 -- the asked range: from one key up to another, with more room than there are keys
 abbrev pub range : ℕ → ℕ → Asked
@@ -35,13 +41,14 @@ lastIn low (suc j) b before = orThis low (certAt b j) before
 unfoldable pub answerOf : Walked → Newest
 answerOf w = elim (w .whole) [ false ↦ Newest.Damaged | true ↦ newestIn (w .found) ]
 
--- the table left and the answer, before the session is handed back
+-- the table left, the answer and the report, before the session is handed back
 pub record Seen : Type 0 where
   pub table : List ℕ
   pub answer : Newest
+  pub report : Report
 
-abbrev pub seeing : List ℕ → Newest → Seen
-seeing t r = record { table = t; answer = r }
+abbrev pub seeing : List ℕ → Sought → Seen
+seeing t r = record { table = t; answer = r .answer; report = r .report }
 
 abbrev pub seen : Walked → Seen
-seen w = record { table = w .table; answer = answerOf w }
+seen w = record { table = w .table; answer = answerOf w; report = w .report }

@@ -1,8 +1,8 @@
 // Newest: the largest issue of a meter that is not provisional, and its record.
 //
 // `newest` asks nothing and tests everything, in document 01's order: lengths, model and serial, page 0, then every leaf
-// that can hold a certificate of the meter. Answer, session and every byte lent are those of the rules' `newest`; what was
-// mended on the way stays mended, also behind a refusal. A damaged page is never passed over: the newest certificate might
+// that can hold a certificate of the meter. Answer, report, session and every byte lent are those of the rules'
+// `newestReported`; what was mended on the way stays mended and is reported, also behind a refusal. A damaged page is never passed over: the newest certificate might
 // stand there.
 //
 // Of each leaf one certificate is looked at, the last that is not above the meter's keys. The others are read in the test
@@ -14,15 +14,16 @@ use rules::LAST_FINAL;
 use rules::Newest;
 use rules::NewestOf;
 use rules::PAGE;
+use rules::Report;
 use rules::Session;
 ghost use mathlib.Core.Path.{_≡_};
 ghost use mathlib.Core.Bool.{true};
 ghost use Prim.Native.Nat.{_+_, _*_, _≤_, _<_};
 ghost use lib.ListN.{length};
-ghost use Rattle.rules.specs.Layout.{pageSize, headerSize, certSize, leafRoom, lastKey};
+ghost use Rattle.rules.specs.Layout.{pageSize, leafHeader, certSize, leafRoom, lastKey};
 ghost use Rattle.rules.specs.Table.{pageAt, fit0};
 ghost use Rattle.rules.specs.Walk.{walkOf};
-ghost use Rattle.rules.specs.Newest as rules;
+ghost use Rattle.rules.specs.Reports.{newestReported};
 ghost use Rattle.newest.specs.Newests.{leaving, range, lastIn, seeing, seen};
 
 // How many issues a meter has, counting 0.
@@ -30,7 +31,7 @@ const ISSUES: u64 = 65536;
 
 // The last certificate before a spot of a leaf, if it is not below the range; else what was found before.
 fn last_in(page: &[u8], spot: usize, low: u64, newest: Newest) -> Newest
-    requires { ⌜ headerSize + certSize * spot ≤ length (now page) ⌝ }
+    requires { ⌜ leafHeader + certSize * spot ≤ length (now page) ⌝ }
     ensures { λ r. ⌜ r ≡ lastIn low spot (now (page .entry)) newest ⌝ }
 {
     if spot == 0 {
@@ -54,26 +55,47 @@ fn last_on(table: &[u8], i: u16, spot: usize, low: u64, newest: Newest) -> Newes
     last_in(&table[from..to], spot, low, newest)
 }
 
+// What a walk over a range comes to: the answer, and what was mended.
+pub struct Sought {
+    pub answer: Newest,
+    pub report: Report,
+}
+
 // The newest certificate of a range, leaf after leaf. A leaf without one leaves what an earlier one gave.
-fn look(t: &mut [u8], n: usize, c: u32, low: u64, high: u64) -> Newest
+fn look(t: &mut [u8], n: usize, c: u32, low: u64, high: u64) -> Sought
     requires { ⌜ (length (now t) ≡ n * pageSize) × (fit0 n (now t) ≡ true) × (low ≤ high) × (high < low + lastKey) ⌝ }
     ensures { λ r. ⌜ seeing (now (t .exit)) r ≡ seen (walkOf n c (range low high) (now (t .entry))) ⌝ }
 {
     let mut newest = Newest::Missing;
     let mut cursor = leaves::start();
     let mut key = low;
+    let mut report = Report::nothing();
     while key <= high {
-        let Stepped::Leaf(leaf) = leaves::next(t, n, c, key, high, cursor) else {
-            return Newest::Damaged;
-        };
-        newest = last_on(t, leaf.child, leaf.spot, key, newest);
-        if leaf.high >= high {
-            return newest;
+        match leaves::next(t, n, c, key, high, cursor, report) {
+            Stepped::Damaged(last) => {
+                return Sought {
+                    answer: Newest::Damaged,
+                    report: last,
+                };
+            }
+            Stepped::Leaf(leaf) => {
+                newest = last_on(t, leaf.child, leaf.spot, key, newest);
+                report = leaf.report;
+                if leaf.high >= high {
+                    return Sought {
+                        answer: newest,
+                        report,
+                    };
+                }
+                cursor = leaf.behind;
+                key = leaf.high + 1;
+            }
         }
-        cursor = leaf.behind;
-        key = leaf.high + 1;
     }
-    newest
+    Sought {
+        answer: newest,
+        report,
+    }
 }
 
 pub fn newest(
@@ -84,23 +106,26 @@ pub fn newest(
     serial: u32,
 ) -> NewestOf
     ensures { λ r. ⌜ leaving r (now (working .exit)) (now (stable .entry))
-        ≡ rules.newest (now (working .entry)) (now (stable .entry)) session model serial ⌝ }
+        ≡ newestReported (now (working .entry)) (now (stable .entry)) session model serial ⌝ }
 {
     if !tables::lengths_for(session.n, working, stable) {
         return NewestOf {
             answer: Newest::Length,
+            report: Report::nothing(),
             session,
         };
     }
     if model == 0 {
         return NewestOf {
             answer: Newest::BadKey,
+            report: Report::nothing(),
             session,
         };
     }
     if serial == 0 {
         return NewestOf {
             answer: Newest::BadKey,
+            report: Report::nothing(),
             session,
         };
     }
@@ -108,11 +133,18 @@ pub fn newest(
     if !head::fit0(working, n) {
         return NewestOf {
             answer: Newest::Damaged,
+            report: Report::nothing(),
             session,
         };
     }
     let low = keys::key_of(model, serial, 1);
     let high = keys::key_of(model, serial, LAST_FINAL);
-    let answer = look(working, n, session.c, low, high);
-    NewestOf { answer, session }
+    let looked = look(working, n, session.c, low, high);
+    let answer = looked.answer;
+    let report = looked.report;
+    NewestOf {
+        answer,
+        report,
+        session,
+    }
 }

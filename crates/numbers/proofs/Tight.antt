@@ -27,6 +27,12 @@ newest-issue-tight κs a pre z z′ l l′ p q = (p ∙ sym q, refl)
 pub newest-record-tight : Tight this.newest_record.Kinds.ps this.newest_record.Kinds.r this.newest_record.Reads.Pre this.newest_record.Reads.Post
 newest-record-tight κs a pre z z′ l l′ p q = (p ∙ sym q, refl)
 
+pub any-tight : Tight this.any.Kinds.ps this.any.Kinds.r this.any.Reads.Pre this.any.Reads.Post
+any-tight κs a pre z z′ l l′ p q = (p ∙ sym q, refl)
+
+pub any-yes-tight : Tight this.any_yes.Kinds.ps this.any_yes.Kinds.r this.any_yes.Reads.Pre this.any_yes.Reads.Post
+any-yes-tight κs a pre z z′ l l′ p q = (p ∙ sym q, refl)
+
 pub listed-tight : Tight this.listed.Kinds.ps this.listed.Kinds.r this.listed.Reads.Pre this.listed.Reads.Post
 listed-tight κs a pre z z′ l l′ p q = (p ∙ sym q, refl)
 
@@ -35,3 +41,6 @@ listed-count-tight κs a pre z z′ l l′ p q = (p ∙ sym q, refl)
 
 pub synced-tight : Tight this.synced.Kinds.ps this.synced.Kinds.r this.synced.Reads.Pre this.synced.Reads.Post
 synced-tight κs a pre z z′ l l′ p q = (p ∙ sym q, refl)
+
+pub reason-tight : Tight this.reason.Kinds.ps this.reason.Kinds.r this.reason.Reads.Pre this.reason.Reads.Post
+reason-tight κs a pre z z′ l l′ p q = (p ∙ sym q, refl)

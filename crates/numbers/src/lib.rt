@@ -4,13 +4,16 @@
 //
 // Below stands `rules`.
 ghost use mathlib.Core.Path.{_≡_};
-ghost use Rattle.rules.specs.Call.{formattedNo, openedNo, insertedNo, lookedNo, lookedRecord, newestNo, newestIssue, newestRecord, listedNo, listedCount, syncedNo};
+ghost use Rattle.rules.specs.Report.{reasonNo};
+ghost use Rattle.rules.specs.Call.{formattedNo, openedNo, insertedNo, lookedNo, lookedRecord, newestNo, newestIssue, newestRecord, anyNo, anyYes, listedNo, listedCount, syncedNo};
+use rules::Any;
 use rules::Formatted;
 use rules::Inserted;
 use rules::Listed;
 use rules::Looked;
 use rules::Newest;
 use rules::Opened;
+use rules::Reason;
 use rules::Synced;
 
 pub fn formatted(answer: Formatted) -> u32
@@ -107,6 +110,30 @@ pub fn newest_record(answer: Newest) -> u32
     }
 }
 
+pub fn any(answer: Any) -> u32
+    ensures { λ r. ⌜ r ≡ anyNo answer ⌝ }
+{
+    match answer {
+        Any::Yes => 0,
+        Any::No => 0,
+        Any::Length => 1,
+        Any::BadKey => 2,
+        Any::Damaged => 3,
+    }
+}
+
+pub fn any_yes(answer: Any) -> u32
+    ensures { λ r. ⌜ r ≡ anyYes answer ⌝ }
+{
+    match answer {
+        Any::Yes => 1,
+        Any::No => 0,
+        Any::Length => 0,
+        Any::BadKey => 0,
+        Any::Damaged => 0,
+    }
+}
+
 pub fn listed(answer: Listed) -> u32
     ensures { λ r. ⌜ r ≡ listedNo answer ⌝ }
 {
@@ -134,5 +161,17 @@ pub fn synced(answer: Synced) -> u32
         Synced::Done => 0,
         Synced::Length => 1,
         Synced::Spent => 8,
+    }
+}
+
+pub fn reason(reason: Reason) -> u32
+    ensures { λ r. ⌜ r ≡ reasonNo reason ⌝ }
+{
+    match reason {
+        Reason::None => 0,
+        Reason::Soundness => 1,
+        Reason::Kind => 2,
+        Reason::Birth => 3,
+        Reason::Range => 4,
     }
 }

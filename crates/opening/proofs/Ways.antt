@@ -18,7 +18,7 @@ use Rattle.marks.specs.Opened.{openedBy}
 use Rattle.marks.proofs.Opening.{openedBy-opened}
 use Rattle.seen.specs.Note.{note, nothing, goodMarks}
 use Rattle.seen.specs.declared.Seen.{Seen}
-use Rattle.seen.proofs.Wholes.{good-notes, noted-child, noted-spared, within-treeOf}
+use Rattle.seen.proofs.Wholes.{good-notes, noted-child, noted-spared, noted-total, within-treeOf}
 use Rattle.opening.specs.Opens.{left, refusedWith}
 
 module _ (w s : List ℕ) where
@@ -65,14 +65,15 @@ module _ (w s : List ℕ) where
           unfolding opening openRefused
           spent h = rw (e, opening, f, sym (decided notes noted) ∙ g, lt-leb (number0 s) lastNumber h)
 
-          session-opened : openedBy (pages s) (number0 s) (notes .children) (notes .spared) ≡ opened (pages s) (number0 s) (treeOf (pages s) s)
+          session-opened : openedBy (pages s) (number0 s) (notes .total) (notes .children) (notes .spared) ≡ opened (pages s) (number0 s) (treeOf (pages s) s)
           session-opened =
-              ap (λ (x : Seen). openedBy (pages s) (number0 s) (x .children) (x .spared)) noted
-              ∙ openedBy-opened (pages s) (number0 s) (treeOf (pages s) s) (note nothing (treeOf (pages s) s) .children)
-              (note nothing (treeOf (pages s) s) .spared) (noted-child (treeOf (pages s) s)) (noted-spared (treeOf (pages s) s))
+              ap (λ (x : Seen). openedBy (pages s) (number0 s) (x .total) (x .children) (x .spared)) noted
+              ∙ openedBy-opened (pages s) (number0 s) (note nothing (treeOf (pages s) s) .total) (treeOf (pages s) s)
+              (note nothing (treeOf (pages s) s) .children) (note nothing (treeOf (pages s) s) .spared)
+              (noted-total (treeOf (pages s) s)) (noted-child (treeOf (pages s) s)) (noted-spared (treeOf (pages s) s))
 
           pub done : number0 s ≤ lastNumber
-              → left (record { answer = Opened.Done; session = openedBy (pages s) (number0 s) (notes .children) (notes .spared) }) (setNumber s (number0 s + 1)) (setNumber s (number0 s + 1)) ≡ opening w s
+              → left (record { answer = Opened.Done; session = openedBy (pages s) (number0 s) (notes .total) (notes .children) (notes .spared) }) (setNumber s (number0 s + 1)) (setNumber s (number0 s + 1)) ≡ opening w s
           unfolding opening openDone
           done h =
               rw (e, opening, f, sym (decided notes noted) ∙ g, le-leb (number0 s) lastNumber h)

@@ -31,11 +31,11 @@ fn refused(answer: Opened) -> Opening
 // The session of an opening, from what the walk has noted.
 fn session_of(n: usize, number: u32, notes: Seen) -> Session
     requires { ⌜ n ≤ mostPages ⌝ }
-    ensures { λ r. ⌜ r ≡ openedBy n number (notes .children) (notes .spared) ⌝ }
+    ensures { λ r. ⌜ r ≡ openedBy n number (notes .total) (notes .children) (notes .spared) ⌝ }
 {
     let children = notes.children;
     let spared = notes.spared;
-    marks::opened(n as u16, number, children, spared)
+    marks::opened(n as u16, number, notes.total, children, spared)
 }
 
 pub fn open(working: &mut [u8], stable: &mut [u8]) -> Opening

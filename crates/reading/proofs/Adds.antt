@@ -13,6 +13,7 @@ use Rattle.rules.specs.Key.{keyOf, goodParts}
 use Rattle.rules.specs.Entry.{find}
 use Rattle.rules.specs.Table.{fit0}
 use Rattle.rules.specs.Walk.{Step, certsAt, wayOf}
+use Rattle.rules.specs.Marks.{counted}
 use Rattle.rules.specs.Call.{Left, lengthsFor, lookedNo}
 use Rattle.rules.specs.Lookup.{foundIn, lookupLeft, lookupKey, lookup}
 use Rattle.rules.specs.History.{Event, inserts, State, latest, recordIn, content, gains, afterInsert, step, run, start, Proper, AllProper}
@@ -180,7 +181,7 @@ done-pages w s h model serial issue x done =
     let y = insert-done (m .working) (m .stable) (m .session) model serial issue x done in
     ap (λ (q : State). q .session .n) (run-then h (inserts model serial issue x) (start w s))
     ∙ (ap (λ (q : Left Inserted). q .session .n) (y .is)
-    ∙ done-n (keyOf model serial issue) x (m .session) (y .steps)
+    ∙ done-n (keyOf model serial issue) x (counted (m .session)) (y .steps)
     (wayOf (m .session .n) (m .session .c) (keyOf model serial issue) (m .working) .table) (m .stable))
 
 pub insert-adds : InsertAdds

@@ -1,29 +1,33 @@
--- Lookup, newest and list answer by the certificates of the tree as it stands, in any table that passes opening's tests.
-use Prim.Native.Nat.{ℕ, _-_, _^_, _<_, min}
+-- Lookup, newest, has-any and list answer by the certificates of the tree as it stands, in any table that passes opening's tests.
+use Prim.Native.Nat.{ℕ, _-_, _^_, _≤_, _<_, min}
 use native.Mathlib.Omega.{arith}
 use mathlib.Core.Path.{_≡_, refl, sym, ap, _∙_, subst}
 use mathlib.Core.Bool.{Bool, true, false, _&&_}
 use mathlib.Core.List.{List, []}
 use mathlib.Core.Option.{Option, some, none}
 use lib.Dec.{ltb}
-use lib.ListN.{length}
+use lib.ListN.{length, take}
+use Rattle.rules.specs.Layout.{lastKey, largestIssue}
 use Rattle.rules.specs.Key.{keyOf, goodParts}
-use Rattle.rules.specs.Entry.{Cert, keys, find}
+use Rattle.rules.specs.Entry.{Cert, keys, find, cut}
 use Rattle.rules.specs.Page.{over}
 use Rattle.rules.specs.Walk.{Step, certsAt, wayOf, walkOf}
 use Rattle.rules.specs.Tree.{treeOf}
 use Rattle.rules.specs.Call.{Left}
 use Rattle.rules.specs.Lookup.{foundIn, lookupLeft, lookupKey, lookup}
 use Rattle.rules.specs.Newest.{meter, newestIn, newestLeft, newest}
+use Rattle.rules.specs.HasAny.{firstOf, anyIn, anyLeft, hasAny}
 use Rattle.rules.specs.List.{ListLeft, upFrom, recordsOf, listDone, list}
 use Rattle.rules.specs.declared.Session.{Session}
 use Rattle.rules.specs.declared.Looked.{Looked}
 use Rattle.rules.specs.declared.Newest.{Newest}
+use Rattle.rules.specs.declared.Any.{Any}
 use Rattle.rules.specs.declared.Listed.{Listed}
 use Rattle.rules.proofs.bytes.Keys.{keyOf-bound}
 use Rattle.rules.proofs.bytes.Lengths.{lengthsFor-true}
 use Rattle.rules.proofs.demand3.reads.Lists.{meter-whole, from-whole}
-use Rattle.reading.specs.Agreeing.{held, Passes, answerFor, Largest, listedFrom, Fills, ReadersAgree}
+use Rattle.rules.proofs.demand3.reads.Anys.{first-whole}
+use Rattle.reading.specs.Agreeing.{held, Passes, answerFor, Largest, listedFrom, Fills, listedOf, ReadersAgree}
 use Rattle.reading.proofs.Soundly.{Passing, Shows}
 use Rattle.rules.proofs.demand3.reads.TreeCerts.{all-ordered}
 use Rattle.reading.proofs.SameTree.{same-held}
@@ -32,6 +36,7 @@ use Rattle.reading.proofs.Gathers.{Walking, walk-gathers}
 use Rattle.reading.proofs.Ends.{Finding, way-finds}
 use Rattle.reading.proofs.Passes.{good-of}
 use Rattle.reading.proofs.Largest.{gather-meter, largest}
+use Rattle.reading.proofs.FirstShown.{first-shown}
 
 -- ── The rules' calls, where no damage is met ────────────────────────────────────────────────────────────────────
 
@@ -131,6 +136,43 @@ module _ {w t : List ℕ} {s : Session} (p : Passes w t s) where
         go true g = ap (λ (r : Left Newest). held s (r .working)) (newest-good g) ∙ shown-held (newest-walk .left)
         go false g = ap (λ (r : Left Newest). held s (r .working)) (newest-bad g)
 
+  -- has-any
+  module _ (model serial : ℕ) where
+    any-walk : Walking (passing p) (firstOf model serial) (gather (firstOf model serial) [] (treeOf (s .n) w .certs)) (walkOf (s .n) (s .c) (firstOf model serial) w)
+    any-walk = walk-gathers (passing p) (firstOf model serial)
+
+    any-good : (ltb 0 model && ltb 0 serial) ≡ true
+        → hasAny w t s model serial
+        ≡ anyLeft s (walkOf (s .n) (s .c) (firstOf model serial) w .table) t (anyIn (walkOf (s .n) (s .c) (firstOf model serial) w .found))
+    unfolding hasAny
+    any-good g = rw (p .lengths, hasAny) (rw g (rw (p .fit) (first-whole (firstOf model serial) s w t (any-walk .whole))))
+
+    any-bad : (ltb 0 model && ltb 0 serial) ≡ false → hasAny w t s model serial ≡ anyLeft s w t Any.BadKey
+    unfolding hasAny
+    any-bad g = rw (p .lengths, hasAny) (rw g)
+
+    within : model < 2 ^ 16 → serial < 2 ^ 32 → keyOf model serial largestIssue ≤ lastKey
+    unfolding keyOf
+    within a b = omega arith
+
+    says : model < 2 ^ 16 → serial < 2 ^ 32 → (ltb 0 model && ltb 0 serial) ≡ true → (ks xs : List ℕ) → 0 < min (length ks) (length xs)
+        → hasAny w t s model serial .answer ≡ anyIn (listedOf model serial ks xs (held s w))
+    unfolding anyLeft held firstOf listedOf listedFrom
+    says wide-model wide-serial g ks xs l =
+        let certs = treeOf (s .n) w .certs in
+        ap (λ (r : Left Any). r .answer) (any-good g)
+        ∙ (ap anyIn (any-walk .found)
+        ∙ first-shown (keyOf model serial 1) (keyOf model serial largestIssue) certs (all-ordered (passing p .good) .rise)
+        (within wide-model wide-serial) (min (length ks) (length xs)) l)
+
+    said : held s (hasAny w t s model serial .working) ≡ held s w
+    unfolding anyLeft
+    said = go (ltb 0 model && ltb 0 serial) refl
+      where
+        go : (b : Bool) → (ltb 0 model && ltb 0 serial) ≡ b → held s (hasAny w t s model serial .working) ≡ held s w
+        go true g = ap (λ (r : Left Any). held s (r .working)) (any-good g) ∙ shown-held (any-walk .left)
+        go false g = ap (λ (r : Left Any). held s (r .working)) (any-bad g)
+
   -- list
   module _ (start : ℕ) (ks xs : List ℕ) where
     list-walk : Walking (passing p) (upFrom start ks xs) (gather (upFrom start ks xs) [] (treeOf (s .n) w .certs)) (walkOf (s .n) (s .c) (upFrom start ks xs) w)
@@ -163,8 +205,10 @@ readers-agree w t s p = record {
   rises = all-ordered (passing p .good) .rise;
   lookup-agrees = looks p;
   newest-agrees = asks p;
+  any-agrees = says p;
   list-agrees = lists p;
   after-lookup = looked p;
   after-newest = asked p;
+  after-any = said p;
   after-list = listed p;
 }

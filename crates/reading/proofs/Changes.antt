@@ -18,7 +18,7 @@ use Rattle.rules.specs.Page.{Page, isLeaf, touch}
 use Rattle.rules.specs.Table.{pageAt, read, fit0, Tables}
 use Rattle.rules.specs.Place.{rootPlace}
 use Rattle.rules.specs.Walk.{Step, numbers, certsAt, wayOf}
-use Rattle.rules.specs.Marks.{freePages}
+use Rattle.rules.specs.Marks.{counted, freePages}
 use Rattle.rules.specs.Call.{Left, lengthsFor, insertedNo}
 use Rattle.rules.specs.Insert.{splitting, rootSplits, newPages, tooHigh, tooSoon, noRoom, putCert, changed, Making, making, split, insertRefused, insertDone, insertAlong, insertKey, insert}
 use Rattle.rules.specs.declared.Session.{Session}
@@ -53,16 +53,16 @@ pub record Along (k x : ℕ) (s : Session) (w t : List ℕ) (r : Left Inserted) 
   pub steps : List Step
   pub way : wayOf (s .n) (s .c) k w .steps ≡ some steps
   pub roomy : noRoom steps (freePages s (numbers steps)) ≡ false
-  pub is : r ≡ insertDone k x s steps (wayOf (s .n) (s .c) k w .table) t
+  pub is : r ≡ insertDone k x (counted s) steps (wayOf (s .n) (s .c) k w .table) t
 
 along-done : (k x : ℕ) (s : Session) (way : List Step) (u t : List ℕ) → insertAlong k x s way u t .answer ≡ Inserted.Done
-    → (noRoom way (freePages s (numbers way)) ≡ false) × (insertAlong k x s way u t ≡ insertDone k x s way u t)
+    → (noRoom way (freePages s (numbers way)) ≡ false) × (insertAlong k x s way u t ≡ insertDone k x (counted s) way u t)
 unfolding insertAlong insertRefused insertedNo
 along-done k x s way u t h = go (find k (certsAt way)) refl (tooSoon (s .c) (splitting way)) refl (noRoom way (freePages s (numbers way))) refl
   where
     go : (o : Option ℕ) → find k (certsAt way) ≡ o → (a : Bool) → tooSoon (s .c) (splitting way) ≡ a
         → (b : Bool) → noRoom way (freePages s (numbers way)) ≡ b
-        → (noRoom way (freePages s (numbers way)) ≡ false) × (insertAlong k x s way u t ≡ insertDone k x s way u t)
+        → (noRoom way (freePages s (numbers way)) ≡ false) × (insertAlong k x s way u t ≡ insertDone k x (counted s) way u t)
     go (some y) o a p b q = absurd (omega (arith, ap insertedNo (rw (insertAlong, o) at h)))
     go none o true p b q = absurd (omega (arith, ap insertedNo (rw (insertAlong, o, p) at h)))
     go none o false p true q = absurd (omega (arith, ap insertedNo (rw (insertAlong, o, p, q) at h)))
@@ -264,7 +264,7 @@ pub record Went (w t : List ℕ) (s : Session) (k x : ℕ) (r : Left Inserted) :
   pub short : length (first ∷ rest) ≤ topKind
   pub leaf : isLeaf (first .page .view) ≡ true
   pub roomy : noRoom (first ∷ rest) (freePages s (numbers (first ∷ rest))) ≡ false
-  pub is : r ≡ insertDone k x s (first ∷ rest) (wayOf (s .n) (s .c) k w .table) t
+  pub is : r ≡ insertDone k x (counted s) (first ∷ rest) (wayOf (s .n) (s .c) k w .table) t
 
 module _ (w t : List ℕ) (s : Session) (model serial issue x : ℕ) (y : Typed w s model serial issue)
     (h : insert w t s model serial issue x .answer ≡ Inserted.Done) where
@@ -296,14 +296,30 @@ module _ (w t : List ℕ) (s : Session) (model serial issue x : ℕ) (y : Typed 
         short = omega (arith, ap length q, WL .short);
         leaf = subst (λ (z : Step). isLeaf (z .page .view) ≡ true) e (v .ends);
         roomy = subst (λ (ss : List Step). noRoom ss (freePages s (numbers ss)) ≡ false) q (D .roomy);
-        is = D .is ∙ ap (λ (ss : List Step). insertDone k x s ss (wayOf (s .n) (s .c) k w .table) t) q;
+        is = D .is ∙ ap (λ (ss : List Step). insertDone k x (counted s) ss (wayOf (s .n) (s .c) k w .table) t) q;
       }
 
+-- how many certificates are counted has no say
+few-counted : {w : List ℕ} {s : Session} {k : ℕ} {r : Left Inserted} → FewChange w (counted s) k r → FewChange w s k r
+unfolding takenFor freePages
+few-counted x = record {
+  steps = x .steps;
+  way = x .way;
+  count = x .count;
+  as-many = x .as-many;
+  length-stays = x .length-stays;
+  page = x .page;
+  page0 = x .page0;
+  taken = x .taken;
+  marks = λ i z r. let m = x .marks i z r in record { free = m .free; waiting = m .waiting };
+}
+
 pub insert-changes : InsertChanges
-unfolding InsertChanges
+unfolding InsertChanges freePages
 insert-changes w t s model serial issue x y h =
     let k = keyOf model serial issue in
     let g = insert-went w t s model serial issue x y h in
     subst (FewChange w s k) (sym (g .is))
-    (few-change w t s k x (g .tables) (way-left (s .n) (s .c) k w (g .tables .working) (g .fit) (y .bytes) (y .counter) (key-bound y))
-    (y .counter) (g .first) (g .rest) (g .way) (g .leads) (g .short) (g .leaf) (g .roomy))
+    (few-counted
+    (few-change w t (counted s) k x (g .tables) (way-left (s .n) (s .c) k w (g .tables .working) (g .fit) (y .bytes) (y .counter) (key-bound y))
+    (y .counter) (g .first) (g .rest) (g .way) (g .leads) (g .short) (g .leaf) (g .roomy)))

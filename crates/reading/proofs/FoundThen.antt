@@ -14,7 +14,7 @@ use Rattle.rules.specs.Page.{isLeaf}
 use Rattle.rules.specs.Table.{kind0, n0, fit0, Tables}
 use Rattle.rules.specs.Place.{rootPlace}
 use Rattle.rules.specs.Walk.{Step, Way, certsAt, numbers, wayOf}
-use Rattle.rules.specs.Marks.{freePages}
+use Rattle.rules.specs.Marks.{counted, freePages}
 use Rattle.rules.specs.Call.{Left, lengthsFor, insertedNo}
 use Rattle.rules.specs.Insert.{Making, noRoom, insertRefused, insertDone, insert}
 use Rattle.rules.specs.Lookup.{foundIn, lookupLeft, lookupKey, lookup}
@@ -145,10 +145,19 @@ module _ (w t : List ℕ) (s : Session) (model serial issue x : ℕ) (y : Typed 
         working = ap (λ (r : Left Looked). r .working) there;
       })
 
+typed-counted : {w : List ℕ} {s : Session} {model serial issue : ℕ} → Typed w s model serial issue → Typed w (counted s) model serial issue
+typed-counted y = record {
+  bytes = y .bytes;
+  counter = y .counter;
+  wide-model = y .wide-model;
+  wide-serial = y .wide-serial;
+  wide-issue = y .wide-issue;
+}
+
 pub insert-found : InsertFound
-unfolding InsertFound
+unfolding InsertFound freePages
 insert-found w t s model serial issue x y small h =
     let g = insert-went w t s model serial issue x y h in
     subst (λ (r : Left Inserted). FoundThen r model serial issue x) (sym (g .is))
-    (found-then w t s model serial issue x y small (done-good w t s model serial issue x h) (g .tables) (g .fit) (g .first) (g .rest)
-    (g .way) (g .leads) (g .top) (g .short) (g .leaf) (g .roomy))
+    (found-then w t (counted s) model serial issue x (typed-counted y) small (done-good w t s model serial issue x h) (g .tables) (g .fit)
+    (g .first) (g .rest) (g .way) (g .leads) (g .top) (g .short) (g .leaf) (g .roomy))

@@ -13,7 +13,7 @@ use Rattle.rules.specs.Entry.{Cert, cut}
 use Rattle.rules.specs.Page.{View}
 use Rattle.rules.specs.Place.{rootPlace, kids, show}
 use Rattle.rules.specs.Enter.{enter}
-use Rattle.rules.specs.Walk.{Walked, enters, finds, walkEach, walk, walkOf}
+use Rattle.rules.specs.Walk.{Walked, enters, finds, walkEach, walk, walkOf, unwalked, noted}
 use Rattle.rules.specs.Tree.{empty, join, treeEach, tree, treeOf}
 use Rattle.rules.specs.declared.Asked.{Asked}
 use Rattle.rules.specs.declared.Place.{Place}
@@ -70,7 +70,7 @@ module _ {n c : ℕ} {t : List ℕ} (p : Passing n c t) (a : Asked) where
     seen = enter-seen v above (h .left) node shows (apart node shows above higher)
 
     -- on entering
-    begun : Walking (gather a xs (v .certs)) (finds a v w (enter n c above (w .table) e .table))
+    begun : Walking (gather a xs (v .certs)) (finds a v (noted n e w) (enter n c above (w .table) e .table))
     unfolding finds
     begun =
         record {
@@ -121,9 +121,9 @@ module _ {n c : ℕ} {t : List ℕ} (p : Passing n c t) (a : Asked) where
           (subst (Walking (gather a (gather a xs (v .certs)) (treeEach (tree level n t) (kids e v) .certs)))
           (sym (walk-entered level n c a above e w q (r .page) (r .given)))
           (subst (λ (u : View). Walking (gather a (gather a xs (v .certs)) (treeEach (tree level n t) (kids e v) .certs))
-          (walkEach (walk level n c a (e .child ∷ above)) (kids e u) (finds a u w (enter n c above (w .table) e .table)))) (sym (r .view))
+          (walkEach (walk level n c a (e .child ∷ above)) (kids e u) (finds a u (noted n e w) (enter n c above (w .table) e .table)))) (sym (r .view))
           (each level (e .child ∷ above) (kids e v) ih (gather a xs (v .certs))
-          (finds a v w (enter n c above (w .table) e .table)) (begun v node shows above higher xs w h))))
+          (finds a v (noted n e w) (enter n c above (w .table) e .table)) (begun v node shows above higher xs w h))))
 
   -- the whole tree
   pub walk-gathers : Walking (gather a [] (treeOf n t .certs)) (walkOf n c a t)
@@ -133,4 +133,4 @@ module _ {n c : ℕ} {t : List ℕ} (p : Passing n c t) (a : Asked) where
       let z = p .good .whole x in
       let l = shown-kind n t (rootPlace t) (z .view) (z .shows) in
       gathers topKind 0 (rootPlace t) (z .view) [] x (z .shows) (l .1) (none-higher n t (z .view .kind)) []
-      (record { table = t; whole = true; found = [] }) (record { whole = refl; found = refl; left = shows-itself p })
+      (unwalked t) (record { whole = refl; found = refl; left = shows-itself p })

@@ -1,4 +1,5 @@
--- Each certificate that newest and list hand out was read from a leaf that their walk entered, in tables of any bytes.
+-- Each certificate that newest and list hand out, and one where has-any says yes, was read from a leaf that their walk entered, in
+-- tables of any bytes.
 -- Assumes nothing.
 use Prim.Native.Nat.{ℕ, zero, suc, _-_, _≤_}
 use native.Mathlib.Omega.{arith}
@@ -15,13 +16,15 @@ use Rattle.rules.specs.Page.{Page, over}
 use Rattle.rules.specs.Table.{fit0}
 use Rattle.rules.specs.Enter.{enter}
 use Rattle.rules.specs.Walk.{Walked, enters, finds, stops, walkOf}
-use Rattle.rules.specs.Call.{lengthsFor, newestNo, newestIssue, newestRecord, listedNo, listedCount}
+use Rattle.rules.specs.Call.{lengthsFor, newestNo, newestIssue, newestRecord, anyNo, anyYes, listedNo, listedCount}
 use Rattle.rules.specs.Newest.{meter, newestIn}
+use Rattle.rules.specs.HasAny.{firstOf, anyIn}
 use Rattle.rules.specs.List.{ListLeft, upFrom, recordsOf, listDone, listRefused, listFrom, list}
 use Rattle.rules.specs.declared.Place.{Place}
 use Rattle.rules.specs.declared.Asked.{Asked}
 use Rattle.rules.specs.declared.Session.{Session}
 use Rattle.rules.specs.declared.Newest.{Newest}
+use Rattle.rules.specs.declared.Any.{Any}
 use Rattle.rules.proofs.entries.Tests.{all-head, all-tail, between-low, between-high}
 use Rattle.rules.proofs.entries.Rises.{length-keys}
 use Rattle.rules.proofs.entries.Entries.{cut-in, cut-out}
@@ -29,10 +32,10 @@ use Rattle.rules.proofs.bytes.Over.{take-over}
 use Rattle.enter.proofs.Stands.{comes}
 use Rattle.answers.specs.Range.{Parent, numbersOf, Comes}
 use Rattle.answers.proofs.RangeWalks.{walk-keeps}
-use Rattle.answers.proofs.Ranges.{newest-done}
-use Rattle.reading.specs.Reading.{lastIssue, ReadFrom, NewestExact, ListExact}
+use Rattle.answers.proofs.Ranges.{newest-done, any-done}
+use Rattle.reading.specs.Reading.{lastIssue, ReadFrom, NewestExact, AnyExact, ListExact}
 use Rattle.reading.proofs.Exact.{holds-leaf, shaped-entered, Good, good-entered}
-use Rattle.reading.proofs.Meters.{meter-low, meter-high, issue-from, issue-to, model-of, serial-of}
+use Rattle.reading.proofs.Meters.{meter-low, meter-high, issue-from, issue-to, model-of, serial-of, first-model, first-serial}
 
 -- ── Members of lists ────────────────────────────────────────────────────────────────────────────────────────────
 
@@ -154,6 +157,25 @@ newest-exact w t s model serial i x wide h =
       value = r .3;
       first = subst (λ (z : ℕ). 1 ≤ z) (r .2) (issue-from model serial k low high);
       last = subst (λ (z : ℕ). z ≤ lastIssue) (r .2) (issue-to model serial k low high);
+    }
+
+-- ── Has-any ─────────────────────────────────────────────────────────────────────────────────────────────────────
+
+one-found : (xs : List Cert) → anyIn xs ≡ Any.Yes → (entry : Cert) × List·Memᴰ entry xs
+unfolding anyIn anyYes
+one-found [] h = absurd (omega (arith, ap anyYes h))
+one-found (x ∷ xs) h = (x, List·Memᴰ·head refl)
+
+pub any-exact : AnyExact
+unfolding AnyExact anyNo
+any-exact w t s model serial wide h =
+    let r = one-found (walkOf (s .n) (s .c) (firstOf model serial) w .found) (sym (any-done w t s model serial (ap anyNo h)) ∙ h) in
+    let f = all-read (s .n) (s .c) (firstOf model serial) w (r .0) (r .1) in
+    record {
+      entry = r .0;
+      read-from = f;
+      of-model = first-model model serial (r .0 .key) (f .from) (f .to) wide;
+      of-serial = first-serial model serial (r .0 .key) (f .from) (f .to) wide;
     }
 
 -- ── List ────────────────────────────────────────────────────────────────────────────────────────────────────────

@@ -1,4 +1,4 @@
--- Every store of a history passes opening's tests while it is open, so lookup, newest and list agree in it.
+-- Every store of a history passes opening's tests while it is open, so lookup, newest, has-any and list agree in it.
 use Prim.Native.Nat.{ℕ}
 use native.Mathlib.Omega.{arith}
 use Rattle.rules.specs.History.{State, run, start}

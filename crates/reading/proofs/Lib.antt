@@ -8,6 +8,8 @@ pub mod Handed
 pub mod Turns
 pub mod WayLeft
 pub mod Refused
+-- and what its report tells
+pub mod Reporting
 -- What stands on a page that a call builds
 pub mod Building
 -- What an insert changes, in tables of any bytes
@@ -32,7 +34,8 @@ pub mod SameTree
 pub mod Gathers
 pub mod Ends
 pub mod Largest
--- Lookup, newest and list
+-- Lookup, newest, has-any and list
+pub mod FirstShown
 pub mod Empty
 pub mod Agrees
 pub mod Provisionals

@@ -1,9 +1,10 @@
--- The keys of one meter, from issue 1 to the last that newest asks for. Assumes nothing.
+-- The keys of one meter, from issue 1 to the last that newest asks for, and to the last that has-any does. Assumes nothing.
 use Prim.Native.Nat.{ℕ, _^_, _≤_, _<_}
 use native.Mathlib.Omega.{arith}
 use mathlib.Core.Path.{_≡_, refl, sym, ap, _∙_}
 use Rattle.rules.specs.Key.{keyOf, modelOf, serialOf, issueOf}
 use Rattle.rules.specs.Newest.{meter}
+use Rattle.rules.specs.HasAny.{firstOf}
 use Rattle.rules.proofs.bytes.Keys.{modelOf-keyOf, serialOf-keyOf, issueOf-bound}
 use Rattle.reading.specs.Reading.{lastIssue}
 
@@ -40,3 +41,15 @@ module _ (model serial k : ℕ) (low : keyOf model serial 1 ≤ k) (high : k ≤
 
   pub serial-of : serial < 2 ^ 32 → serialOf k ≡ serial
   serial-of wide = ap serialOf (sym key-of-issue) ∙ serialOf-keyOf model serial (issueOf k) wide (issueOf-bound k)
+
+-- the same of has-any's range
+module _ (model serial k : ℕ) (low : firstOf model serial .low ≤ k) (high : k ≤ firstOf model serial .high) where
+  key-of-any : keyOf model serial (issueOf k) ≡ k
+  unfolding firstOf keyOf issueOf
+  key-of-any = omega arith
+
+  pub first-model : serial < 2 ^ 32 → modelOf k ≡ model
+  first-model wide = ap modelOf (sym key-of-any) ∙ modelOf-keyOf model serial (issueOf k) wide (issueOf-bound k)
+
+  pub first-serial : serial < 2 ^ 32 → serialOf k ≡ serial
+  first-serial wide = ap serialOf (sym key-of-any) ∙ serialOf-keyOf model serial (issueOf k) wide (issueOf-bound k)

@@ -1,4 +1,4 @@
--- Lookup, newest and list answer by one list of certificates: those of the tree as it stands, as opening reads it.
+-- Lookup, newest, has-any and list answer by one list of certificates: those of the tree as it stands, as opening reads it.
 use Prim.Native.Nat.{ℕ, _^_, _≤_, _<_, min}
 use mathlib.Core.Path.{_≡_}
 use mathlib.Core.Bool.{true, _&&_}
@@ -7,7 +7,7 @@ use mathlib.Core.Option.{Option, some, none}
 use lib.Dec.{ltb}
 use lib.ListN.{length, take}
 use Rattle.fields.specs.Field.{Bytes}
-use Rattle.rules.specs.Layout.{lastKey}
+use Rattle.rules.specs.Layout.{lastKey, largestIssue}
 use Rattle.rules.specs.Key.{keyOf, goodParts}
 use Rattle.rules.specs.Entry.{Cert, keys, find, cut, put, rising}
 use Rattle.rules.specs.Page.{over}
@@ -16,6 +16,7 @@ use Rattle.rules.specs.Tree.{treeOf, goodTree}
 use Rattle.rules.specs.Call.{lengthsFor}
 use Rattle.rules.specs.Lookup.{lookup}
 use Rattle.rules.specs.Newest.{newest}
+use Rattle.rules.specs.HasAny.{anyIn, hasAny}
 use Rattle.rules.specs.List.{ListLeft, recordsOf, list}
 use Rattle.rules.specs.History.{Event, State, run, start, AllProper}
 use Rattle.rules.specs.Demand.{Lent}
@@ -66,6 +67,11 @@ pub record Fills (certs : List Cert) (start : ℕ) (ks xs : List ℕ) (r : ListL
   pub keys : r .keys ≡ over (keys (listedFrom start ks xs certs)) ks
   pub records : r .records ≡ over (recordsOf (listedFrom start ks xs certs)) xs
 
+-- what a listing from a meter's first issue on shows of the meter
+unfoldable pub listedOf : ℕ → ℕ → List ℕ → List ℕ → List Cert → List Cert
+listedOf model serial ks xs certs =
+    cut (keyOf model serial 1) (keyOf model serial largestIssue) (listedFrom (keyOf model serial 1) ks xs certs)
+
 -- ── The promises ────────────────────────────────────────────────────────────────────────────────────────────────
 
 pub record Agree (w t : List ℕ) (s : Session) : Type 0 where
@@ -76,10 +82,15 @@ pub record Agree (w t : List ℕ) (s : Session) : Type 0 where
   pub newest-agrees : (model serial : ℕ) → serial < 2 ^ 32 → (ltb 0 model && ltb 0 serial) ≡ true
       → Largest (held s w) model serial (newest w t s model serial .answer)
   pub list-agrees : (start : ℕ) (ks xs : List ℕ) → Fills (held s w) start ks xs (list w t s start ks xs)
+  -- yes exactly if a listing of the meter shows something, into lists with a place at least
+  pub any-agrees : (model serial : ℕ) → model < 2 ^ 16 → serial < 2 ^ 32 → (ltb 0 model && ltb 0 serial) ≡ true
+      → (ks xs : List ℕ) → 0 < min (length ks) (length xs)
+      → hasAny w t s model serial .answer ≡ anyIn (listedOf model serial ks xs (held s w))
   -- and none of them changes what the tree holds
   pub after-lookup : (model serial issue : ℕ) → model < 2 ^ 16 → serial < 2 ^ 32 → issue < 2 ^ 16
       → held s (lookup w t s model serial issue .working) ≡ held s w
   pub after-newest : (model serial : ℕ) → held s (newest w t s model serial .working) ≡ held s w
+  pub after-any : (model serial : ℕ) → held s (hasAny w t s model serial .working) ≡ held s w
   pub after-list : (start : ℕ) (ks xs : List ℕ) → held s (list w t s start ks xs .working) ≡ held s w
 
 -- a store of a history

@@ -12,12 +12,14 @@ use Rattle.rules.specs.Enter.{enter}
 use Rattle.rules.specs.Walk.{Step, wayOf, Walked, enters}
 use Rattle.rules.specs.Lookup.{lookup}
 use Rattle.rules.specs.Newest.{meter, newest}
+use Rattle.rules.specs.HasAny.{firstOf, hasAny}
 use Rattle.rules.specs.List.{ListLeft, upFrom, recordsOf, list}
 use Rattle.rules.specs.declared.Place.{Place}
 use Rattle.rules.specs.declared.Asked.{Asked}
 use Rattle.rules.specs.declared.Session.{Session}
 use Rattle.rules.specs.declared.Looked.{Looked}
 use Rattle.rules.specs.declared.Newest.{Newest}
+use Rattle.rules.specs.declared.Any.{Any}
 use Rattle.rules.specs.declared.Listed.{Listed}
 use Rattle.answers.specs.Range.{Parent, numbersOf, Comes}
 
@@ -74,6 +76,13 @@ pub record ExactNewest (s : Session) (w : List ℕ) (model serial i x : ℕ) : T
   pub first : 1 ≤ i
   pub last : i ≤ lastIssue
 
+-- one such entry, of exactly this meter
+pub record ExactAny (s : Session) (w : List ℕ) (model serial : ℕ) : Type 0 where
+  pub entry : Cert
+  pub read-from : ReadFrom (s .n) (s .c) (firstOf model serial) w entry
+  pub of-model : modelOf (entry .key) ≡ model
+  pub of-serial : serialOf (entry .key) ≡ serial
+
 -- the k places that are filled have key and record of such entries
 pub record ExactList (s : Session) (w : List ℕ) (start : ℕ) (ks xs : List ℕ) (k : ℕ) (r : ListLeft) : Type 0 where
   pub entries : List Cert
@@ -87,6 +96,11 @@ unfoldable pub NewestExact : Type 0
 NewestExact =
     (w t : List ℕ) (s : Session) (model serial i x : ℕ) → serial < 2 ^ 32
     → newest w t s model serial .answer ≡ Newest.Found i x → ExactNewest s w model serial i x
+
+unfoldable pub AnyExact : Type 0
+AnyExact =
+    (w t : List ℕ) (s : Session) (model serial : ℕ) → serial < 2 ^ 32
+    → hasAny w t s model serial .answer ≡ Any.Yes → ExactAny s w model serial
 
 unfoldable pub ListExact : Type 0
 ListExact =

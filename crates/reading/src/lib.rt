@@ -2,9 +2,9 @@
 //
 // specs/ has each promise as a short definition that needs no proof to be read; proofs/ has a theorem of the same name
 // for each. A record that is found is that of the very key asked for; what newest and list hand out was read from a leaf
-// that they entered. Lookup, newest and list answer by one list of certificates. An opening that enters page after page
-// would answer as the rules' does. A walk leaves every page as it was or mended for a place it asked for. An insert takes so many pages,
-// changes no others, and adds one key.
+// that they entered. Lookup, newest, has-any and list answer by one list of certificates. An opening that enters page after
+// page would answer as the rules' does. A walk leaves every page as it was or mended for a place it asked for, and its
+// report tells which. An insert takes so many pages, changes no others, and adds one key.
 //
 // Below stand `rules`, which the promises are about, `answers`, which follows a walk place by place, and the laws of
 // `enter`, `way` and `apply` on tables of any bytes.

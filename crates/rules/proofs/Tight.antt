@@ -14,3 +14,15 @@ session-wait-tight κs a pre z z′ l l′ p q = (p ∙ sym q, refl)
 
 pub session-raise-tight : Tight this.Session.raise.Kinds.ps this.Session.raise.Kinds.r this.Session.raise.Reads.Pre this.Session.raise.Reads.Post
 session-raise-tight κs a pre z z′ l l′ p q = (p ∙ sym q, refl)
+
+pub session-count-tight : Tight this.Session.count.Kinds.ps this.Session.count.Kinds.r this.Session.count.Reads.Pre this.Session.count.Reads.Post
+session-count-tight κs a pre z z′ l l′ p q = (p ∙ sym q, refl)
+
+pub reason-is-none-tight : Tight this.Reason.is_none.Kinds.ps this.Reason.is_none.Kinds.r this.Reason.is_none.Reads.Pre this.Reason.is_none.Reads.Post
+reason-is-none-tight κs a pre z z′ l l′ p q = (p ∙ sym q, refl)
+
+pub report-nothing-tight : Tight this.Report.nothing.Kinds.ps this.Report.nothing.Kinds.r this.Report.nothing.Reads.Pre this.Report.nothing.Reads.Post
+report-nothing-tight κs a pre z z′ l l′ p q = (p ∙ sym q, refl)
+
+pub report-add-tight : Tight this.Report.add.Kinds.ps this.Report.add.Kinds.r this.Report.add.Reads.Pre this.Report.add.Reads.Post
+report-add-tight κs a pre z z′ l l′ p q = (p ∙ sym q, refl)

@@ -6,6 +6,7 @@ pub mod Puts
 pub mod Views
 pub mod Sounds
 pub mod Places
+pub mod Reasons
 pub mod Halves
 pub mod Picks
 pub mod Asks

@@ -12,6 +12,7 @@ use Rattle.rules.specs.declared.Opened.{Opened}
 use Rattle.rules.specs.declared.Inserted.{Inserted}
 use Rattle.rules.specs.declared.Looked.{Looked}
 use Rattle.rules.specs.declared.Newest.{Newest}
+use Rattle.rules.specs.declared.Any.{Any}
 use Rattle.rules.specs.declared.Listed.{Listed}
 use Rattle.rules.specs.declared.Synced.{Synced}
 
@@ -86,6 +87,21 @@ newestRecord Newest.Length = 0
 newestRecord Newest.BadKey = 0
 newestRecord Newest.Damaged = 0
 newestRecord Newest.Missing = 0
+
+unfoldable pub anyNo : Any → ℕ
+anyNo Any.Yes = 0
+anyNo Any.No = 0
+anyNo Any.Length = 1
+anyNo Any.BadKey = 2
+anyNo Any.Damaged = 3
+
+-- 1 is yes, 0 is no
+unfoldable pub anyYes : Any → ℕ
+anyYes Any.Yes = 1
+anyYes Any.No = 0
+anyYes Any.Length = 0
+anyYes Any.BadKey = 0
+anyYes Any.Damaged = 0
 
 unfoldable pub listedNo : Listed → ℕ
 listedNo (Listed.Filled k) = 0

@@ -9,7 +9,7 @@ use mathlib.Core.Option.{Option, some, none}
 use lib.ListN.{length, replicate}
 use lib.Dec.{leb}
 use Rattle.fields.specs.Field.{Bytes}
-use Rattle.rules.specs.Layout.{pageSize, fewestPages, mostPages, lastKey, lastNumber, lastFinal}
+use Rattle.rules.specs.Layout.{pageSize, fewestPages, mostPages, lastKey, lastNumber, lastFinal, largestIssue}
 use Rattle.rules.specs.Test.{mem}
 use Rattle.rules.specs.Key.{keyOf, goodKey}
 use Rattle.rules.specs.Entry.{Cert, keys, find, rising}
@@ -20,12 +20,14 @@ use Rattle.rules.specs.Open.{opening}
 use Rattle.rules.specs.Insert.{insert}
 use Rattle.rules.specs.Lookup.{lookup}
 use Rattle.rules.specs.Newest.{newest}
+use Rattle.rules.specs.HasAny.{hasAny}
 use Rattle.rules.specs.List.{ListLeft, recordsOf, list}
-use Rattle.rules.specs.History.{Event, State, looks, asksNewest, lists, step, run, start, AllProper, crashNow, crashInSyncNow, content, latest, earliest}
+use Rattle.rules.specs.History.{Event, State, looks, asksNewest, asksAny, lists, step, run, start, AllProper, crashNow, crashInSyncNow, content, latest, earliest}
 use Rattle.rules.specs.declared.Opened.{Opened}
 use Rattle.rules.specs.declared.Inserted.{Inserted}
 use Rattle.rules.specs.declared.Looked.{Looked}
 use Rattle.rules.specs.declared.Newest.{Newest}
+use Rattle.rules.specs.declared.Any.{Any}
 use Rattle.rules.specs.declared.Listed.{Listed}
 
 -- ── Words ───────────────────────────────────────────────────────────────────────────────────────────────────────
@@ -47,6 +49,9 @@ lookupNow m model serial issue = lookup (m .working) (m .stable) (m .session) mo
 abbrev pub newestNow : State → ℕ → ℕ → Left Newest
 newestNow m model serial = newest (m .working) (m .stable) (m .session) model serial
 
+abbrev pub hasAnyNow : State → ℕ → ℕ → Left Any
+hasAnyNow m model serial = hasAny (m .working) (m .stable) (m .session) model serial
+
 abbrev pub listNow : State → ℕ → List ℕ → List ℕ → ListLeft
 listNow m from ks xs = list (m .working) (m .stable) (m .session) from ks xs
 
@@ -57,6 +62,7 @@ insertNow m model serial issue x = insert (m .working) (m .stable) (m .session) 
 pub data Reads : Event → Type 0 where
   look : {model serial issue : ℕ} → Reads (looks model serial issue)
   ask : {model serial : ℕ} → Reads (asksNewest model serial)
+  askAny : {model serial : ℕ} → Reads (asksAny model serial)
   listing : {from : ℕ} {ks xs : List ℕ} → Reads (lists from ks xs)
 
 -- two listings show the same; the pages they mended may differ
@@ -86,6 +92,13 @@ pub data NewestTells (state : ℕ → Option ℕ) (model serial : ℕ) (answer :
       → ((j : ℕ) → issue < j → j ≤ lastFinal → state (keyOf model serial j) ≡ none) → NewestTells state model serial answer
   missing : answer ≡ Newest.Missing → ((j : ℕ) → 1 ≤ j → j ≤ lastFinal → state (keyOf model serial j) ≡ none)
       → NewestTells state model serial answer
+
+-- has-any says yes exactly if an issue of the meter has a record now, a provisional one too
+pub data AnyTells (state : ℕ → Option ℕ) (model serial : ℕ) (answer : Any) : Type 0 where
+  some-issue : (issue x : ℕ) → answer ≡ Any.Yes → 1 ≤ issue → issue ≤ largestIssue → state (keyOf model serial issue) ≡ some x
+      → AnyTells state model serial answer
+  no-issue : answer ≡ Any.No → ((j : ℕ) → 1 ≤ j → j ≤ largestIssue → state (keyOf model serial j) ≡ none)
+      → AnyTells state model serial answer
 
 -- done, or spent exactly where the number is too high
 unfoldable pub openAnswer : List ℕ → Opened
@@ -119,19 +132,26 @@ pub record Survives (m : State) (w : List ℕ) : Type 0 where
 pub record Serves (m : State) : Type 0 where
   -- the store is a map: a lookup answers by what was inserted
   pub looks-up : (k : ℕ) → k ≤ lastKey → content (m .session) (m .working) (m .stable) k ≡ latest (m .past k)
-  -- list and newest tell of the same entries, so what is said of lookups after a crash is said of them
+  -- list, newest and has-any tell of the same entries, so what is said of lookups after a crash is said of them
   pub list-tells : (from : ℕ) (ks xs : List ℕ) → ListTells (λ k. latest (m .past k)) from ks xs (listNow m from ks xs)
   pub newest-tells : (model serial : ℕ) → 0 < model → model < 65536 → 0 < serial → serial < 4294967296
       → NewestTells (λ k. latest (m .past k)) model serial (newestNow m model serial .answer)
+  pub any-tells : (model serial : ℕ) → 0 < model → model < 65536 → 0 < serial → serial < 4294967296
+      → AnyTells (λ k. latest (m .past k)) model serial (hasAnyNow m model serial .answer)
+  -- the session's total is the length of a full listing: a list from key 0 shows so many, or as many as it has room for
+  pub counts : (ks xs : List ℕ) → listNow m 0 ks xs .answer ≡ Listed.Filled (min (min (length ks) (length xs)) (m .session .total))
   -- no reading call meets damage
   pub lookup-whole : (model serial issue : ℕ) → lookupNow m model serial issue .answer ≡ Looked.Damaged → ⊥
   pub newest-whole : (model serial : ℕ) → newestNow m model serial .answer ≡ Newest.Damaged → ⊥
+  pub any-whole : (model serial : ℕ) → hasAnyNow m model serial .answer ≡ Any.Damaged → ⊥
   pub list-whole : (from : ℕ) (ks xs : List ℕ) → listNow m from ks xs .answer ≡ Listed.Damaged → ⊥
   -- none changes what a call answers after it: so the order of reading calls changes no answer of theirs, nor of an insert
   pub lookup-stays : (e : Event) → Reads e → (model serial issue : ℕ)
       → lookupNow (step e m) model serial issue .answer ≡ lookupNow m model serial issue .answer
   pub newest-stays : (e : Event) → Reads e → (model serial : ℕ)
       → newestNow (step e m) model serial .answer ≡ newestNow m model serial .answer
+  pub any-stays : (e : Event) → Reads e → (model serial : ℕ)
+      → hasAnyNow (step e m) model serial .answer ≡ hasAnyNow m model serial .answer
   pub list-stays : (e : Event) → Reads e → (from : ℕ) (ks xs : List ℕ)
       → SameListing (listNow (step e m) from ks xs) (listNow m from ks xs)
   pub insert-stays : (e : Event) → Reads e → (model serial issue x : ℕ)

@@ -18,6 +18,7 @@ use Rattle.rules.specs.Open.{opening}
 use Rattle.rules.specs.Insert.{insert}
 use Rattle.rules.specs.Lookup.{lookup}
 use Rattle.rules.specs.Newest.{newest}
+use Rattle.rules.specs.HasAny.{hasAny}
 use Rattle.rules.specs.List.{list}
 use Rattle.rules.specs.Sync.{sync}
 use Rattle.rules.specs.Crash.{crashed, insideSync}
@@ -35,6 +36,7 @@ pub data Event : Type 0 where
   inserts : ℕ → ℕ → ℕ → ℕ → Event
   looks : ℕ → ℕ → ℕ → Event
   asksNewest : ℕ → ℕ → Event
+  asksAny : ℕ → ℕ → Event
   lists : ℕ → List ℕ → List ℕ → Event
   syncs : Event
   opens : Event
@@ -149,6 +151,9 @@ step (looks model serial issue) m =
 step (asksNewest model serial) m =
     let r = newest (m .working) (m .stable) (m .session) model serial in
     afterReading m (r .session) (r .working) (r .stable)
+step (asksAny model serial) m =
+    let r = hasAny (m .working) (m .stable) (m .session) model serial in
+    afterReading m (r .session) (r .working) (r .stable)
 step (lists start ks xs) m =
     let r = list (m .working) (m .stable) (m .session) start ks xs in
     afterReading m (r .session) (r .working) (r .stable)
@@ -174,6 +179,7 @@ Proper n (inserts model serial issue x) =
     (model < 65536) × (serial < 4294967296) × (issue < 65536) × (x < 4294967296)
 Proper n (looks model serial issue) = (model < 65536) × (serial < 4294967296) × (issue < 65536)
 Proper n (asksNewest model serial) = (model < 65536) × (serial < 4294967296)
+Proper n (asksAny model serial) = (model < 65536) × (serial < 4294967296)
 Proper n (lists start ks xs) = start < 18446744073709551616
 Proper n syncs = Unit {0}
 Proper n opens = Unit {0}

@@ -15,7 +15,7 @@ use Rattle.rules.specs.Entry.{Cert, Child, keys, find, put}
 use Rattle.rules.specs.Page.{View, Page, isLeaf, fresh, touch}
 use Rattle.rules.specs.Table.{read, build, change, fit0, setRoot}
 use Rattle.rules.specs.Walk.{Step, numbers, wayOf, certsAt}
-use Rattle.rules.specs.Marks.{taken, freed, waits, freePages}
+use Rattle.rules.specs.Marks.{counted, taken, freed, waits, freePages}
 use Rattle.rules.specs.Call.{Left, lengthsFor}
 use Rattle.rules.specs.declared.Session.{Session}
 use Rattle.rules.specs.declared.Inserted.{Inserted}
@@ -186,7 +186,7 @@ insertDone k x s way w t =
       stable = t;
     }
 
--- 5, then 6, then 7, on the pages as the walk left them
+-- 5, then 6, then 7, on the pages as the walk left them; an insert that none of them refuses counts
 unfoldable pub insertAlong : ℕ → ℕ → Session → List Step → List ℕ → List ℕ → Left Inserted
 insertAlong k x s way w t =
     elim (find k (certsAt way)) [
@@ -194,7 +194,7 @@ insertAlong k x s way w t =
       | none ↦ elim (tooSoon (s .c) (splitting way)) [
         | true ↦ insertRefused Inserted.SyncFirst s w t
         | false ↦ elim (noRoom way (freePages s (numbers way)))
-            [ true ↦ insertRefused Inserted.Full s w t | false ↦ insertDone k x s way w t ]
+            [ true ↦ insertRefused Inserted.Full s w t | false ↦ insertDone k x (counted s) way w t ]
       ]
     ]
 

@@ -11,10 +11,17 @@ fewestPages = 4
 abbrev pub mostPages : ℕ
 mostPages = 128
 
--- a page's header, an entry of a leaf, an entry of an inner page
-abbrev pub headerSize : ℕ
-headerSize = 32
+-- the fields that every page starts with, a leaf's whole header and an inner page's: entries stand behind it
+abbrev pub commonHeader : ℕ
+commonHeader = 32
 
+abbrev pub leafHeader : ℕ
+leafHeader = 32
+
+abbrev pub innerHeader : ℕ
+innerHeader = 32
+
+-- an entry of a leaf, an entry of an inner page
 abbrev pub certSize : ℕ
 certSize = 12
 
@@ -28,7 +35,7 @@ leafRoom = 40
 abbrev pub innerRoom : ℕ
 innerRoom = 30
 
--- how many of a full page's entries the lower half of a split takes
+-- how many of a full page's entries the lower half of a split takes; the upper half takes all others
 abbrev pub leafHalf : ℕ
 leafHalf = 20
 
@@ -49,9 +56,12 @@ topKind = 3
 abbrev pub lastKey : ℕ
 lastKey = 18446744073709551615
 
--- the largest issue of a certificate that is not provisional
+-- the largest issue of a certificate that is not provisional, and the largest of all
 abbrev pub lastFinal : ℕ
 lastFinal = 32767
+
+abbrev pub largestIssue : ℕ
+largestIssue = 65535
 
 -- the largest number that opens, and the largest counter that syncs
 abbrev pub lastNumber : ℕ

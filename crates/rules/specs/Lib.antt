@@ -12,6 +12,7 @@ pub mod Table
 pub mod Sound
 pub mod Place
 pub mod Enter
+pub mod Report
 pub mod Walk
 pub mod Tree
 pub mod Marks
@@ -21,7 +22,9 @@ pub mod Open
 pub mod Insert
 pub mod Lookup
 pub mod Newest
+pub mod HasAny
 pub mod List
+pub mod Reports
 pub mod Sync
 pub mod Crash
 pub mod History

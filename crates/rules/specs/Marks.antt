@@ -1,26 +1,45 @@
--- The session's marks: taking, freeing and letting wait, and which numbers are free.
-use Prim.Native.Nat.{ℕ, zero, suc, _+_, _-_}
+-- The session: its counter and total, its marks, taking, freeing and letting wait, and which numbers are free.
+use Prim.Native.Nat.{ℕ, zero, suc, _+_, _-_, _%_}
 use mathlib.Core.Bool.{Bool, true, false, not, _&&_, _||_}
 use mathlib.Core.List.{List, [], _∷_}
-use lib.ListN.{getD, set}
+use lib.ListN.{length, getD, set}
 use Rattle.rules.specs.Layout.{mostPages}
 use Rattle.rules.specs.Test.{between, mem}
 use Rattle.rules.specs.Tree.{Tree}
 use Rattle.rules.specs.declared.Session.{Session}
 
+-- ── A session ───────────────────────────────────────────────────────────────────────────────────────────────────
+
+-- as an opening begins it
+abbrev pub begun : ℕ → ℕ → ℕ → List Bool → List Bool → Session
+begun n c total free waiting = record { n = n; c = c; total = total; free = free; waiting = waiting }
+
+-- with other marks, and else as it was
+abbrev pub marking : List Bool → List Bool → Session → Session
+marking free waiting s = record { n = s .n; c = s .c; total = s .total; free = free; waiting = waiting }
+
+-- the counter grows
+abbrev pub raised : Session → Session
+raised s = record { n = s .n; c = s .c + 1; total = s .total; free = s .free; waiting = s .waiting }
+
+-- a number of certificates has 32 bits and wraps
+abbrev pub wraps : ℕ → ℕ
+wraps k = k % 4294967296
+
+-- there is one certificate more
+abbrev pub counted : Session → Session
+counted s = record { n = s .n; c = s .c; total = wraps (s .total + 1); free = s .free; waiting = s .waiting }
+
 -- ── One page ────────────────────────────────────────────────────────────────────────────────────────────────────
 
 abbrev pub taken : ℕ → Session → Session
-taken i s = record { n = s .n; c = s .c; free = set (s .free) i false; waiting = s .waiting }
+taken i s = marking (set (s .free) i false) (s .waiting) s
 
 abbrev pub freed : ℕ → Session → Session
-freed i s = record { n = s .n; c = s .c; free = set (s .free) i true; waiting = s .waiting }
+freed i s = marking (set (s .free) i true) (s .waiting) s
 
 abbrev pub waits : ℕ → Session → Session
-waits i s = record { n = s .n; c = s .c; free = s .free; waiting = set (s .waiting) i true }
-
-abbrev pub raised : Session → Session
-raised s = record { n = s .n; c = s .c + 1; free = s .free; waiting = s .waiting }
+waits i s = marking (s .free) (set (s .waiting) i true) s
 
 -- ── All pages ───────────────────────────────────────────────────────────────────────────────────────────────────
 
@@ -35,27 +54,25 @@ marks mark = marksFrom mark 0 mostPages
 unfoldable pub isPage : ℕ → ℕ → Bool
 isPage n i = between 1 (n - 1) i
 
--- a page is free at opening unless it is page 0, a child in the tree, or the previous page of a lost entry
+-- a page is free at opening unless it is page 0, a child in the tree, or the previous page of a lost entry; the total is
+-- that of the certificates in the tree
 unfoldable pub opened : ℕ → ℕ → Tree → Session
-opened n c s = record {
-  n = n;
-  c = c;
-  free = marks (λ i. isPage n i && (not (mem i (s .children)) && not (mem i (s .spared))));
-  waiting = marks (λ i. false);
-}
+opened n c s =
+    begun n c (wraps (length (s .certs)))
+    (marks (λ i. isPage n i && (not (mem i (s .children)) && not (mem i (s .spared)))))
+    (marks (λ i. false))
 
 -- what a refused opening hands out
 unfoldable pub nobody : Session
-nobody = record { n = 0; c = 0; free = marks (λ i. false); waiting = marks (λ i. false) }
+nobody = begun 0 0 0 (marks (λ i. false)) (marks (λ i. false))
 
 -- sync's turn: waiting pages become free and wait no longer, and the counter grows
 unfoldable pub turned : Session → Session
-turned s = record {
-  n = s .n;
-  c = s .c + 1;
-  free = marks (λ i. getD (s .free) i false || (isPage (s .n) i && getD (s .waiting) i false));
-  waiting = marks (λ i. not (isPage (s .n) i) && getD (s .waiting) i false);
-}
+turned s =
+    marking
+    (marks (λ i. getD (s .free) i false || (isPage (s .n) i && getD (s .waiting) i false)))
+    (marks (λ i. not (isPage (s .n) i) && getD (s .waiting) i false))
+    (raised s)
 
 -- ── The lowest free numbers ─────────────────────────────────────────────────────────────────────────────────────
 

@@ -1,4 +1,4 @@
--- A page's 512 bytes: a header of 32, then entries.
+-- A page's 512 bytes: a header, then entries.
 --
 --   0 kind (2)   2 count (2)   4 birth (4)   8 built (4)   12 touched (4)   16 low (8)   24 high (8)
 --   leaf, kind 1:      each entry   0 key (8)   8 record (4)
@@ -9,7 +9,7 @@ use mathlib.Core.List.{List, [], _∷_, _++_}
 use lib.ListN.{length, drop, replicate}
 use lib.Dec.{eqb}
 use Rattle.fields.specs.Field.{le, leAt}
-use Rattle.rules.specs.Layout.{pageSize, headerSize, certSize, childSize, leafKind}
+use Rattle.rules.specs.Layout.{pageSize, leafHeader, innerHeader, certSize, childSize, leafKind}
 use Rattle.rules.specs.Entry.{Cert, Child}
 
 -- What a page shows: its kind and its entries. A leaf has certificates and no children, an inner page children and
@@ -68,13 +68,13 @@ viewIn b =
     elim (eqb (leAt b 0 2) leafKind) [
       | true ↦ record {
         kind = leAt b 0 2;
-        certs = readEach certIn certSize (leAt b 2 2) (drop headerSize b);
+        certs = readEach certIn certSize (leAt b 2 2) (drop leafHeader b);
         children = [];
       }
       | false ↦ record {
         kind = leAt b 0 2;
         certs = [];
-        children = readEach childIn childSize (leAt b 2 2) (drop headerSize b);
+        children = readEach childIn childSize (leAt b 2 2) (drop innerHeader b);
       }
     ]
 

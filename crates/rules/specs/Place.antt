@@ -11,6 +11,7 @@ use Rattle.rules.specs.Page.{View, Page, isLeaf, fresh}
 use Rattle.rules.specs.Table.{read, root0, previous0, birth0}
 use Rattle.rules.specs.Sound.{sound}
 use Rattle.rules.specs.declared.Place.{Place}
+use Rattle.rules.specs.declared.Reason.{Reason}
 
 -- ── The places that a table asks for ────────────────────────────────────────────────────────────────────────────
 
@@ -59,16 +60,40 @@ pick k (e ∷ es) = elim (between (e .low) (e .high) k) [ true ↦ some e | fals
 unfoldable pub kindAsked : ℕ → ℕ → Bool
 kindAsked want kind = eqb want 0 || eqb want kind
 
--- a page fits a place; one that does not is lost
-unfoldable pub fits : ℕ → Place → Page → Bool
-fits n e p =
-    every
-    (sound n p
-    ∷ kindAsked (e .want) (p .view .kind)
-    ∷ eqb (p .birth) (e .birth)
-    ∷ eqb (p .low) (e .low)
-    ∷ eqb (p .high) (e .high)
+-- a test, and the reason that its failure is
+pub record Trial : Type 0 where
+  pub passes : Bool
+  pub reason : Reason
+
+abbrev pub trial : Bool → Reason → Trial
+trial passes reason = record { passes = passes; reason = reason }
+
+-- the reason of the first test that fails
+unfoldable pub firstFailed : List Trial → Reason
+firstFailed [] = Reason.None
+firstFailed (x ∷ xs) = elim (x .passes) [ true ↦ firstFailed xs | false ↦ x .reason ]
+
+-- the first test of a place that a page fails: soundness, kind, birth, range
+unfoldable pub unfit : ℕ → Place → Page → Reason
+unfit n e p =
+    firstFailed
+    (trial (sound n p) Reason.Soundness
+    ∷ trial (kindAsked (e .want) (p .view .kind)) Reason.Kind
+    ∷ trial (eqb (p .birth) (e .birth)) Reason.Birth
+    ∷ trial (eqb (p .low) (e .low)) Reason.Range
+    ∷ trial (eqb (p .high) (e .high)) Reason.Range
     ∷ [])
+
+unfoldable pub isNone : Reason → Bool
+isNone Reason.None = true
+isNone Reason.Soundness = false
+isNone Reason.Kind = false
+isNone Reason.Birth = false
+isNone Reason.Range = false
+
+-- a page fits a place if it fails none; one that does not is lost
+unfoldable pub fits : ℕ → Place → Page → Bool
+fits n e p = isNone (unfit n e p)
 
 -- ── Mended, or damaged ──────────────────────────────────────────────────────────────────────────────────────────
 

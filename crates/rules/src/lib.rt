@@ -1,23 +1,28 @@
 // The rules of the store: document 01 as definitions, and the types they speak of.
 //
 // specs/ is what a reader has to believe. It says in short definitions that compute what every page byte means,
-// when a page is sound, what mending makes, which pages a call enters, and what each of the seven calls answers and
+// when a page is sound, what mending makes, which pages a call enters, and what each of the eight calls answers and
 // leaves. proofs/ holds laws about those definitions, the bench cases and the theorem about crashes.
 // This file declares the numbers of document 01, a place, what a walk is asked for, the session with its moves, and one
 // enum of answers for each call.
 //
 // Below stands `fields`: numbers in bytes.
+use std::num::wrapping_add_u32;
 ghost use mathlib.Core.Path.{_≡_};
 ghost use Prim.Native.Nat.{_<_};
-ghost use Rattle.rules.specs.Marks.{taken, freed, waits, raised};
+ghost use Rattle.rules.specs.Place.{isNone};
+ghost use Rattle.rules.specs.Report.{nothing, adds};
+ghost use Rattle.rules.specs.Marks.{taken, freed, waits, raised, counted};
 
 // The numbers of document 01 that code needs, named here once. specs/ has them too, for the rules: sizes in Layout, where
 // fields stand in Page and Table. A number that differs from its twin there breaks the proof of whoever uses it.
 
-// A page, its header, and an entry of a leaf and of an inner page, in bytes.
+// A page, the header of a leaf and of an inner page, and an entry of each, in bytes.
 pub const PAGE: usize = 512;
 
-pub const HEADER: usize = 32;
+pub const LEAF_HEADER: usize = 32;
+
+pub const INNER_HEADER: usize = 32;
 
 pub const CERT: usize = 12;
 
@@ -67,7 +72,7 @@ pub const ZERO: u16 = 9;
 
 pub const LEVELS: usize = 3;
 
-// How many entries a leaf and an inner page hold, and how many of them a lower half takes.
+// How many entries a leaf and an inner page hold, and how many of them a lower half takes; an upper half takes all others.
 pub const LEAF_ROOM: u16 = 40;
 
 pub const INNER_ROOM: u16 = 30;
@@ -88,8 +93,10 @@ pub const SERIAL: u64 = 65536;
 
 pub const LAST_KEY: u64 = 18446744073709551615;
 
-// The largest issue of a certificate that is not provisional.
+// The largest issue of a certificate that is not provisional, and the largest of all.
 pub const LAST_FINAL: u16 = 32767;
+
+pub const LARGEST_ISSUE: u16 = 65535;
 
 // The largest number that opens, and the largest counter that syncs.
 pub const LAST_NUMBER: u32 = 4294967293;
@@ -112,12 +119,71 @@ pub struct Asked {
     pub room: usize,
 }
 
-// What is handed in and handed back with each call: the number of pages, the counter, and for each page whether it
-// is free and whether it is waiting. It is laid out as C lays it out, for callers in C.
+// Why a page is lost: the first test that it fails, in this order; none of a page that fits.
+pub enum Reason {
+    None,
+    Soundness,
+    Kind,
+    Birth,
+    Range,
+}
+
+impl Reason {
+    pub fn is_none(self) -> bool
+        ensures { λ r. ⌜ r ≡ isNone self ⌝ }
+    {
+        match self {
+            Reason::None => true,
+            Reason::Soundness => false,
+            Reason::Kind => false,
+            Reason::Birth => false,
+            Reason::Range => false,
+        }
+    }
+}
+
+// What a call that walks reports: how many pages it mended, and the reason for the first.
+pub struct Report {
+    pub mended: u32,
+    pub reason: Reason,
+}
+
+impl Report {
+    pub fn nothing() -> Self
+        ensures { λ r. ⌜ r ≡ nothing ⌝ }
+    {
+        Report {
+            mended: 0,
+            reason: Reason::None,
+        }
+    }
+
+    // A page was entered that is lost for this reason, or that fits.
+    pub fn add(self, reason: Reason) -> Self
+        ensures { λ r. ⌜ r ≡ adds reason self ⌝ }
+    {
+        if reason.is_none() {
+            return self;
+        }
+        let mended = wrapping_add_u32(self.mended, 1);
+        let first = self.reason;
+        if first.is_none() {
+            return Report { mended, reason };
+        }
+        Report {
+            mended,
+            reason: first,
+        }
+    }
+}
+
+// What is handed in and handed back with each call: the number of pages, the counter, the number of certificates, and for
+// each page whether it is free and whether it is waiting. It is laid out as C lays it out, for callers in C.
 #[repr(C)]
 pub struct Session {
     pub n: u16,
     pub c: u32,
+    pub total: u32,
     pub free: [bool; MOST],
     pub waiting: [bool; MOST],
 }
@@ -156,6 +222,14 @@ impl Session {
         ensures { λ r. ⌜ r ≡ raised self ⌝ }
     {
         self.c = self.c + 1;
+        self
+    }
+
+    // There is one certificate more. The total wraps, since a session handed in may hold any.
+    pub fn count(mut self) -> Self
+        ensures { λ r. ⌜ r ≡ counted self ⌝ }
+    {
+        self.total = wrapping_add_u32(self.total, 1);
         self
     }
 }
@@ -200,6 +274,15 @@ pub enum Newest {
     Missing,
 }
 
+// Whether a meter has a certificate: yes and no are both done.
+pub enum Any {
+    Yes,
+    No,
+    Length,
+    BadKey,
+    Damaged,
+}
+
 pub enum Listed {
     Filled(usize),
     Length,
@@ -212,7 +295,7 @@ pub enum Synced {
     Spent,
 }
 
-// What a call hands back: its answer and the session.
+// What a call hands back: its answer and the session, and a call that walks its report.
 
 pub struct Opening {
     pub answer: Opened,
@@ -221,21 +304,31 @@ pub struct Opening {
 
 pub struct Inserting {
     pub answer: Inserted,
+    pub report: Report,
     pub session: Session,
 }
 
 pub struct Looking {
     pub answer: Looked,
+    pub report: Report,
     pub session: Session,
 }
 
 pub struct NewestOf {
     pub answer: Newest,
+    pub report: Report,
+    pub session: Session,
+}
+
+pub struct AnyOf {
+    pub answer: Any,
+    pub report: Report,
     pub session: Session,
 }
 
 pub struct Listing {
     pub answer: Listed,
+    pub report: Report,
     pub session: Session,
 }
 

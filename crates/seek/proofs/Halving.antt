@@ -11,7 +11,7 @@ use mir.Val.{boolByte}
 use lib.Dec.{leb}
 use lib.ListN.{length, getD}
 use Rattle.fields.specs.Field.{leAt}
-use Rattle.rules.specs.Layout.{headerSize, pageSize}
+use Rattle.rules.specs.Layout.{pageSize}
 use Rattle.rules.specs.Entry.{rising}
 use Rattle.entries.specs.Spot.{keysIn, spotOf}
 use Rattle.entries.proofs.KeysIn.{length-keysIn, key-at, spot-bound}
@@ -48,9 +48,9 @@ shifted k x n h = go (leb x k)
     go false = (omega arith, omega arith)
 
 -- a page holds fewer entries than bytes
-pub few : (size count : ℕ) → 8 ≤ size → headerSize + size * count ≤ pageSize → count ≤ pageSize
-few zero count o h = absurd (omega arith)
-few (suc size) count o h = omega arith
+pub few : (header size count : ℕ) → 8 ≤ size → header + size * count ≤ pageSize → count ≤ pageSize
+few header zero count o h = absurd (omega arith)
+few header (suc size) count o h = omega arith
 
 -- ── The loop ────────────────────────────────────────────────────────────────────────────────────────────────────
 
@@ -66,42 +66,42 @@ pub record Halving (k : ℕ) (ks : List ℕ) (low left : ℕ) : Type 0 where
   pub inside : low + left ≤ length ks
   pub rest : halve turns k ks low left ≡ guessOf k ks
 
-module _ (k size count : ℕ) (b : List ℕ) where
-  pub halving-all : Halving k (keysIn size count b) 0 count
+module _ (k header size count : ℕ) (b : List ℕ) where
+  pub halving-all : Halving k (keysIn header size count b) 0 count
   unfolding guessOf
   halving-all =
-      let l = length-keysIn size count b in
+      let l = length-keysIn header size count b in
       record {
         turns = count;
         enough = omega arith;
         inside = omega (arith, l);
-        rest = ap (λ (n : ℕ). halve n k (keysIn size count b) 0 n) (sym l);
+        rest = ap (λ (n : ℕ). halve n k (keysIn header size count b) 0 n) (sym l);
       }
 
-  module _ (low left : ℕ) (h : Halving k (keysIn size count b) low left) where
-    pub halving-end : left ≡ 0 → low ≡ guessOf k (keysIn size count b)
+  module _ (low left : ℕ) (h : Halving k (keysIn header size count b) low left) where
+    pub halving-end : left ≡ 0 → low ≡ guessOf k (keysIn header size count b)
     halving-end z =
-        sym (halve-none (h .turns) k (keysIn size count b) low)
-        ∙ (ap (halve (h .turns) k (keysIn size count b) low) (sym z) ∙ h .rest)
+        sym (halve-none (h .turns) k (keysIn header size count b) low)
+        ∙ (ap (halve (h .turns) k (keysIn header size count b) low) (sym z) ∙ h .rest)
 
     module _ (o : 0 < left) where
       -- the last of the next half lies on the page
       pub half-inside : low + (left - left / 2) - 1 < count
-      half-inside = omega (arith, h .inside, length-keysIn size count b)
+      half-inside = omega (arith, h .inside, length-keysIn header size count b)
 
-      pub halving-step : (x : ℕ) → x ≡ leAt b (headerSize + size * (low + (left - left / 2) - 1)) 8
-          → Halving k (keysIn size count b) (low + passed k x (left - left / 2)) (left - (left - left / 2))
+      pub halving-step : (x : ℕ) → x ≡ leAt b (header + size * (low + (left - left / 2) - 1)) 8
+          → Halving k (keysIn header size count b) (low + passed k x (left - left / 2)) (left - (left - left / 2))
       unfolding halve
       halving-step x e = go (h .turns) (h .enough) (h .rest)
         where
           half : left - (left - left / 2) ≡ left / 2
           half = omega arith
 
-          read : x ≡ getD (keysIn size count b) (low + (left - left / 2) - 1) 0
-          read = e ∙ sym (key-at size count (low + (left - left / 2) - 1) b half-inside)
+          read : x ≡ getD (keysIn header size count b) (low + (left - left / 2) - 1) 0
+          read = e ∙ sym (key-at header size count (low + (left - left / 2) - 1) b half-inside)
 
-          go : (turns : ℕ) → left ≤ turns → halve turns k (keysIn size count b) low left ≡ guessOf k (keysIn size count b)
-              → Halving k (keysIn size count b) (low + passed k x (left - left / 2)) (left - (left - left / 2))
+          go : (turns : ℕ) → left ≤ turns → halve turns k (keysIn header size count b) low left ≡ guessOf k (keysIn header size count b)
+              → Halving k (keysIn header size count b) (low + passed k x (left - left / 2)) (left - (left - left / 2))
           go zero m r = absurd (omega arith)
           go (suc turns) m r = record {
             turns = turns;

@@ -8,7 +8,6 @@ use borrow.Author.Tests.{leb-true, leb-false, le-leb, lt-leb, ltb-true, ltb-fals
 use lib.Dec.{leb, ltb, eqb}
 use lib.ListN.{length, getD}
 use Rattle.fields.specs.Field.{leAt}
-use Rattle.rules.specs.Layout.{headerSize}
 use Rattle.rules.specs.Entry.{rising}
 use Rattle.rules.proofs.entries.Rises.{rising-tail, rising-at-le}
 use Rattle.entries.specs.Spot.{keysIn, spotOf}
@@ -36,56 +35,56 @@ spot-below k (suc j) (x ∷ xs) h l = go (leb x k) refl (spot-below k j xs (omeg
 
 -- ── A number of entries beside the spot ─────────────────────────────────────────────────────────────────────────
 
-module _ (k size count s : ℕ) (b : List ℕ) where
-  pub beyond-all : count < s → false ≡ eqb s (spotOf k (keysIn size count b))
+module _ (k header size count s : ℕ) (b : List ℕ) where
+  pub beyond-all : count < s → false ≡ eqb s (spotOf k (keysIn header size count b))
   beyond-all h =
-      sym (ne-eqb s (spotOf k (keysIn size count b))
-      (λ q. omega (arith, q, spot-bound k (keysIn size count b), length-keysIn size count b)))
+      sym (ne-eqb s (spotOf k (keysIn header size count b))
+      (λ q. omega (arith, q, spot-bound k (keysIn header size count b), length-keysIn header size count b)))
 
   -- no entry is always passed
-  pub reached-none : s ≡ 0 → true ≡ leb s (spotOf k (keysIn size count b))
-  reached-none z = sym (le-leb s (spotOf k (keysIn size count b)) (omega arith))
+  pub reached-none : s ≡ 0 → true ≡ leb s (spotOf k (keysIn header size count b))
+  reached-none z = sym (le-leb s (spotOf k (keysIn header size count b)) (omega arith))
 
-  pub reached-last : rising (keysIn size count b) ≡ true → s ≤ count → (s ≡ 0 → ⊥) → (x : ℕ)
-      → x ≡ leAt b (headerSize + size * (s - 1)) 8 → leb x k ≡ leb s (spotOf k (keysIn size count b))
+  pub reached-last : rising (keysIn header size count b) ≡ true → s ≤ count → (s ≡ 0 → ⊥) → (x : ℕ)
+      → x ≡ leAt b (header + size * (s - 1)) 8 → leb x k ≡ leb s (spotOf k (keysIn header size count b))
   reached-last r h o x e = go (leb x k) refl
     where
-      here : x ≡ getD (keysIn size count b) (s - 1) 0
-      here = e ∙ sym (key-at size count (s - 1) b (omega arith))
+      here : x ≡ getD (keysIn header size count b) (s - 1) 0
+      here = e ∙ sym (key-at header size count (s - 1) b (omega arith))
 
-      go : (t : Bool) → leb x k ≡ t → leb x k ≡ leb s (spotOf k (keysIn size count b))
+      go : (t : Bool) → leb x k ≡ t → leb x k ≡ leb s (spotOf k (keysIn header size count b))
       go true q =
-          let up = spot-above k (s - 1) (keysIn size count b) r (omega (arith, length-keysIn size count b)) (omega (arith, here, leb-true x k q)) in
-          q ∙ sym (le-leb s (spotOf k (keysIn size count b)) (omega (arith, up)))
+          let up = spot-above k (s - 1) (keysIn header size count b) r (omega (arith, length-keysIn header size count b)) (omega (arith, here, leb-true x k q)) in
+          q ∙ sym (le-leb s (spotOf k (keysIn header size count b)) (omega (arith, up)))
       go false q =
-          let down = spot-below k (s - 1) (keysIn size count b) (omega (arith, length-keysIn size count b)) (omega (arith, here, leb-false x k q)) in
-          q ∙ sym (lt-leb s (spotOf k (keysIn size count b)) (omega (arith, down)))
+          let down = spot-below k (s - 1) (keysIn header size count b) (omega (arith, length-keysIn header size count b)) (omega (arith, here, leb-false x k q)) in
+          q ∙ sym (lt-leb s (spotOf k (keysIn header size count b)) (omega (arith, down)))
 
-  pub not-reached : leb s (spotOf k (keysIn size count b)) ≡ false → false ≡ eqb s (spotOf k (keysIn size count b))
+  pub not-reached : leb s (spotOf k (keysIn header size count b)) ≡ false → false ≡ eqb s (spotOf k (keysIn header size count b))
   not-reached f =
-      sym (ne-eqb s (spotOf k (keysIn size count b)) (λ q. omega (arith, q, leb-false s (spotOf k (keysIn size count b)) f)))
+      sym (ne-eqb s (spotOf k (keysIn header size count b)) (λ q. omega (arith, q, leb-false s (spotOf k (keysIn header size count b)) f)))
 
-  module _ (f : leb s (spotOf k (keysIn size count b)) ≡ true) where
-    least : s ≤ spotOf k (keysIn size count b)
-    least = leb-true s (spotOf k (keysIn size count b)) f
+  module _ (f : leb s (spotOf k (keysIn header size count b)) ≡ true) where
+    least : s ≤ spotOf k (keysIn header size count b)
+    least = leb-true s (spotOf k (keysIn header size count b)) f
 
-    pub reached-all : s ≡ count → true ≡ eqb s (spotOf k (keysIn size count b))
+    pub reached-all : s ≡ count → true ≡ eqb s (spotOf k (keysIn header size count b))
     reached-all q =
-        sym (eq-eqb s (spotOf k (keysIn size count b))
-        (omega (arith, least, spot-bound k (keysIn size count b), length-keysIn size count b)))
+        sym (eq-eqb s (spotOf k (keysIn header size count b))
+        (omega (arith, least, spot-bound k (keysIn header size count b), length-keysIn header size count b)))
 
     -- the next entry decides
-    pub reached-next : rising (keysIn size count b) ≡ true → s < count → (x : ℕ) → x ≡ leAt b (headerSize + size * s) 8
-        → ltb k x ≡ eqb s (spotOf k (keysIn size count b))
+    pub reached-next : rising (keysIn header size count b) ≡ true → s < count → (x : ℕ) → x ≡ leAt b (header + size * s) 8
+        → ltb k x ≡ eqb s (spotOf k (keysIn header size count b))
     reached-next r h x e = go (ltb k x) refl
       where
-        here : x ≡ getD (keysIn size count b) s 0
-        here = e ∙ sym (key-at size count s b h)
+        here : x ≡ getD (keysIn header size count b) s 0
+        here = e ∙ sym (key-at header size count s b h)
 
-        go : (t : Bool) → ltb k x ≡ t → ltb k x ≡ eqb s (spotOf k (keysIn size count b))
+        go : (t : Bool) → ltb k x ≡ t → ltb k x ≡ eqb s (spotOf k (keysIn header size count b))
         go true q =
-            let down = spot-below k s (keysIn size count b) (omega (arith, length-keysIn size count b)) (omega (arith, here, ltb-true k x q)) in
-            q ∙ sym (eq-eqb s (spotOf k (keysIn size count b)) (omega (arith, least, down)))
+            let down = spot-below k s (keysIn header size count b) (omega (arith, length-keysIn header size count b)) (omega (arith, here, ltb-true k x q)) in
+            q ∙ sym (eq-eqb s (spotOf k (keysIn header size count b)) (omega (arith, least, down)))
         go false q =
-            let up = spot-above k s (keysIn size count b) r (omega (arith, length-keysIn size count b)) (omega (arith, here, ltb-false k x q)) in
-            q ∙ sym (ne-eqb s (spotOf k (keysIn size count b)) (λ z. omega (arith, z, up)))
+            let up = spot-above k s (keysIn header size count b) r (omega (arith, length-keysIn header size count b)) (omega (arith, here, ltb-false k x q)) in
+            q ∙ sym (ne-eqb s (spotOf k (keysIn header size count b)) (λ z. omega (arith, z, up)))

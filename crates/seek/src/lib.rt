@@ -16,21 +16,21 @@ ghost use mathlib.Core.Bool.{true};
 ghost use Prim.Native.Nat.{_+_, _*_, _≤_};
 ghost use lib.Dec.{eqb, leb};
 ghost use lib.ListN.{length};
-ghost use Rattle.rules.specs.Layout.{headerSize, pageSize};
+ghost use Rattle.rules.specs.Layout.{pageSize};
 ghost use Rattle.rules.specs.Entry.{rising};
 ghost use Rattle.entries.specs.Spot.{keysIn, spotOf};
 ghost use Rattle.seek.specs.Guess.{guessOf};
 
 // Where halving ends: the key's spot if the keys rise, else some number of entries.
-pub fn guess(page: &[u8], size: usize, count: usize, key: u64) -> usize
-    requires { ⌜ (8 ≤ size) × (headerSize + size * count ≤ length (now page)) × (length (now page) ≤ pageSize) ⌝ }
-    ensures { λ r. ⌜ r ≡ guessOf key (keysIn size count (now (page .entry))) ⌝ }
+pub fn guess(page: &[u8], header: usize, size: usize, count: usize, key: u64) -> usize
+    requires { ⌜ (8 ≤ size) × (header + size * count ≤ length (now page)) × (length (now page) ≤ pageSize) ⌝ }
+    ensures { λ r. ⌜ r ≡ guessOf key (keysIn header size count (now (page .entry))) ⌝ }
 {
     let mut low = 0;
     let mut left = count;
     while 0 < left {
         let step = left - left / 2;
-        let passed = fields::get64(page, rules::HEADER + size * (low + step - 1)) <= key;
+        let passed = fields::get64(page, header + size * (low + step - 1)) <= key;
         // step more if passed, else none: a shift compiles to no jump, a product or an `if` does
         low += (step << (passed as usize)) - step;
         left -= step;
@@ -39,52 +39,59 @@ pub fn guess(page: &[u8], size: usize, count: usize, key: u64) -> usize
 }
 
 // How many entries stand before the first one with a key above this one.
-pub fn seek(page: &[u8], size: usize, count: usize, key: u64) -> usize
-    requires { ⌜ (8 ≤ size) × (headerSize + size * count ≤ length (now page)) × (length (now page) ≤ pageSize)
-        × (rising (keysIn size count (now page)) ≡ true) ⌝ }
-    ensures { λ r. ⌜ r ≡ spotOf key (keysIn size count (now (page .entry))) ⌝ }
+pub fn seek(page: &[u8], header: usize, size: usize, count: usize, key: u64) -> usize
+    requires { ⌜ (8 ≤ size) × (header + size * count ≤ length (now page)) × (length (now page) ≤ pageSize)
+        × (rising (keysIn header size count (now page)) ≡ true) ⌝ }
+    ensures { λ r. ⌜ r ≡ spotOf key (keysIn header size count (now (page .entry))) ⌝ }
 {
-    guess(page, size, count, key)
+    guess(page, header, size, count, key)
 }
 
 // The spot is not before a number of entries: the last of them is not above the key.
-fn reached(page: &[u8], size: usize, count: usize, key: u64, number: usize) -> bool
-    requires { ⌜ (8 ≤ size) × (headerSize + size * count ≤ length (now page)) × (length (now page) ≤ pageSize)
-        × (rising (keysIn size count (now page)) ≡ true) × (number ≤ count) ⌝ }
-    ensures { λ r. ⌜ r ≡ leb number (spotOf key (keysIn size count (now (page .entry)))) ⌝ }
+fn reached(page: &[u8], header: usize, size: usize, count: usize, key: u64, number: usize) -> bool
+    requires { ⌜ (8 ≤ size) × (header + size * count ≤ length (now page)) × (length (now page) ≤ pageSize)
+        × (rising (keysIn header size count (now page)) ≡ true) × (number ≤ count) ⌝ }
+    ensures { λ r. ⌜ r ≡ leb number (spotOf key (keysIn header size count (now (page .entry)))) ⌝ }
 {
     if number == 0 {
         return true;
     }
-    fields::get64(page, rules::HEADER + size * (number - 1)) <= key
+    fields::get64(page, header + size * (number - 1)) <= key
 }
 
 // The number is the spot: it is reached, and the next entry is above the key.
-fn stands(page: &[u8], size: usize, count: usize, key: u64, number: usize) -> bool
-    requires { ⌜ (8 ≤ size) × (headerSize + size * count ≤ length (now page)) × (length (now page) ≤ pageSize)
-        × (rising (keysIn size count (now page)) ≡ true) ⌝ }
-    ensures { λ r. ⌜ r ≡ eqb number (spotOf key (keysIn size count (now (page .entry)))) ⌝ }
+fn stands(page: &[u8], header: usize, size: usize, count: usize, key: u64, number: usize) -> bool
+    requires { ⌜ (8 ≤ size) × (header + size * count ≤ length (now page)) × (length (now page) ≤ pageSize)
+        × (rising (keysIn header size count (now page)) ≡ true) ⌝ }
+    ensures { λ r. ⌜ r ≡ eqb number (spotOf key (keysIn header size count (now (page .entry)))) ⌝ }
 {
     if number > count {
         return false;
     }
-    if !reached(page, size, count, key, number) {
+    if !reached(page, header, size, count, key, number) {
         return false;
     }
     if number == count {
         return true;
     }
-    fields::get64(page, rules::HEADER + size * number) > key
+    fields::get64(page, header + size * number) > key
 }
 
 // The same spot, by a guess made before the keys were known to rise, if it stands.
-pub fn confirm(page: &[u8], size: usize, count: usize, key: u64, guess: usize) -> usize
-    requires { ⌜ (8 ≤ size) × (headerSize + size * count ≤ length (now page)) × (length (now page) ≤ pageSize)
-        × (rising (keysIn size count (now page)) ≡ true) ⌝ }
-    ensures { λ r. ⌜ r ≡ spotOf key (keysIn size count (now (page .entry))) ⌝ }
+pub fn confirm(
+    page: &[u8],
+    header: usize,
+    size: usize,
+    count: usize,
+    key: u64,
+    guess: usize,
+) -> usize
+    requires { ⌜ (8 ≤ size) × (header + size * count ≤ length (now page)) × (length (now page) ≤ pageSize)
+        × (rising (keysIn header size count (now page)) ≡ true) ⌝ }
+    ensures { λ r. ⌜ r ≡ spotOf key (keysIn header size count (now (page .entry))) ⌝ }
 {
-    if stands(page, size, count, key, guess) {
+    if stands(page, header, size, count, key, guess) {
         return guess;
     }
-    seek(page, size, count, key)
+    seek(page, header, size, count, key)
 }

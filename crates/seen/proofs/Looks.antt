@@ -5,21 +5,22 @@ use mathlib.Core.Path.{_≡_, refl, ap, sym, subst, _∙_}
 use mathlib.Core.Bool.{Bool, true, false}
 use mathlib.Core.List.{List, []}
 use lib.Dec.{eqb}
-use lib.ListN.{length, take}
+use lib.ListN.{length, take, drop}
 use borrow.Author.Tests.{eqb-true, eqb-false, eq-eqb, ne-eqb}
-use Rattle.rules.specs.Layout.{pageSize, leafKind, innerRoom}
+use Rattle.rules.specs.Layout.{pageSize, leafHeader, certSize, leafKind, innerRoom}
 use Rattle.rules.specs.Entry.{Child, keys, cut, rising}
-use Rattle.rules.specs.Page.{View, pageIn}
+use Rattle.rules.specs.Page.{View, readEach, certIn, pageIn}
 use Rattle.rules.specs.Table.{pageAt, read}
 use Rattle.rules.specs.Place.{kids, cutView, placesIn}
 use Rattle.rules.specs.declared.Place.{Place}
+use Rattle.rules.proofs.bytes.Each.{length-readEach}
 use Rattle.rules.proofs.entries.Sounds.{Sound}
 use Rattle.rules.proofs.entries.Entries.{cut-nil}
 use Rattle.head.specs.declared.Head.{Head}
 use Rattle.head.specs.Head.{headIn}
 use Rattle.head.proofs.Headers.{view-leaf, view-inner, kind-view}
 use Rattle.seen.specs.declared.Run.{Run}
-use Rattle.seen.specs.Run.{entriesIn, upTo, below, kindAt, countAt, firstOf, leftOf, runOf, Runs, Lies, places}
+use Rattle.seen.specs.Run.{entriesIn, upTo, below, kindAt, countAt, firstOf, leftOf, runOf, Runs, Roomy, Lies, places}
 use Rattle.seen.proofs.Cuts.{upTo-length, below-length, below-none, below-some, cut-runs}
 use Rattle.seen.proofs.Spans.{length-entries, take-entries, drop-entries, places-none}
 
@@ -127,6 +128,22 @@ module _ (n low high : ℕ) (t : List ℕ) (page : ℕ) (s : Sound n low high (r
 
   pub runs-sound : page < n → length t ≡ n * pageSize → Runs t page
   runs-sound p l = record { inside = omega arith; kind = omega (arith, s .kind-from, kind-there); room = inner-room }
+
+  certs-there : kindAt t page ≡ leafKind
+      → read t page .view .certs ≡ readEach certIn certSize (countAt t page) (drop leafHeader (pageAt t page))
+  unfolding read pageIn kindAt countAt
+  certs-there k = ap (λ (v : View). v .certs) (view-leaf (pageAt t page) k)
+
+  pub roomy-sound : page < n → length t ≡ n * pageSize → Roomy t page
+  roomy-sound p l = record {
+    inside = omega arith;
+    room = λ k. omega (
+      arith,
+      s .certs-room,
+      ap length (certs-there k),
+      length-readEach certIn certSize (countAt t page) (drop leafHeader (pageAt t page)),
+    );
+  }
 
   -- a run lies in its page
   pub lies-sound : (l h : ℕ) → page < n → Lies n (runOf t page l h)

@@ -5,7 +5,7 @@ use mathlib.Core.Path.{_≡_, refl, ap, _∙_}
 use mathlib.Core.List.{List, [], _∷_}
 use lib.ListN.{length, getD, take, drop}
 use lib.Seq.{drop-drop}
-use Rattle.rules.specs.Layout.{headerSize, childSize}
+use Rattle.rules.specs.Layout.{innerHeader, childSize}
 use Rattle.rules.specs.Page.{readEach, childIn}
 use Rattle.rules.specs.Table.{pageAt}
 use Rattle.rules.specs.Entry.{Child}
@@ -26,9 +26,9 @@ module _ (t : List ℕ) (page : ℕ) where
   next : (first k : ℕ) → entriesIn t page first (suc k) ≡ childAt (pageAt t page) first ∷ entriesIn t page (first + 1) k
   unfolding entriesIn readEach childAt
   next first k =
-      let e : headerSize + childSize * first + childSize ≡ headerSize + childSize * (first + 1) = omega arith in
-      ap (λ (b : List ℕ). childIn (drop (headerSize + childSize * first) (pageAt t page)) ∷ readEach childIn childSize k b)
-      (drop-drop childSize (headerSize + childSize * first) (pageAt t page)
+      let e : innerHeader + childSize * first + childSize ≡ innerHeader + childSize * (first + 1) = omega arith in
+      ap (λ (b : List ℕ). childIn (drop (innerHeader + childSize * first) (pageAt t page)) ∷ readEach childIn childSize k b)
+      (drop-drop childSize (innerHeader + childSize * first) (pageAt t page)
       ∙ ap (λ (i : ℕ). drop i (pageAt t page)) e)
 
   pub entries-more : (first left : ℕ) → 0 < left
@@ -40,17 +40,17 @@ module _ (t : List ℕ) (page : ℕ) where
 
   pub length-entries : (first left : ℕ) → length (entriesIn t page first left) ≡ left
   unfolding entriesIn
-  length-entries first left = length-readEach childIn childSize left (drop (headerSize + childSize * first) (pageAt t page))
+  length-entries first left = length-readEach childIn childSize left (drop (innerHeader + childSize * first) (pageAt t page))
 
   pub take-entries : (i first left : ℕ) → i ≤ left → take i (entriesIn t page first left) ≡ entriesIn t page first i
   unfolding entriesIn
-  take-entries i first left h = take-readEach childIn childSize i left (drop (headerSize + childSize * first) (pageAt t page)) h
+  take-entries i first left h = take-readEach childIn childSize i left (drop (innerHeader + childSize * first) (pageAt t page)) h
 
   pub drop-entries : (i left : ℕ) → drop i (entriesIn t page 0 left) ≡ entriesIn t page i (left - i)
   unfolding entriesIn
   drop-entries i left =
-      drop-readEach childIn childSize i left (drop headerSize (pageAt t page))
-      ∙ ap (readEach childIn childSize (left - i)) (drop-drop (childSize * i) headerSize (pageAt t page))
+      drop-readEach childIn childSize i left (drop innerHeader (pageAt t page))
+      ∙ ap (readEach childIn childSize (left - i)) (drop-drop (childSize * i) innerHeader (pageAt t page))
 
   -- ── A search ──────────────────────────────────────────────────────────────────────────────────────────────────
 
@@ -89,7 +89,7 @@ module _ (t : List ℕ) (page : ℕ) where
 module _ (t : List ℕ) (high : ℕ) (r : Run) where
   -- what is read as the entry at its index, among those up to the run's end
   pub place-kid : 0 < r .left
-      → getD (placesIn (r .want) high (readEach childIn childSize (r .first + r .left) (drop headerSize (pageAt t (r .page))))) (r .first) nowhere
+      → getD (placesIn (r .want) high (readEach childIn childSize (r .first + r .left) (drop innerHeader (pageAt t (r .page))))) (r .first) nowhere
       ≡ placeIn t high r
   unfolding placeIn endOf entriesIn
   place-kid h =

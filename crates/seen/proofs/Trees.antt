@@ -6,7 +6,9 @@ use mathlib.Core.List.{List}
 use mathlib.Core.Option.{some, none}
 use lib.ListN.{length}
 use Rattle.rules.specs.Layout.{pageSize}
+use Rattle.rules.specs.Entry.{Cert, cut}
 use Rattle.rules.specs.Page.{View}
+use Rattle.rules.specs.Table.{read}
 use Rattle.rules.specs.Place.{show, kids}
 use Rattle.rules.specs.Tree.{Tree, broken, join, here, treeEach, tree}
 use Rattle.rules.specs.declared.Place.{Place}
@@ -69,27 +71,31 @@ module _ (n : ℕ) (t : List ℕ) (e : Place) where
     page-damaged zero z h = absurd (z refl)
     page-damaged (suc l) z h = tree-none l (shows-none n t e long h)
 
+    -- what a run's page has in the place's range
+    abbrev pub certsOf : Run → List Cert
+    certsOf r = cut (e .low) (e .high) (read t (r .page) .view .certs)
+
     page-step : (l : ℕ) (r : Run) (s : Seen) → Showing n t e long r
-        → note (note s (named (e .child) (r .page))) (treeEach (tree l n t) (places t (e .high) r)) ≡ note s (tree (suc l) n t e)
+        → note (note s (named (e .child) (r .page) (certsOf r))) (treeEach (tree l n t) (places t (e .high) r)) ≡ note s (tree (suc l) n t e)
     unfolding here named
     page-step l r s w =
         sym
         (ap (note s) (sym (tree-some l (w .view) (w .shows)))
         ∙ note-join s (here n t e (w .view)) (treeEach (tree l n t) (kids e (w .view)))
         ∙ ap (λ (x : Seen). note x (treeEach (tree l n t) (kids e (w .view))))
-        (note-same s (here n t e (w .view)) (named (e .child) (r .page)) refl refl (w .spared))
-        ∙ ap (λ (es : List Place). note (note s (named (e .child) (r .page))) (treeEach (tree l n t) es)) (w .asks))
+        (note-same s (here n t e (w .view)) (named (e .child) (r .page) (certsOf r)) refl refl (w .spared) (w .holds))
+        ∙ ap (λ (es : List Place). note (note s (named (e .child) (r .page) (certsOf r))) (treeEach (tree l n t) es)) (w .asks))
 
     pub page-shown : (level : ℕ) (r : Run) (s : Seen) → (level ≡ 0 → ⊥) → shownOf n t e ≡ Shown.Entries r
-        → note (note s (named (e .child) (r .page))) (treeEach (tree (level - 1) n t) (places t (e .high) r)) ≡ note s (tree level n t e)
+        → note (note s (named (e .child) (r .page) (certsOf r))) (treeEach (tree (level - 1) n t) (places t (e .high) r)) ≡ note s (tree level n t e)
     page-shown zero r s z h = absurd (z refl)
     page-shown (suc l) r s z h =
         let p : suc l - 1 ≡ l = omega arith in
-        ap (λ (i : ℕ). note (note s (named (e .child) (r .page))) (treeEach (tree i n t) (places t (e .high) r))) p
+        ap (λ (i : ℕ). note (note s (named (e .child) (r .page) (certsOf r))) (treeEach (tree i n t) (places t (e .high) r))) p
         ∙ page-step l r s (showing n t e long r h)
 
     pub page-walk : (level : ℕ) (r : Run) (s a b : Seen) → (level ≡ 0 → ⊥) → shownOf n t e ≡ Shown.Entries r
-        → a ≡ note s (named (e .child) (r .page)) → b ≡ note a (treeEach (tree (level - 1) n t) (places t (e .high) r))
+        → a ≡ note s (named (e .child) (r .page) (certsOf r)) → b ≡ note a (treeEach (tree (level - 1) n t) (places t (e .high) r))
         → b ≡ note s (tree level n t e)
     page-walk level r s a b z h x y =
         y ∙ ap (λ (q : Seen). note q (treeEach (tree (level - 1) n t) (places t (e .high) r))) x ∙ page-shown level r s z h

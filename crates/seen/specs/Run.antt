@@ -7,8 +7,8 @@ use mathlib.Core.List.{List, [], _∷_}
 use lib.Dec.{leb, eqb}
 use lib.ListN.{length, drop}
 use Rattle.fields.specs.Field.{leAt}
-use Rattle.rules.specs.Layout.{pageSize, headerSize, childSize, innerRoom, leafKind}
-use Rattle.rules.specs.Entry.{Child}
+use Rattle.rules.specs.Layout.{pageSize, innerHeader, childSize, leafRoom, innerRoom, leafKind}
+use Rattle.rules.specs.Entry.{Child, cut}
 use Rattle.rules.specs.Page.{readEach, childIn}
 use Rattle.rules.specs.Table.{pageAt, read}
 use Rattle.rules.specs.Place.{placeOf, placesIn, highBefore, fits, mendable}
@@ -19,7 +19,7 @@ use Rattle.seen.specs.declared.Shown.{Shown}
 
 -- so many entries of a page, from an index on
 unfoldable pub entriesIn : List ℕ → ℕ → ℕ → ℕ → List Child
-entriesIn t page first left = readEach childIn childSize left (drop (headerSize + childSize * first) (pageAt t page))
+entriesIn t page first left = readEach childIn childSize left (drop (innerHeader + childSize * first) (pageAt t page))
 
 -- how many entries stand at the front with keys up to k, and with keys below low
 unfoldable pub upTo : ℕ → List Child → ℕ
@@ -60,6 +60,15 @@ pub record Runs (t : List ℕ) (page : ℕ) : Type 0 where
   pub inside : (page + 1) * pageSize ≤ length t
   pub kind : 1 ≤ kindAt t page
   pub room : (kindAt t page ≡ leafKind → ⊥) → countAt t page ≤ innerRoom
+
+-- a page whose certificates can be counted; those of a place's own child are all in its range
+pub record Roomy (t : List ℕ) (page : ℕ) : Type 0 where
+  pub inside : (page + 1) * pageSize ≤ length t
+  pub room : kindAt t page ≡ leafKind → countAt t page ≤ leafRoom
+
+pub record Counts (t : List ℕ) (e : Place) (page : ℕ) : Type 0 where
+  pub roomy : Roomy t page
+  pub own : page ≡ e .child → cut (e .low) (e .high) (read t page .view .certs) ≡ read t page .view .certs
 
 unfoldable pub shownOf : ℕ → List ℕ → Place → Shown
 shownOf n t e =

@@ -9,7 +9,7 @@ use lib.Dec.{leb, eqb}
 use lib.ListN.{length, drop}
 use borrow.Author.Tests.{ne-eqb, eqb-true, eqb-false, leb-true, le-leb, lt-leb}
 use Rattle.fields.specs.Field.{leAt}
-use Rattle.rules.specs.Layout.{headerSize, certSize, childSize, leafKind, topKind, leafRoom, innerRoom}
+use Rattle.rules.specs.Layout.{leafHeader, innerHeader, certSize, childSize, leafKind, topKind, leafRoom, innerRoom}
 use Rattle.rules.specs.Test.{between, every, all}
 use Rattle.rules.specs.Entry.{Cert, Child, keys, rising}
 use Rattle.rules.specs.Page.{Page, isLeaf, readEach, certIn, childIn, pageIn}
@@ -44,7 +44,7 @@ module _ (n : ℕ) (b : List ℕ) (h : Head) (e : h ≡ headIn b) where
   leafTests =
       leb (h .count) leafRoom
       ∷ leb (h .low) (h .high)
-      ∷ certsPass (h .low) (h .high) (readEach certIn certSize (h .count) (drop headerSize b))
+      ∷ certsPass (h .low) (h .high) (readEach certIn certSize (h .count) (drop leafHeader b))
       ∷ []
 
   abbrev innerTests : List Bool
@@ -52,7 +52,7 @@ module _ (n : ℕ) (b : List ℕ) (h : Head) (e : h ≡ headIn b) where
       between leafKind topKind (h .kind)
       ∷ leb (h .count) innerRoom
       ∷ leb (h .low) (h .high)
-      ∷ childrenPass n (h .low) (h .high) (readEach childIn childSize (h .count) (drop headerSize b))
+      ∷ childrenPass n (h .low) (h .high) (readEach childIn childSize (h .count) (drop innerHeader b))
       ∷ []
 
   sound-leaf : h .kind ≡ leafKind → every leafTests ≡ sound n (pageIn b)
@@ -60,14 +60,14 @@ module _ (n : ℕ) (b : List ℕ) (h : Head) (e : h ≡ headIn b) where
   sound-leaf k =
       let j : leAt b 0 2 ≡ leafKind = rw e at k in
       rw e
-      (sym (leaf-tests n (leAt b 16 8) (leAt b 24 8) (readEach certIn certSize (leAt b 2 2) (drop headerSize b)) (pageIn b) refl refl (view-leaf b j ∙ rw j) ∙ rw length-readEach))
+      (sym (leaf-tests n (leAt b 16 8) (leAt b 24 8) (readEach certIn certSize (leAt b 2 2) (drop leafHeader b)) (pageIn b) refl refl (view-leaf b j ∙ rw j) ∙ rw length-readEach))
 
   sound-inner : (h .kind ≡ leafKind → ⊥) → every innerTests ≡ sound n (pageIn b)
   unfolding pageIn headIn
   sound-inner k =
       let j : leAt b 0 2 ≡ leafKind → ⊥ = rw e at k in
       rw e
-      (sym (inner-tests n (leAt b 0 2) (leAt b 16 8) (leAt b 24 8) (readEach childIn childSize (leAt b 2 2) (drop headerSize b)) (pageIn b) j refl refl (view-inner b j) ∙ rw length-readEach))
+      (sym (inner-tests n (leAt b 0 2) (leAt b 16 8) (leAt b 24 8) (readEach childIn childSize (leAt b 2 2) (drop innerHeader b)) (pageIn b) j refl refl (view-inner b j) ∙ rw length-readEach))
 
   pub range-fails : h .high < h .low → false ≡ sound n (pageIn b)
   range-fails l = go (eqb (h .kind) leafKind) refl
@@ -80,12 +80,12 @@ module _ (n : ℕ) (b : List ℕ) (h : Head) (e : h ≡ headIn b) where
   pub leaf-overfull : h .kind ≡ leafKind → leafRoom < h .count → false ≡ sound n (pageIn b)
   leaf-overfull k l = sym (every-fails leafTests 0 (lt-leb (h .count) leafRoom l)) ∙ sound-leaf k
 
-  pub leaf-last : {g : Bool} → g ≡ certsPass (h .low) (h .high) (readEach certIn certSize (h .count) (drop headerSize b))
+  pub leaf-last : {g : Bool} → g ≡ certsPass (h .low) (h .high) (readEach certIn certSize (h .count) (drop leafHeader b))
       → h .kind ≡ leafKind → h .count ≤ leafRoom → h .low ≤ h .high → g ≡ sound n (pageIn b)
   leaf-last {g} q k l r =
       q
       ∙ sym
-      (every-last (leb (h .count) leafRoom ∷ leb (h .low) (h .high) ∷ []) (certsPass (h .low) (h .high) (readEach certIn certSize (h .count) (drop headerSize b)))
+      (every-last (leb (h .count) leafRoom ∷ leb (h .low) (h .high) ∷ []) (certsPass (h .low) (h .high) (readEach certIn certSize (h .count) (drop leafHeader b)))
       (le-leb (h .count) leafRoom l, (le-leb (h .low) (h .high) r, tt)))
       ∙ sound-leaf k
 
@@ -99,12 +99,12 @@ module _ (n : ℕ) (b : List ℕ) (h : Head) (e : h ≡ headIn b) where
     pub inner-overfull : innerRoom < h .count → false ≡ sound n (pageIn b)
     inner-overfull l = sym (every-fails innerTests 1 (lt-leb (h .count) innerRoom l)) ∙ sound-inner k
 
-    pub inner-last : {g : Bool} → g ≡ childrenPass n (h .low) (h .high) (readEach childIn childSize (h .count) (drop headerSize b))
+    pub inner-last : {g : Bool} → g ≡ childrenPass n (h .low) (h .high) (readEach childIn childSize (h .count) (drop innerHeader b))
         → (h .kind ≡ 0 → ⊥) → h .kind ≤ topKind → h .count ≤ innerRoom → h .low ≤ h .high → g ≡ sound n (pageIn b)
     inner-last q z t l r =
         q
         ∙ sym
-        (every-last (between leafKind topKind (h .kind) ∷ leb (h .count) innerRoom ∷ leb (h .low) (h .high) ∷ []) (childrenPass n (h .low) (h .high) (readEach childIn childSize (h .count) (drop headerSize b)))
+        (every-last (between leafKind topKind (h .kind) ∷ leb (h .count) innerRoom ∷ leb (h .low) (h .high) ∷ []) (childrenPass n (h .low) (h .high) (readEach childIn childSize (h .count) (drop innerHeader b)))
         (between-of leafKind topKind (h .kind) (omega arith) t, (le-leb (h .count) innerRoom l, (le-leb (h .low) (h .high) r, tt))))
         ∙ sound-inner k
 

@@ -7,7 +7,7 @@ use native.Mathlib.Omega.{arith}
 use lib.Dec.{leb, ltb, eqb}
 use lib.ListN.{drop}
 use borrow.Author.Tests.{ltb-true, ltb-false, le-ltb, eq-eqb, ne-eqb}
-use Rattle.rules.specs.Layout.{headerSize, childSize}
+use Rattle.rules.specs.Layout.{innerHeader, childSize}
 use Rattle.rules.specs.Test.{between}
 use Rattle.rules.specs.Entry.{Child}
 use Rattle.rules.specs.Page.{readEach, childIn}
@@ -42,20 +42,20 @@ module _ (n : ℕ) (x : Child) {child r m : ℕ} (e : child ≡ x .value .child)
 
 module _ (b : List ℕ) (count low high n : ℕ) where
   abbrev answer : Bool
-  answer = childrenPass n low high (readEach childIn childSize count (drop headerSize b))
+  answer = childrenPass n low high (readEach childIn childSize count (drop innerHeader b))
 
   -- the answer is what is left to test from j on, behind the key `last`
   abbrev pub ChildrenLeft : ℕ → ℕ → Type 0
-  ChildrenLeft last j = answer ≡ after childIn childSize (namesPages n) b count low high last j
+  ChildrenLeft last j = answer ≡ after childIn innerHeader childSize (namesPages n) b count low high last j
 
   pub no-child : count ≡ 0 → false ≡ answer
   unfolding childrenPass startsAt readEach
   no-child h = rw (h, readEach, startsAt)
 
   module _ (k : ℕ) (h : 0 < count) (e : k ≡ childAt b 0 .key) where
-    starts : startsAt low (readEach childIn childSize count (drop headerSize b)) ≡ eqb k low
+    starts : startsAt low (readEach childIn childSize count (drop innerHeader b)) ≡ eqb k low
     unfolding startsAt childAt
-    starts = rw (left-all childIn childSize b count, left-more childIn childSize b count 0 h, startsAt, e)
+    starts = rw (left-all childIn innerHeader childSize b count, left-more childIn innerHeader childSize b count 0 h, startsAt, e)
 
     pub starts-elsewhere : (k ≡ low → ⊥) → false ≡ answer
     unfolding childrenPass
@@ -63,22 +63,22 @@ module _ (b : List ℕ) (count low high n : ℕ) where
 
     pub starts-bad : {g : Bool} → g ≡ namesPages n (childAt b 0) → not g ≡ true → false ≡ answer
     unfolding childrenPass childAt
-    starts-bad f y = rw (← first-bad childIn childSize (namesPages n) b count low high 0 h e f refl y, and-false)
+    starts-bad f y = rw (← first-bad childIn innerHeader childSize (namesPages n) b count low high 0 h e f refl y, and-false)
 
     pub starts-on : {g : Bool} → g ≡ namesPages n (childAt b 0) → k ≡ low → not g ≡ false → ChildrenLeft k 1
     unfolding childrenPass childAt
-    starts-on f q y = rw (starts, eq-eqb k low q) (first-on childIn childSize (namesPages n) b count low high 0 h e f refl (omega arith) y)
+    starts-on f q y = rw (starts, eq-eqb k low q) (first-on childIn innerHeader childSize (namesPages n) b count low high 0 h e f refl (omega arith) y)
 
   -- ── Each one behind it ────────────────────────────────────────────────────────────────────────────────────────
 
   module _ (last j k : ℕ) {f : Bool} (h : j < count) (e : k ≡ childAt b j .key) (q : f ≡ (ltb last k && namesPages n (childAt b j))) (a : ChildrenLeft last j) where
     pub children-stop : not f ≡ true → false ≡ answer
     unfolding childAt
-    children-stop y = turn-stop childIn childSize (namesPages n) b count low high j last h e q a y
+    children-stop y = turn-stop childIn innerHeader childSize (namesPages n) b count low high j last h e q a y
 
     pub children-on : (next : ℕ) → next ≡ j + 1 → not f ≡ false → ChildrenLeft k next
     unfolding childAt
-    children-on next s y = rw s (turn-on childIn childSize (namesPages n) b count low high j last h e q a y)
+    children-on next s y = rw s (turn-on childIn innerHeader childSize (namesPages n) b count low high j last h e q a y)
 
   pub children-end : (last j : ℕ) → count ≤ j → ChildrenLeft last j → leb last high ≡ answer
-  children-end last j h a = turns-end childIn childSize (namesPages n) b count low high j last h a
+  children-end last j h a = turns-end childIn innerHeader childSize (namesPages n) b count low high j last h a

@@ -8,7 +8,7 @@ use lib.Dec.{leb, eqb}
 use lib.ListN.{drop, getD}
 use borrow.Author.Tests.{eq-eqb, ne-eqb, le-leb, not-true, not-false}
 use Rattle.fields.specs.Field.{leAt}
-use Rattle.rules.specs.Layout.{headerSize, childSize, leafKind}
+use Rattle.rules.specs.Layout.{innerHeader, childSize, leafKind}
 use Rattle.rules.specs.Test.{between, every, mem}
 use Rattle.rules.specs.Entry.{keys}
 use Rattle.rules.specs.Page.{Page, isLeaf, readEach, childIn, viewIn, pageIn}
@@ -27,18 +27,18 @@ use Rattle.head.proofs.Left.{entry, left, left-all, left-more, left-none}
 
 module _ (b : List ℕ) (count key : ℕ) where
   abbrev pub sought : Bool
-  sought = mem key (keys (readEach childIn childSize count (drop headerSize b)))
+  sought = mem key (keys (readEach childIn childSize count (drop innerHeader b)))
 
   abbrev pub soughtFrom : ℕ → Bool
-  soughtFrom j = mem key (keys (left childIn childSize b count j))
+  soughtFrom j = mem key (keys (left childIn innerHeader childSize b count j))
 
   pub seek : sought ≡ soughtFrom 0
-  seek = rw (left-all childIn childSize b count)
+  seek = rw (left-all childIn innerHeader childSize b count)
 
-  module _ (j : ℕ) {k : ℕ} (h : j < count) (e : k ≡ entry childIn childSize b count j .key) (a : sought ≡ soughtFrom j) where
+  module _ (j : ℕ) {k : ℕ} (h : j < count) (e : k ≡ entry childIn innerHeader childSize b count j .key) (a : sought ≡ soughtFrom j) where
     turn : sought ≡ (eqb key k || soughtFrom (j + 1))
     unfolding keys mem
-    turn = a ∙ rw (e, left-more childIn childSize b count j h, keys, mem)
+    turn = a ∙ rw (e, left-more childIn innerHeader childSize b count j h, keys, mem)
 
     pub seek-found : k ≡ key → true ≡ sought
     seek-found q = sym (turn ∙ rw (eq-eqb key k (sym q)))
@@ -48,7 +48,7 @@ module _ (b : List ℕ) (count key : ℕ) where
 
   pub seek-end : (j : ℕ) → count ≤ j → sought ≡ soughtFrom j → false ≡ sought
   unfolding keys mem
-  seek-end j h a = sym (a ∙ rw (left-none childIn childSize b count j h, keys, mem))
+  seek-end j h a = sym (a ∙ rw (left-none childIn innerHeader childSize b count j h, keys, mem))
 
 -- ── The place's numbers ─────────────────────────────────────────────────────────────────────────────────────────
 

@@ -6,8 +6,11 @@ use Rattle.sound.proofs as this
 pub sound-tight : Tight this.sound.Kinds.ps this.sound.Kinds.r this.sound.Reads.Pre this.sound.Reads.Post
 sound-tight κs a pre z z′ l l′ p q = (p ∙ sym q, refl)
 
-pub fits-tight : Tight this.fits.Kinds.ps this.fits.Kinds.r this.fits.Reads.Pre this.fits.Reads.Post
-fits-tight κs a pre z z′ l l′ p q = (p ∙ sym q, refl)
+pub unfit-tight : Tight this.unfit.Kinds.ps this.unfit.Kinds.r this.unfit.Reads.Pre this.unfit.Reads.Post
+unfit-tight κs a pre z z′ l l′ p q = (p ∙ sym q, refl)
+
+pub unfit-at-tight : Tight this.unfit_at.Kinds.ps this.unfit_at.Kinds.r this.unfit_at.Reads.Pre this.unfit_at.Reads.Post
+unfit-at-tight κs a pre z z′ l l′ p q = (p ∙ sym q, refl)
 
 pub fits-at-tight : Tight this.fits_at.Kinds.ps this.fits_at.Kinds.r this.fits_at.Reads.Pre this.fits_at.Reads.Post
 fits-at-tight κs a pre z z′ l l′ p q = (p ∙ sym q, refl)

@@ -17,6 +17,7 @@ use rules::LEAF_ROOM;
 use rules::MODEL;
 use rules::PAGE;
 use rules::Place;
+use rules::Reason;
 use rules::SERIAL;
 use rules::TOP;
 use std::num::wrapping_sub_usize;
@@ -25,14 +26,15 @@ ghost use mathlib.Core.Bool.{_&&_};
 ghost use lib.Dec.{ltb};
 ghost use Prim.Native.Nat.{_+_, _*_, _≤_};
 ghost use lib.ListN.{length, drop};
-ghost use Rattle.rules.specs.Layout.{pageSize, headerSize, certSize, childSize};
+ghost use Rattle.rules.specs.Layout.{pageSize, leafHeader, innerHeader, certSize, childSize};
 ghost use Rattle.rules.specs.Key.{goodKey};
 ghost use Rattle.rules.specs.Page.{readEach, certIn, childIn, pageIn};
 ghost use Rattle.rules.specs.Entry.{keys};
 ghost use Rattle.rules.specs.Test.{mem};
 ghost use Rattle.rules.specs.Table.{read};
 ghost use Rattle.rules.specs.Sound.{namesPages, sound};
-ghost use Rattle.rules.specs.Place.{kindAsked, fits, mendable};
+ghost use Rattle.rules.specs.Place.{kindAsked, unfit, fits, mendable};
+ghost use Rattle.rules.specs.Report.{reasonAt};
 ghost use Rattle.head.specs.Head.{childAt};
 ghost use Rattle.sound.specs.Pass.{certsPass, childrenPass, namesPrevious, covers};
 
@@ -64,8 +66,8 @@ fn cert_follows(last: u64, key: u64) -> bool
 
 // The leaf's keys rise strictly within low to high, and none has a part that is zero.
 fn certs_pass(page: &[u8], count: usize, low: u64, high: u64) -> bool
-    requires { ⌜ headerSize + certSize * count ≤ length (now page) ⌝ }
-    ensures { λ r. ⌜ r ≡ certsPass low high (readEach certIn certSize count (drop headerSize (now (page .entry)))) ⌝ }
+    requires { ⌜ leafHeader + certSize * count ≤ length (now page) ⌝ }
+    ensures { λ r. ⌜ r ≡ certsPass low high (readEach certIn certSize count (drop leafHeader (now (page .entry)))) ⌝ }
 {
     if count == 0 {
         return true;
@@ -102,7 +104,7 @@ fn certs_pass(page: &[u8], count: usize, low: u64, high: u64) -> bool
 // A child is a page other than page 0, and its previous is a page or 0. One less, page 0 is the largest number, so a
 // single comparison tests both ends of the child's range: every entry of every inner page on a way comes here.
 fn names_pages(page: &[u8], j: usize, n: usize) -> bool
-    requires { ⌜ headerSize + childSize * (j + 1) ≤ length (now page) ⌝ }
+    requires { ⌜ innerHeader + childSize * (j + 1) ≤ length (now page) ⌝ }
     ensures { λ r. ⌜ r ≡ namesPages n (childAt (now (page .entry)) j) ⌝ }
 {
     let child = child_number(page, j) as usize;
@@ -114,7 +116,7 @@ fn names_pages(page: &[u8], j: usize, n: usize) -> bool
 
 // An inner page's key stands behind the one before it, and its entry names pages.
 fn child_follows(page: &[u8], j: usize, last: u64, key: u64, n: usize) -> bool
-    requires { ⌜ headerSize + childSize * (j + 1) ≤ length (now page) ⌝ }
+    requires { ⌜ innerHeader + childSize * (j + 1) ≤ length (now page) ⌝ }
     ensures { λ r. ⌜ r ≡ (ltb last key && namesPages n (childAt (now (page .entry)) j)) ⌝ }
 {
     if key <= last {
@@ -125,8 +127,8 @@ fn child_follows(page: &[u8], j: usize, last: u64, key: u64, n: usize) -> bool
 
 // The inner page's first key is its low, its keys rise strictly up to high, and every entry names pages.
 fn children_pass(page: &[u8], count: usize, low: u64, high: u64, n: usize) -> bool
-    requires { ⌜ headerSize + childSize * count ≤ length (now page) ⌝ }
-    ensures { λ r. ⌜ r ≡ childrenPass n low high (readEach childIn childSize count (drop headerSize (now (page .entry)))) ⌝ }
+    requires { ⌜ innerHeader + childSize * count ≤ length (now page) ⌝ }
+    ensures { λ r. ⌜ r ≡ childrenPass n low high (readEach childIn childSize count (drop innerHeader (now (page .entry)))) ⌝ }
 {
     if count == 0 {
         return false;
@@ -197,45 +199,57 @@ fn kind_asked(want: u16, kind: u16) -> bool
     want == kind
 }
 
-// The page is the one that a place asks for. A page that isn't is lost.
-pub fn fits(page: &[u8], e: Place, n: usize) -> bool
+// The first test of a place that the page fails, in the paper's order. A page that fails none is the one asked for; any
+// other is lost.
+pub fn unfit(page: &[u8], e: Place, n: usize) -> Reason
     requires { ⌜ pageSize ≤ length (now page) ⌝ }
-    ensures { λ r. ⌜ r ≡ fits n e (pageIn (now (page .entry))) ⌝ }
+    ensures { λ r. ⌜ r ≡ unfit n e (pageIn (now (page .entry))) ⌝ }
 {
     let head = read_head(page);
-    if head.birth != e.birth {
-        return false;
-    }
-    if head.low != e.low {
-        return false;
-    }
-    if head.high != e.high {
-        return false;
+    if !sound(page, n) {
+        return Reason::Soundness;
     }
     if !kind_asked(e.want, head.kind) {
-        return false;
+        return Reason::Kind;
     }
-    sound(page, n)
+    if head.birth != e.birth {
+        return Reason::Birth;
+    }
+    if head.low != e.low {
+        return Reason::Range;
+    }
+    if head.high != e.high {
+        return Reason::Range;
+    }
+    Reason::None
 }
 
-// A number beyond the table names no page, so nothing there fits.
+// A number beyond the table names no page, so nothing sound is there.
+pub fn unfit_at(table: &[u8], e: Place, n: usize) -> Reason
+    requires { ⌜ length (now table) ≡ n * pageSize ⌝ }
+    ensures { λ r. ⌜ r ≡ reasonAt n (now (table .entry)) e ⌝ }
+{
+    let child = e.child as usize;
+    if child >= n {
+        return Reason::Soundness;
+    }
+    let from = child * PAGE;
+    let to = from + PAGE;
+    unfit(&table[from..to], e, n)
+}
+
+// For those who do not ask why.
 pub fn fits_at(table: &[u8], e: Place, n: usize) -> bool
     requires { ⌜ length (now table) ≡ n * pageSize ⌝ }
     ensures { λ r. ⌜ r ≡ fits n e (read (now (table .entry)) (e .child)) ⌝ }
 {
-    let child = e.child as usize;
-    if child >= n {
-        return false;
-    }
-    let from = child * PAGE;
-    let to = from + PAGE;
-    fits(&table[from..to], e, n)
+    unfit_at(table, e, n).is_none()
 }
 
 // An entry of the inner page has this key.
 fn has_key(page: &[u8], count: usize, key: u64) -> bool
-    requires { ⌜ headerSize + childSize * count ≤ length (now page) ⌝ }
-    ensures { λ r. ⌜ r ≡ mem key (keys (readEach childIn childSize count (drop headerSize (now (page .entry))))) ⌝ }
+    requires { ⌜ innerHeader + childSize * count ≤ length (now page) ⌝ }
+    ensures { λ r. ⌜ r ≡ mem key (keys (readEach childIn childSize count (drop innerHeader (now (page .entry))))) ⌝ }
 {
     let mut j = 0;
     while j < count {

@@ -69,4 +69,5 @@ pub record Grows (t : List ℕ) (e : Place) (h : Head) (new : ℕ) : Type 0 wher
   pub few : length t ≤ mostPages * pageSize
   pub new-in : Has t new
   pub head : h ≡ headOf (read t (e .child))
+  pub kind-from : leafKind ≤ h .kind
   pub kind : h .kind ≤ 3

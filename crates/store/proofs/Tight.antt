@@ -16,24 +16,29 @@ open-tight κs a pre z z′ l l′ p q =
 pub insert-tight : Tight this.insert.Kinds.ps this.insert.Kinds.r this.insert.Reads.Pre this.insert.Reads.Post
 insert-tight κs a pre z z′ l l′ p q =
     let e = p ∙ sym q in
-    ((λ i. record { answer = e i .answer; session = e i .session }), (λ i. (e i .working, l .1)))
+    ((λ i. record { answer = e i .left .answer; report = e i .report; session = e i .left .session }), (λ i. (e i .left .working, l .1)))
 
 pub lookup-tight : Tight this.lookup.Kinds.ps this.lookup.Kinds.r this.lookup.Reads.Pre this.lookup.Reads.Post
 lookup-tight κs a pre z z′ l l′ p q =
     let e = p ∙ sym q in
-    ((λ i. record { answer = e i .answer; session = e i .session }), (λ i. (e i .working, l .1)))
+    ((λ i. record { answer = e i .left .answer; report = e i .report; session = e i .left .session }), (λ i. (e i .left .working, l .1)))
 
 pub newest-tight : Tight this.newest.Kinds.ps this.newest.Kinds.r this.newest.Reads.Pre this.newest.Reads.Post
 newest-tight κs a pre z z′ l l′ p q =
     let e = p ∙ sym q in
-    ((λ i. record { answer = e i .answer; session = e i .session }), (λ i. (e i .working, l .1)))
+    ((λ i. record { answer = e i .left .answer; report = e i .report; session = e i .left .session }), (λ i. (e i .left .working, l .1)))
+
+pub has-any-tight : Tight this.has_any.Kinds.ps this.has_any.Kinds.r this.has_any.Reads.Pre this.has_any.Reads.Post
+has-any-tight κs a pre z z′ l l′ p q =
+    let e = p ∙ sym q in
+    ((λ i. record { answer = e i .left .answer; report = e i .report; session = e i .left .session }), (λ i. (e i .left .working, l .1)))
 
 pub list-tight : Tight this.list.Kinds.ps this.list.Kinds.r this.list.Reads.Pre this.list.Reads.Post
 list-tight κs a pre z z′ l l′ p q =
     let e = p ∙ sym q in
     let rest = l .1 .1 .1 .1 .1 .1 in (
-      (λ i. record { answer = e i .answer; session = e i .session }),
-      (λ i. (e i .working, (l .1 .0, (l .1 .1 .0, (l .1 .1 .1 .0, (e i .keys, (e i .records, rest))))))),
+      (λ i. record { answer = e i .left .answer; report = e i .report; session = e i .left .session }),
+      (λ i. (e i .left .working, (l .1 .0, (l .1 .1 .0, (l .1 .1 .1 .0, (e i .left .keys, (e i .left .records, rest))))))),
     )
 
 pub sync-tight : Tight this.sync.Kinds.ps this.sync.Kinds.r this.sync.Reads.Pre this.sync.Reads.Post

@@ -10,6 +10,7 @@
 //     insert  puts a certificate in; from the next sync on it outlasts every crash
 //     lookup  the record of a certificate
 //     newest  the largest issue of a meter, and its record
+//     has_any whether a meter has a certificate
 //     list    the certificates from a start key upwards, into two lent lists, up to the shorter one
 //     sync    stable becomes a copy of working
 //
@@ -23,7 +24,7 @@
 //     SyncFirst  insert: sync, and try again
 //     Full       insert: too few pages are free; sync, and try again
 //     Spent      open, sync: the counter is at its end
-//     Done, Found, Filled   none of these: the call did what it is for
+//     Done, Found, Yes, No, Filled   none of these: the call did what it is for
 //
 // What a refused call leaves: the session as it was handed in, the stable table and the lists as they were, and in the
 // working table nothing changed but pages that the call mended on its way; a mended page holds those entries of its previous
@@ -37,18 +38,17 @@
 ghost use mathlib.Core.Path.{_≡_};
 ghost use Rattle.rules.specs.Format;
 ghost use Rattle.rules.specs.Open;
-ghost use Rattle.rules.specs.Insert;
-ghost use Rattle.rules.specs.Lookup;
-ghost use Rattle.rules.specs.Newest;
-ghost use Rattle.rules.specs.List;
+ghost use Rattle.rules.specs.Reports.{insertReported, lookupReported, newestReported, hasAnyReported, listReported};
 ghost use Rattle.rules.specs.Sync;
 ghost use Rattle.format.specs.Formats;
 ghost use Rattle.opening.specs.Opens;
 ghost use Rattle.insert.specs.Inserts;
 ghost use Rattle.lookup.specs.Looks;
 ghost use Rattle.newest.specs.Newests;
+ghost use Rattle.any.specs.Anys;
 ghost use Rattle.list.specs.Lists;
 ghost use Rattle.sync.specs.Syncs;
+use rules::AnyOf;
 use rules::Formatted;
 use rules::Inserting;
 use rules::Listing;
@@ -86,7 +86,7 @@ pub fn insert(
     value: u32,
 ) -> Inserting
     ensures { λ r. ⌜ Inserts.leaving r (now (working .exit)) (now (stable .entry))
-        ≡ Insert.insert (now (working .entry)) (now (stable .entry)) session model serial issue value ⌝ }
+        ≡ insertReported (now (working .entry)) (now (stable .entry)) session model serial issue value ⌝ }
 {
     insert::insert(working, stable, session, model, serial, issue, value)
 }
@@ -101,7 +101,7 @@ pub fn lookup(
     issue: u16,
 ) -> Looking
     ensures { λ r. ⌜ Looks.leaving r (now (working .exit)) (now (stable .entry))
-        ≡ Lookup.lookup (now (working .entry)) (now (stable .entry)) session model serial issue ⌝ }
+        ≡ lookupReported (now (working .entry)) (now (stable .entry)) session model serial issue ⌝ }
 {
     lookup::lookup(working, stable, session, model, serial, issue)
 }
@@ -115,9 +115,24 @@ pub fn newest(
     serial: u32,
 ) -> NewestOf
     ensures { λ r. ⌜ Newests.leaving r (now (working .exit)) (now (stable .entry))
-        ≡ Newest.newest (now (working .entry)) (now (stable .entry)) session model serial ⌝ }
+        ≡ newestReported (now (working .entry)) (now (stable .entry)) session model serial ⌝ }
 {
     newest::newest(working, stable, session, model, serial)
+}
+
+// Answers Yes, No, Length, BadKey or Damaged. Provisional certificates count; what lies beyond the first one found is not
+// looked at.
+pub fn has_any(
+    working: &mut [u8],
+    stable: &[u8],
+    session: Session,
+    model: u16,
+    serial: u32,
+) -> AnyOf
+    ensures { λ r. ⌜ Anys.leaving r (now (working .exit)) (now (stable .entry))
+        ≡ hasAnyReported (now (working .entry)) (now (stable .entry)) session model serial ⌝ }
+{
+    any::has_any(working, stable, session, model, serial)
 }
 
 // Answers Filled with how many places of both lists it filled, Length or Damaged. A start is any number: a key is model
@@ -131,7 +146,7 @@ pub fn list(
     records: &mut [u32],
 ) -> Listing
     ensures { λ r. ⌜ Lists.leaving r (now (working .exit)) (now (stable .entry)) (now (keys .exit)) (now (records .exit))
-        ≡ List.list (now (working .entry)) (now (stable .entry)) session start (now (keys .entry)) (now (records .entry)) ⌝ }
+        ≡ listReported (now (working .entry)) (now (stable .entry)) session start (now (keys .entry)) (now (records .entry)) ⌝ }
 {
     list::list(working, stable, session, start, keys, records)
 }

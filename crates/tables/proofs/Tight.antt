@@ -1,6 +1,7 @@
 -- No second outcome satisfies a contract of this crate. Assumes nothing.
 use mathlib.Core.Path.{refl, sym, _∙_}
 use mathlib.Core.List.{[]}
+use Rattle.rules.specs.Marks.{begun}
 use Rattle.rules.specs.declared.Session.{Session}
 use Rattle.tight.specs.Tight.{Tight}
 use Rattle.tables.proofs as this
@@ -10,7 +11,7 @@ good-lengths-tight κs a pre z z′ l l′ p q = (p ∙ sym q, refl)
 
 pub lengths-for-tight : Tight this.lengths_for.Kinds.ps this.lengths_for.Kinds.r this.lengths_for.Reads.Pre this.lengths_for.Reads.Post
 lengths-for-tight κs a pre z z′ l l′ p q =
-    let s : Session = record { n = a .0; c = 0; free = []; waiting = [] } in
+    let s : Session = begun (a .0) 0 0 [] [] in
     (p s refl ∙ sym (q s refl), refl)
 
 pub copy-tight : Tight this.copy.Kinds.ps this.copy.Kinds.r this.copy.Reads.Pre this.copy.Reads.Post

@@ -7,7 +7,7 @@ use mathlib.Core.Option.{some}
 use Prim.Native.Nat.{ℕ, _-_, _≤_, _<_}
 use native.Mathlib.Omega.{arith}
 use lib.ListN.{length, drop, getD}
-use Rattle.rules.specs.Layout.{headerSize, childSize, innerRoom}
+use Rattle.rules.specs.Layout.{innerHeader, childSize, innerRoom}
 use Rattle.rules.specs.Entry.{Child, keys, rising}
 use Rattle.rules.specs.Page.{View, readEach, childIn, viewIn}
 use Rattle.rules.specs.Place.{placesIn, kids, pick}
@@ -25,24 +25,24 @@ use Rattle.way.specs.Ways.{placesBelow, Leads}
 
 -- the first so many entries of an inner page
 abbrev pub childrenIn : ℕ → List ℕ → List Child
-childrenIn count b = readEach childIn childSize count (drop headerSize b)
+childrenIn count b = readEach childIn childSize count (drop innerHeader b)
 
 module _ (b : List ℕ) (count : ℕ) where
   length-children : length (childrenIn count b) ≡ count
-  length-children = length-readEach childIn childSize count (drop headerSize b)
+  length-children = length-readEach childIn childSize count (drop innerHeader b)
 
-  spot-within : (k : ℕ) → spotOf k (keysIn childSize count b) ≤ count
-  spot-within k = rw (length-keysIn childSize count b) at (spot-bound k (keysIn childSize count b))
+  spot-within : (k : ℕ) → spotOf k (keysIn innerHeader childSize count b) ≤ count
+  spot-within k = rw (length-keysIn innerHeader childSize count b) at (spot-bound k (keysIn innerHeader childSize count b))
 
   -- the entry before the spot
-  pub entry-before : (k s : ℕ) → s ≡ spotOf k (keysIn childSize count b) → 1 ≤ s → s - 1 < count
+  pub entry-before : (k s : ℕ) → s ≡ spotOf k (keysIn innerHeader childSize count b) → 1 ≤ s → s - 1 < count
   entry-before k s e o = omega (arith, e, spot-within k)
 
-  pub rising-keysIn : rising (keys (childrenIn count b)) ≡ true → rising (keysIn childSize count b) ≡ true
+  pub rising-keysIn : rising (keys (childrenIn count b)) ≡ true → rising (keysIn innerHeader childSize count b) ≡ true
   rising-keysIn r = rw (keys-children count b) at r
 
   pub pick-in : (want high k s : ℕ) (d r : Place) → rising (keys (childrenIn count b)) ≡ true → k ≤ high → 1 ≤ s
-      → s ≡ spotOf k (keysIn childSize count b) → r ≡ getD (placesIn want high (childrenIn count b)) (s - 1) d
+      → s ≡ spotOf k (keysIn innerHeader childSize count b) → r ≡ getD (placesIn want high (childrenIn count b)) (s - 1) d
       → pick k (placesIn want high (childrenIn count b)) ≡ some r
   pick-in want high k s d r h q o e f =
       pick-at want high k s (childrenIn count b) d h q o (ap (spotOf k) (keys-children count b) ∙ sym e) ∙ ap some (sym f)
@@ -65,11 +65,11 @@ module _ (b : List ℕ) (h : Head) (k : ℕ) (l : Leads k h (viewIn b)) where
   leads-rise = rw children-are at (l .rise)
 
   -- the first key is the place's low, so some key is not above
-  pub leads-spot : 1 ≤ spotOf k (keysIn childSize (h .count) b)
+  pub leads-spot : 1 ≤ spotOf k (keysIn innerHeader childSize (h .count) b)
   unfolding keys
   leads-spot =
       let s = starts-first (h .low) (viewIn b .children) (l .starts) in
-      let ks = keysIn childSize (h .count) b in
+      let ks = keysIn innerHeader childSize (h .count) b in
       let q : (s .0) .key ∷ keys (s .1) ≡ ks = ap keys (sym (s .2) ∙ children-are) ∙ keys-children (h .count) b in
       spot-above k 0 ks (rising-keysIn b (h .count) leads-rise) (omega (arith, ap length q)) (omega (arith, ap (λ (xs : List ℕ). getD xs 0 0) q, s .3, l .low))
 

@@ -6,7 +6,7 @@ use Prim.Native.Nat.{ℕ, _≤_}
 use native.Mathlib.Omega.{arith}
 use lib.ListN.{length, drop}
 use Rattle.fields.specs.Field.{leAt}
-use Rattle.rules.specs.Layout.{headerSize, certSize, leafRoom}
+use Rattle.rules.specs.Layout.{leafHeader, certSize, leafRoom}
 use Rattle.rules.specs.Entry.{Cert, keys, rising}
 use Rattle.rules.specs.Page.{View, readEach, certIn, viewIn, pageIn}
 use Rattle.rules.proofs.bytes.Each.{length-readEach}
@@ -19,7 +19,7 @@ use Rattle.way.specs.Ways.{Holds, noStep, spotAt}
 
 -- the first so many certificates of a leaf
 abbrev pub certsIn : ℕ → List ℕ → List Cert
-certsIn count b = readEach certIn certSize count (drop headerSize b)
+certsIn count b = readEach certIn certSize count (drop leafHeader b)
 
 module _ (b : List ℕ) (h : Head) (f : h ≡ headOf (pageIn b)) (l : Holds (viewIn b)) where
   count-is : h .count ≡ leAt b 2 2
@@ -33,12 +33,12 @@ module _ (b : List ℕ) (h : Head) (f : h ≡ headOf (pageIn b)) (l : Holds (vie
 
   pub holds-room : h .count ≤ leafRoom
   holds-room =
-      omega (arith, ap length certs-are, length-readEach certIn certSize (h .count) (drop headerSize b), l .room)
+      omega (arith, ap length certs-are, length-readEach certIn certSize (h .count) (drop leafHeader b), l .room)
 
   pub holds-rise : rising (keys (certsIn (h .count) b)) ≡ true
   holds-rise = rw certs-are at (l .rise)
 
-  pub holds-keys : rising (keysIn certSize (h .count) b) ≡ true
+  pub holds-keys : rising (keysIn leafHeader certSize (h .count) b) ≡ true
   holds-keys = rw (keys-certs (h .count) b) at holds-rise
 
 -- no step has no keys

@@ -5,14 +5,16 @@ use mathlib.Core.Bool.{true, false}
 use mathlib.Core.List.{List, [], _∷_}
 use mathlib.Core.Option.{Option, some, none}
 use lib.ListN.{length}
-use Rattle.rules.specs.Layout.{certSize, leafRoom, innerRoom}
+use Rattle.rules.specs.Layout.{leafHeader, certSize, leafRoom, innerRoom}
 use Rattle.rules.specs.Entry.{keys, rising}
 use Rattle.rules.specs.Page.{View, isLeaf, count}
 use Rattle.rules.specs.Sound.{startsAt}
 use Rattle.rules.specs.Table.{pageAt}
 use Rattle.rules.specs.Place.{placesIn}
+use Rattle.rules.specs.Report.{Reported}
 use Rattle.rules.specs.Walk as rules
 use Rattle.rules.specs.declared.Place.{Place}
+use Rattle.rules.specs.declared.Report.{Report}
 use Rattle.head.specs.declared.Head.{Head}
 use Rattle.head.proofs.Headers.{headOf}
 use Rattle.entries.specs.Spot.{keysIn, spotOf}
@@ -20,6 +22,8 @@ use Rattle.enter.specs.declared.Above.{Above}
 use Rattle.way.specs.declared.Step.{Step}
 use Rattle.way.specs.declared.Way.{Way}
 use Rattle.way.specs.declared.End.{End}
+use Rattle.way.specs.declared.Went.{Went}
+use Rattle.way.specs.declared.Ended.{Ended}
 
 abbrev pub noStep : Step
 noStep = record {
@@ -74,7 +78,7 @@ noEnd = record { len = 0; leaf = noStep; spot = 0 }
 
 -- how many keys of the leaf of a step stand before the first one above k; of no step none
 unfoldable pub spotAt : ℕ → List ℕ → Step → ℕ
-spotAt k t s = spotOf k (keysIn certSize (s .head .count) (pageAt t (s .place .child)))
+spotAt k t s = spotOf k (keysIn leafHeader certSize (s .head .count) (pageAt t (s .place .child)))
 
 pub record Ending : Type 0 where
   pub table : List ℕ
@@ -85,6 +89,17 @@ ending t e = record { table = t; end = e }
 
 abbrev pub endIn : ℕ → Walking → Ending
 endIn k w = ending (w .table) (record { len = w .way .len; leaf = w .way .leaf; spot = spotAt k (w .table) (w .way .leaf) })
+
+-- ── With a report ───────────────────────────────────────────────────────────────────────────────────────────────
+
+abbrev pub reported : {A : Type 0} → A → Report → Reported A
+reported left report = record { left = left; report = report }
+
+abbrev pub went : List ℕ → Went → Reported Walking
+went t w = reported (walking t (w .way)) (w .report)
+
+abbrev pub ended : List ℕ → Ended → Reported Ending
+ended t e = reported (ending t (e .end)) (e .report)
 
 -- ── A leaf ──────────────────────────────────────────────────────────────────────────────────────────────────────
 

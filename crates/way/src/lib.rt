@@ -15,28 +15,32 @@ use rules::AT_COUNT;
 use rules::AT_KIND;
 use rules::CERT;
 use rules::CHILD;
+use rules::INNER_HEADER;
 use rules::INNER_ROOM;
 use rules::LEAF;
+use rules::LEAF_HEADER;
 use rules::LEAF_ROOM;
 use rules::LEVELS;
 use rules::PAGE;
 use rules::Place;
+use rules::Report;
 ghost use mathlib.Core.Path.{_≡_};
 ghost use mathlib.Core.Bool.{true};
 ghost use mathlib.Core.List.{[]};
 ghost use mathlib.Core.Option.{some};
 ghost use Prim.Native.Nat.{_+_, _*_, _-_, _≤_, _<_};
 ghost use lib.ListN.{length, drop};
-ghost use Rattle.rules.specs.Layout.{pageSize, headerSize, childSize};
+ghost use Rattle.rules.specs.Layout.{pageSize, innerHeader, childSize};
 ghost use Rattle.rules.specs.Entry.{keys, rising};
 ghost use Rattle.rules.specs.Page.{readEach, childIn};
 ghost use Rattle.rules.specs.Table.{pageAt, read, fit0};
 ghost use Rattle.rules.specs.Place.{placesIn, pick};
-ghost use Rattle.rules.specs.Walk.{wayOf};
+ghost use Rattle.rules.specs.Report.{nothing};
+ghost use Rattle.rules.specs.Walk.{wayOf, wayReport};
 ghost use Rattle.entries.specs.Spot.{keysIn, spotOf};
 ghost use Rattle.head.proofs.Headers.{headOf};
 ghost use Rattle.way.specs.Ahead.{aheadOf};
-ghost use Rattle.way.specs.Ways.{placesBelow, Leads, Holds, noStep, wayFor, thenOf, aboveIn, walking, told, noEnd, spotAt, ending, endIn};
+ghost use Rattle.way.specs.Ways.{placesBelow, Leads, Holds, noStep, wayFor, thenOf, aboveIn, told, noEnd, spotAt, endIn, reported, went, ended};
 
 // A page entered: the place that asked for it, and its header.
 pub struct Step {
@@ -53,12 +57,24 @@ pub struct Way {
     pub top: Step,
 }
 
+// A way, and what was mended on it.
+pub struct Went {
+    pub way: Way,
+    pub report: Report,
+}
+
 // The end of a way: its leaf, how many pages were entered, and how many of the leaf's keys are not above the one sought;
 // no pages of a way that met a damaged place.
 pub struct End {
     pub len: usize,
     pub leaf: Step,
     pub spot: usize,
+}
+
+// The end of a way, and what was mended on it.
+pub struct Ended {
+    pub end: End,
+    pub report: Report,
 }
 
 fn no_step() -> Step
@@ -134,12 +150,12 @@ fn look_in(page: &[u8], key: u64, upto: u64) -> usize
         if count > LEAF_ROOM {
             return 0;
         }
-        return seek::guess(page, CERT, count as usize, upto);
+        return seek::guess(page, LEAF_HEADER, CERT, count as usize, upto);
     }
     if count > INNER_ROOM {
         return 0;
     }
-    seek::guess(page, CHILD, count as usize, key)
+    seek::guess(page, INNER_HEADER, CHILD, count as usize, key)
 }
 
 // The same on page i of a table.
@@ -154,13 +170,13 @@ pub fn look_ahead(table: &[u8], i: u16, key: u64, upto: u64) -> usize
 
 // The place that an inner page's entries ask for at a key.
 fn place_in(page: &[u8], kind: u16, count: usize, high: u64, key: u64, guess: usize) -> Place
-    requires { ⌜ (1 ≤ kind) × (headerSize + childSize * count ≤ length (now page)) × (length (now page) ≤ pageSize)
-        × (rising (keys (readEach childIn childSize count (drop headerSize (now page)))) ≡ true) × (key ≤ high)
-        × (1 ≤ spotOf key (keysIn childSize count (now page))) ⌝ }
-    ensures { λ r. ⌜ pick key (placesIn (kind - 1) high (readEach childIn childSize count (drop headerSize (now (page .entry)))))
+    requires { ⌜ (1 ≤ kind) × (innerHeader + childSize * count ≤ length (now page)) × (length (now page) ≤ pageSize)
+        × (rising (keys (readEach childIn childSize count (drop innerHeader (now page)))) ≡ true) × (key ≤ high)
+        × (1 ≤ spotOf key (keysIn innerHeader childSize count (now page))) ⌝ }
+    ensures { λ r. ⌜ pick key (placesIn (kind - 1) high (readEach childIn childSize count (drop innerHeader (now (page .entry)))))
         ≡ some r ⌝ }
 {
-    let spot = seek::confirm(page, CHILD, count, key, guess);
+    let spot = seek::confirm(page, INNER_HEADER, CHILD, count, key, guess);
     head::kid(page, count, spot - 1, kind - 1, high)
 }
 
@@ -189,29 +205,45 @@ fn spot_at(table: &[u8], leaf: Step, key: u64, guess: usize) -> usize
 {
     let from = leaf.place.child as usize * PAGE;
     let to = from + PAGE;
-    seek::confirm(&table[from..to], CERT, leaf.head.count as usize, key, guess)
+    seek::confirm(
+        &table[from..to],
+        LEAF_HEADER,
+        CERT,
+        leaf.head.count as usize,
+        key,
+        guess,
+    )
 }
 
-pub fn way_of(t: &mut [u8], n: usize, c: u32, key: u64) -> Way
+pub fn way_of(t: &mut [u8], n: usize, c: u32, key: u64) -> Went
     requires { ⌜ (length (now t) ≡ n * pageSize) × (fit0 n (now t) ≡ true) ⌝ }
-    ensures { λ r. ⌜ walking (now (t .exit)) r ≡ told (wayOf n c key (now (t .entry))) ⌝ }
+    ensures { λ r. ⌜ went (now (t .exit)) r
+        ≡ reported (told (wayOf n c key (now (t .entry)))) (wayReport n c key (now (t .entry)) nothing) ⌝ }
 {
     let mut way = no_way();
+    let mut report = Report::nothing();
     let mut e = head::root_place(t);
     let mut level = LEVELS;
     while 0 < level {
         let guess = look_ahead(t, e.child, key, key);
-        let Entered::Page(head) = enter::enter(t, n, c, above(way), e) else {
-            return no_way();
+        let Entered::Page(head, reason) = enter::enter(t, n, c, above(way), e) else {
+            return Went {
+                way: no_way(),
+                report,
+            };
         };
         way = then(way, Step { place: e, head });
+        report = report.add(reason);
         if head.kind == LEAF {
-            return way;
+            return Went { way, report };
         }
         e = place_below(t, e.child, head, key, guess);
         level -= 1;
     }
-    no_way()
+    Went {
+        way: no_way(),
+        report,
+    }
 }
 
 // An end of no pages.
@@ -228,18 +260,24 @@ fn no_end() -> End
 
 // The same way for those who want its leaf alone: of the pages above only the numbers are kept, since a way has 272
 // bytes, and a lookup would build and pass on all of them.
-pub fn leaf_of(t: &mut [u8], n: usize, c: u32, key: u64) -> End
+pub fn leaf_of(t: &mut [u8], n: usize, c: u32, key: u64) -> Ended
     requires { ⌜ (length (now t) ≡ n * pageSize) × (fit0 n (now t) ≡ true) ⌝ }
-    ensures { λ r. ⌜ ending (now (t .exit)) r ≡ endIn key (told (wayOf n c key (now (t .entry)))) ⌝ }
+    ensures { λ r. ⌜ ended (now (t .exit)) r
+        ≡ reported (endIn key (told (wayOf n c key (now (t .entry))))) (wayReport n c key (now (t .entry)) nothing) ⌝ }
 {
     let mut above = Above { parent: 0, top: 0 };
+    let mut report = Report::nothing();
     let mut e = head::root_place(t);
     let mut level = LEVELS;
     while 0 < level {
         let guess = look_ahead(t, e.child, key, key);
-        let Entered::Page(page) = enter::enter(t, n, c, above, e) else {
-            return no_end();
+        let Entered::Page(page, reason) = enter::enter(t, n, c, above, e) else {
+            return Ended {
+                end: no_end(),
+                report,
+            };
         };
+        report = report.add(reason);
         if page.kind == LEAF {
             let leaf = Step {
                 place: e,
@@ -247,7 +285,10 @@ pub fn leaf_of(t: &mut [u8], n: usize, c: u32, key: u64) -> End
             };
             let len = LEVELS - level + 1;
             let spot = spot_at(t, leaf, key, guess);
-            return End { len, leaf, spot };
+            return Ended {
+                end: End { len, leaf, spot },
+                report,
+            };
         }
         let top = above.parent;
         above = Above {
@@ -257,5 +298,8 @@ pub fn leaf_of(t: &mut [u8], n: usize, c: u32, key: u64) -> End
         e = place_below(t, e.child, page, key, guess);
         level -= 1;
     }
-    no_end()
+    Ended {
+        end: no_end(),
+        report,
+    }
 }

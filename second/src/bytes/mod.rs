@@ -18,15 +18,23 @@ use std::fmt;
 use std::panic::{catch_unwind, AssertUnwindSafe};
 use std::time::{Duration, Instant};
 
-const NAMED: [&str; 8] = [
+const NAMED: [&str; 16] = [
     "tables",
     "calls",
     "mended leaves",
     "mended kind 2",
     "mended kind 3",
     "openings refused for their names alone",
+    "reports of an unsound page",
+    "reports of another kind",
+    "reports of another birth",
+    "reports of another range",
+    "reports of two mends and more",
+    "reports beside a damaged place",
     "newest that leaves a lost page of its meter",
     "newest that leaves a damaged page of its meter",
+    "has-any that leaves a lost page of its meter",
+    "has-any that leaves a damaged page of its meter",
 ];
 
 /// What a run has met.
@@ -114,7 +122,7 @@ pub fn try_table(seed: u64, counters: &mut Counters) -> Kept {
 
 fn try_call(store: &mut Store, rng: &Rng, counters: &mut Counters) -> Kept {
     let key = some_key(store, rng);
-    match rng.below(20) {
+    match rng.below(22) {
         0 => promises::formats(&mut store.clone(), counters),
         1..=3 => {
             let session = store.session;
@@ -133,6 +141,7 @@ fn try_call(store: &mut Store, rng: &Rng, counters: &mut Counters) -> Kept {
             let start = rng.one_of(&[0, key, rng.next()]);
             promises::list(store, start, [room, room + rng.below(2)], counters)
         }
+        14..=15 => promises::has_any(store, some_meter(store, rng), counters),
         _ => promises::insert(store, key, rng.next() as u32, counters),
     }
 }

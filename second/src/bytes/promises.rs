@@ -1,7 +1,7 @@
 //! Demand 1 on arbitrary tables: each call ends with an answer of its own, and keeps what it
 //! promises to keep.
 
-use super::other_ways::{climb, Entering};
+use super::other_ways::{Climb, Entering};
 use super::Counters;
 use crate::answer::{BADKEY, DAMAGED, DONE, LENGTH, NONE, SPENT};
 use crate::field::{get32, put32};
@@ -9,10 +9,13 @@ use crate::format;
 use crate::key::{issues, key, parts, whole};
 use crate::layout::{zero, FIRST_NUMBER, LAST_FINAL, PAGE};
 use crate::page::{self, Header, LeafEntry, Page};
+use crate::reasons::report;
+use crate::report::Report;
 use crate::session::Session;
 use crate::store::Store;
 use crate::tree::Tree;
 use crate::walk::{pages, zero_fits};
+use std::ops::RangeInclusive;
 
 pub type Kept = Result<(), String>;
 
@@ -27,8 +30,17 @@ fn must(holds: bool, what: &str) -> Kept {
     }
 }
 
-/// What a walk may change: pages of working, each to a sound one built and touched now.
+/// Names of counters, by reason.
+const REASONS: [&str; 4] = [
+    "reports of an unsound page",
+    "reports of another kind",
+    "reports of another birth",
+    "reports of another range",
+];
+
+/// What a walk may change: pages of working, each to a sound one built and touched now, and told of.
 fn mends(before: &Store, after: &Store, counters: &mut Counters) -> Kept {
+    let mut changed = 0;
     must(before.stable == after.stable, "stable changed")?;
     must(before.session == after.session, "the session changed")?;
     let old = before.working.chunks_exact(PAGE);
@@ -44,8 +56,34 @@ fn mends(before: &Store, after: &Store, counters: &mut Counters) -> Kept {
         let mended = built && page::sound(new, after.session.n);
         must(mended, "a page changed that wasn't mended")?;
         counters.add(MENDED[usize::from(head.kind) - 1]);
+        changed += 1;
     }
-    Ok(())
+    must(
+        changed <= after.report.mended,
+        "a page was mended that isn't told of",
+    )
+}
+
+/// Climbing for each leaf comes to the same: bytes, answer and report. What it shows is handed back.
+fn climbs(
+    before: &Store,
+    after: &Store,
+    asked: RangeInclusive<u64>,
+    room: usize,
+    whole: bool,
+    counters: &mut Counters,
+) -> Result<(u32, Vec<LeafEntry>), String> {
+    let mut other = before.clone();
+    let climb = Climb::of(&mut other, asked, room, whole);
+    must(other == *after, "climbing mends other pages")?;
+    let told = after.report;
+    must(told == report(&climb.reasons), "climbing tells of others")?;
+    if told != Report::default() {
+        counters.add(REASONS[told.reason as usize - 1]);
+        counters.add_if(climb.answer != DONE, "reports beside a damaged place");
+        counters.add_if(told.mended > 1, "reports of two mends and more");
+    }
+    Ok((climb.answer, climb.entries))
 }
 
 pub fn lookup(store: &mut Store, key: u64, counters: &mut Counters) -> Kept {
@@ -55,13 +93,21 @@ pub fn lookup(store: &mut Store, key: u64, counters: &mut Counters) -> Kept {
     must(answer == DONE || record == 0, "a number beside a refusal")?;
     must((answer == BADKEY) <= !whole(key), "badkey for a whole key")?;
     mends(&before, store, counters)?;
+    let asked = key..=key;
+    let climbed = climbs(&before, store, asked, usize::MAX, whole(key), counters)?;
+    let found = match climbed {
+        (DONE, entries) => entries.first().map_or((NONE, 0), |e| (DONE, e.record)),
+        (refusal, _) => (refusal, 0),
+    };
+    must(found == (answer, record), "climbing finds another record")?;
     if [LENGTH, BADKEY].contains(&answer) {
         return must(*store == before, "a page changed");
     }
     let once = store.clone();
     let again = store.lookup(key);
     must(again == (answer, record), "the second lookup differs")?;
-    must(*store == once, "the second lookup changed something")
+    let still = *store == once && store.report == Report::default();
+    must(still, "the second lookup changed something")
 }
 
 pub fn newest(store: &mut Store, meter: (u16, u32), counters: &mut Counters) -> Kept {
@@ -70,10 +116,15 @@ pub fn newest(store: &mut Store, meter: (u16, u32), counters: &mut Counters) -> 
     let (answer, issue, record) = store.newest(model, serial);
     counters.answer("newest", answer);
     mends(&before, store, counters)?;
-    let mut other = before.clone();
-    let climbed = climb_issues(&mut other, meter, LAST_FINAL);
-    must(other == *store, "climbing mends other pages")?;
-    let found = match climbed {
+    let asked = issues(model, serial, LAST_FINAL);
+    let whole = model != 0 && serial != 0;
+    let all = issues(model, serial, u16::MAX);
+    let all = Climb::of(&mut before.clone(), all, usize::MAX, whole);
+    let lost = all.reasons.len() > store.report.mended as usize;
+    counters.add_if(lost, "newest that leaves a lost page of its meter");
+    let damaged = all.answer == DAMAGED && answer != DAMAGED;
+    counters.add_if(damaged, "newest that leaves a damaged page of its meter");
+    let found = match climbs(&before, store, asked, usize::MAX, whole, counters)? {
         (DONE, entries) => entries.last().map_or((NONE, 0, 0), |entry| {
             (DONE, parts(entry.key).2, entry.record)
         }),
@@ -82,22 +133,25 @@ pub fn newest(store: &mut Store, meter: (u16, u32), counters: &mut Counters) -> 
     must(
         found == (answer, issue, record),
         "climbing finds another issue",
-    )?;
-    // What a walk through all issues would have entered too.
-    let mut further = before;
-    let (all, _) = climb_issues(&mut further, meter, u16::MAX);
-    let lost = further != *store;
-    counters.add_if(lost, "newest that leaves a lost page of its meter");
-    let damaged = all == DAMAGED && answer != DAMAGED;
-    counters.add_if(damaged, "newest that leaves a damaged page of its meter");
-    Ok(())
+    )
 }
 
-/// Climbs through a meter's issues up to this one.
-fn climb_issues(store: &mut Store, meter: (u16, u32), last: u16) -> (u32, Vec<LeafEntry>) {
+pub fn has_any(store: &mut Store, meter: (u16, u32), counters: &mut Counters) -> Kept {
     let (model, serial) = meter;
+    let before = store.clone();
+    let (answer, any) = store.has_any(model, serial);
+    counters.answer("has_any", answer);
+    mends(&before, store, counters)?;
+    let asked = issues(model, serial, u16::MAX);
     let whole = model != 0 && serial != 0;
-    climb(store, issues(model, serial, last), usize::MAX, whole)
+    let all = Climb::of(&mut before.clone(), asked.clone(), usize::MAX, whole);
+    let lost = all.reasons.len() > store.report.mended as usize;
+    counters.add_if(lost, "has-any that leaves a lost page of its meter");
+    let damaged = all.answer == DAMAGED && answer != DAMAGED;
+    counters.add_if(damaged, "has-any that leaves a damaged page of its meter");
+    let (climbed, first) = climbs(&before, store, asked, 1, whole, counters)?;
+    must(climbed == answer, "climbing gives another answer")?;
+    must(any != first.is_empty(), "climbing says otherwise")
 }
 
 pub fn list(store: &mut Store, start: u64, rooms: [usize; 2], counters: &mut Counters) -> Kept {
@@ -110,11 +164,10 @@ pub fn list(store: &mut Store, start: u64, rooms: [usize; 2], counters: &mut Cou
         && records[count..].iter().all(|record| *record == 4);
     must(untouched, "a list place changed that isn't filled")?;
     must(answer == DONE || count == 0, "a number beside a refusal")?;
-    let mut other = before;
     let room = rooms[0].min(rooms[1]);
-    let (climbed, entries) = climb(&mut other, start..=u64::MAX, room, true);
+    let asked = start..=u64::MAX;
+    let (climbed, entries) = climbs(&before, store, asked, room, true, counters)?;
     must(climbed == answer, "climbing gives another answer")?;
-    must(other == *store, "climbing mends other pages")?;
     let filled = keys.iter().zip(&records).take(count);
     let listed = entries.iter().map(|entry| (&entry.key, &entry.record));
     must(filled.eq(listed), "climbing lists other entries")
@@ -127,8 +180,14 @@ pub fn insert(store: &mut Store, key: u64, record: u32, counters: &mut Counters)
     must(store.stable == before.stable, "stable changed")?;
     let mut looked = before.clone();
     let there = looked.lookup(key).0;
+    must(
+        store.report == looked.report,
+        "insert tells of other mends than lookup",
+    )?;
     if answer == DONE {
         must(there == NONE, "an entry was there already")?;
+        let total = before.session.total.wrapping_add(1);
+        must(store.session.total == total, "another total")?;
         return must(
             store.lookup(key) == (DONE, record),
             "what was inserted isn't found",
@@ -198,7 +257,9 @@ pub fn sync(store: &mut Store, counters: &mut Counters) -> Kept {
             && store.session.waiting[p] == (waits && !own)
     });
     must(
-        marks && store.session.c == before.session.c + 1,
+        marks
+            && store.session.c == before.session.c + 1
+            && store.session.total == before.session.total,
         "sync left another session",
     )
 }

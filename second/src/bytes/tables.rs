@@ -2,10 +2,10 @@
 //! little, so that walks come far before they meet what is wrong.
 
 use crate::field::{get16, put16, put32, put64};
-use crate::key::{key, whole};
+use crate::key::{key, parts, whole};
 use crate::layout::{
-    entry, header, zero, HEADER, INNER_ENTRY, KIND_LEAF, KIND_ZERO, LAST_FINAL, LAST_NUMBER, PAGE,
-    PAGES_MOST,
+    entry, header, zero, INNER_ENTRY, INNER_HEADER, KIND_LEAF, KIND_ZERO, LAST_FINAL, LAST_NUMBER,
+    LEAF_CAP, PAGE, PAGES_MOST,
 };
 use crate::page::{self, capacity, page_mut, Header, InnerEntry, LeafEntry, Page};
 use crate::rng::Rng;
@@ -39,11 +39,7 @@ pub fn arbitrary(rng: &Rng) -> Store {
     for _ in 0..rng.one_of(&[0, 0, 1, 1, 2, 5]) {
         change(&mut table, n as u16, rng);
     }
-    let mut store = Store {
-        stable: table.clone(),
-        working: table,
-        session: session(n as u16, rng),
-    };
+    let mut store = Store::of(table.clone(), table, session(n as u16, rng));
     if rng.once_in(3) {
         change(&mut store.working, n as u16, rng);
     }
@@ -55,6 +51,7 @@ pub fn arbitrary(rng: &Rng) -> Store {
 
 fn session(n: u16, rng: &Rng) -> Session {
     let mut session = Session::new(n, counter(rng));
+    session.total = rng.one_of(&[0, u32::MAX, rng.next() as u32]);
     let density = rng.one_of(&[0, 1, 4, 8, 8]);
     for p in 0..PAGES_MOST {
         session.free[p] = rng.below(8) < density;
@@ -176,7 +173,19 @@ fn plant_leaf(head: Header, serials: Range<u32>, rng: &Rng) -> Page {
             page::put_leaf(&mut page, LeafEntry { key, record });
         }
     }
+    if let Some(key) = last_key(&head, rng).filter(|_| page::count(&page) < LEAF_CAP) {
+        let record = rng.next() as u32;
+        page::put_leaf(&mut page, LeafEntry { key, record });
+    }
     page
+}
+
+/// Often a key of the meter at which the next page starts, if it lies in this one.
+fn last_key(head: &Header, rng: &Rng) -> Option<u64> {
+    let (model, serial, _) = parts(head.high.wrapping_add(1));
+    let key = key(model, serial, rng.from(1, 3) as u16);
+    let within = whole(key) && head.low <= key && key <= head.high;
+    (within && rng.once_in(2)).then_some(key)
 }
 
 fn plant_inner(table: &mut [u8], n: u16, head: Header, serials: Range<u32>, rng: &Rng) -> Page {
@@ -236,16 +245,45 @@ fn lose(table: &mut [u8], n: u16, rng: &Rng) {
         Some(above) => {
             let parent = &tree.nodes[above];
             let index = page::below(&parent.shown, node.place.low);
-            let at = HEADER + index * INNER_ENTRY + entry::PREVIOUS;
+            let at = INNER_HEADER + index * INNER_ENTRY + entry::PREVIOUS;
             put16(page_mut(table, parent.place.child), at, previous);
         }
     }
     let child = page_mut(table, node.place.child);
-    match rng.below(3) {
+    match rng.below(4) {
         0 => child.fill(0),
         1 => put32(child, header::BIRTH, node.place.birth.wrapping_add(1)),
-        _ => put64(child, header::HIGH, rng.next()),
+        2 => put64(child, header::HIGH, rng.next()),
+        _ => *child = of_other_kind(Header::of(&node.shown)),
     }
+}
+
+/// A sound page that differs in kind.
+fn of_other_kind(head: Header) -> Page {
+    if head.kind != KIND_LEAF {
+        let (kind, count) = (KIND_LEAF, 0);
+        return Header {
+            kind,
+            count,
+            ..head
+        }
+        .page();
+    }
+    let (kind, count) = (KIND_LEAF + 1, 1);
+    let mut page = Header {
+        kind,
+        count,
+        ..head
+    }
+    .page();
+    let entry = InnerEntry {
+        key: head.low,
+        child: 1,
+        previous: 0,
+        birth: head.birth,
+    };
+    page::write_inner(&mut page, 0, entry);
+    page
 }
 
 /// Changes a field of a page: a header's, an entry's, or page 0's.
@@ -254,8 +292,8 @@ fn change_field(table: &mut [u8], n: u16, rng: &Rng) {
     let small = rng.one_of(&[0, 1, 2, 3, n - 1, n, rng.below(140) as u16, 65_535]);
     let near = get16(page::page(table, number), header::COUNT);
     let page = page_mut(table, number);
-    let last = HEADER + usize::from(near.min(30)).saturating_sub(1) * INNER_ENTRY;
-    let at = rng.one_of(&[HEADER, last]);
+    let last = INNER_HEADER + usize::from(near.min(30)).saturating_sub(1) * INNER_ENTRY;
+    let at = rng.one_of(&[INNER_HEADER, last]);
     match rng.below(12) {
         0 => put16(page, header::KIND, small),
         1 => put16(page, header::COUNT, small),

@@ -1,8 +1,9 @@
 //! One call on both stores, and all that it leaves compared.
 
-use crate::answer::{ANSWERS, WORDS};
+use crate::answer::{ANSWERS, WALKING, WORDS};
 use crate::layout::{LAST_NUMBER, PAGE, PAGES_MOST};
 use crate::proved::Proved;
+use crate::report::{Report, NO_REASON};
 use crate::session::Session;
 use crate::store::Store;
 use crate::{crash, format, number_ahead};
@@ -10,32 +11,43 @@ use std::fmt;
 
 use super::Alike;
 
-/// How often each answer was given, and both agreed.
+/// The reasons of a report, by number.
+const REASONS: [&str; 5] = ["none", "soundness", "kind", "birth", "range"];
+
+/// How often each answer and each reason was given, and both agreed.
 #[derive(Default)]
 pub struct Counters {
     answers: [[u64; WORDS.len()]; ANSWERS.len()],
+    reasons: [u64; REASONS.len()],
     pub histories: u64,
     pub tables: u64,
 }
 
 impl Counters {
-    fn count(&mut self, call: &str, answer: u32) {
+    fn count(&mut self, call: &str, answer: u32, told: Report) {
         let row = ANSWERS.iter().position(|(name, _)| *name == call);
         self.answers[row.expect("a call's name")][answer as usize] += 1;
+        if WALKING.contains(&call) {
+            self.reasons[told.reason as usize] += 1;
+        }
     }
 
     pub fn calls(&self) -> u64 {
         self.answers.iter().flatten().sum()
     }
 
-    /// The answers that a call can give and never gave.
+    /// The answers that a call can give and never gave, and the reasons that were never told.
     pub fn missing(&self) -> Vec<String> {
         let rows = ANSWERS.iter().zip(&self.answers);
-        rows.flat_map(|((call, answers), counts)| {
+        let answers = rows.flat_map(|((call, answers), counts)| {
             let never = answers.iter().filter(|answer| counts[**answer] == 0);
             never.map(move |answer| format!("{call} {}", WORDS[*answer]))
-        })
-        .collect()
+        });
+        let reasons = REASONS.iter().zip(&self.reasons);
+        let untold = reasons.filter(|(_, count)| **count == 0);
+        answers
+            .chain(untold.map(|(reason, _)| format!("reason {reason}")))
+            .collect()
     }
 }
 
@@ -45,6 +57,9 @@ impl fmt::Display for Counters {
             for answer in *answers {
                 writeln!(out, "{:>12}  {call} {}", counts[*answer], WORDS[*answer])?;
             }
+        }
+        for (reason, count) in REASONS.iter().zip(&self.reasons) {
+            writeln!(out, "{count:>12}  reason {reason}")?;
         }
         let (calls, histories, tables) = (self.calls(), self.histories, self.tables);
         write!(
@@ -72,11 +87,8 @@ impl Both {
 
     /// Fresh from format and open.
     pub fn fresh(n: usize, counters: &mut Counters) -> Alike<Both> {
-        let mut both = Both::of(Store {
-            working: vec![0xA5; n * PAGE],
-            stable: vec![0x5A; n * PAGE],
-            session: Session::new(0, 0),
-        });
+        let (working, stable) = (vec![0xA5; n * PAGE], vec![0x5A; n * PAGE]);
+        let mut both = Both::of(Store::of(working, stable, Session::new(0, 0)));
         both.format(counters)?;
         both.open(counters)?;
         Ok(both)
@@ -111,6 +123,13 @@ impl Both {
         let own = (answer, u32::from(issue), record);
         let proved = self.proved.newest(model, serial);
         self.alike("newest", answer, &own, &proved, counters)
+    }
+
+    pub fn has_any(&mut self, model: u16, serial: u32, counters: &mut Counters) -> Alike<u32> {
+        let (answer, any) = self.own.has_any(model, serial);
+        let own = (answer, u32::from(any));
+        let proved = self.proved.has_any(model, serial);
+        self.alike("has_any", answer, &own, &proved, counters)
     }
 
     /// Both lists start with the same marks in every place: what is not filled must keep them.
@@ -166,6 +185,10 @@ impl Both {
         if own != proved {
             return other(format!("{proved:?} is answered, not {own:?}"));
         }
+        let (told, its_told) = (mine.report, its.report);
+        if told != its_told || (told.mended == 0) != (told.reason == NO_REASON) {
+            return other(format!("the report is {its_told:?}, not {told:?}"));
+        }
         if let Some(part) = other_part(&mine.session, &its.session) {
             return other(format!("the session differs in {part}"));
         }
@@ -175,7 +198,7 @@ impl Both {
         if let Some(place) = first_other(&mine.stable, &its.stable) {
             return other(format!("stable differs at {place}"));
         }
-        counters.count(call, answer);
+        counters.count(call, answer, told);
         Ok(answer)
     }
 }
@@ -189,7 +212,7 @@ fn other_part(own: &Session, proved: &Session) -> Option<String> {
     let free = mark(&own.free, &proved.free).map(|page| format!("the free mark of page {page}"));
     let waiting = mark(&own.waiting, &proved.waiting);
     let waiting = waiting.map(|page| format!("the waiting mark of page {page}"));
-    free.or(waiting).or(Some("n or c".to_string()))
+    free.or(waiting).or(Some("n, c or the total".to_string()))
 }
 
 /// Where two tables differ first.

@@ -63,9 +63,11 @@ fn step(both: &mut Both, player: &mut Player, call: &Call, counters: &mut Counte
             both.lookup(key, counters)?;
             both.lookup(key ^ 1, counters)?;
             both.newest(model, serial, counters)?;
+            both.has_any(model, serial, counters)?;
         }
         Call::Lookup { key } => _ = both.lookup(key, counters)?,
         Call::Newest { model, serial } => _ = both.newest(model, serial, counters)?,
+        Call::HasAny { model, serial } => _ = both.has_any(model, serial, counters)?,
         Call::List {
             start,
             keys,
@@ -159,6 +161,7 @@ fn misfit(mut both: Both, pages: usize, counters: &mut Counters) -> Alike<()> {
     both.insert(1, 1, counters)?;
     both.lookup(1, counters)?;
     both.newest(0, 1, counters)?;
+    both.has_any(0, 1, counters)?;
     both.list(0, 1, 1, counters)?;
     both.sync(counters)?;
     both.open(counters)?;

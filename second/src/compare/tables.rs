@@ -19,7 +19,7 @@ pub fn table(seed: u64, counters: &mut Counters) -> Alike<()> {
 
 fn call(both: &mut Both, rng: &Rng, counters: &mut Counters) -> Alike<u32> {
     let key = some_key(&both.own, rng);
-    match rng.below(24) {
+    match rng.below(28) {
         0 => both.clone().format(counters),
         1..=2 => {
             let session = both.own.session;
@@ -41,6 +41,10 @@ fn call(both: &mut Both, rng: &Rng, counters: &mut Counters) -> Alike<u32> {
             let room = rng.one_of(&[0, 1, 10, 60, 2000]);
             let start = rng.one_of(&[0, 0, key, rng.next()]);
             both.list(start, room, room + rng.below(2), counters)
+        }
+        17..=20 => {
+            let (model, serial) = some_meter(&both.own, rng);
+            both.has_any(model, serial, counters)
         }
         _ => both.insert(key, rng.next() as u32, counters),
     }

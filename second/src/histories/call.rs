@@ -34,6 +34,10 @@ pub enum Call {
         model: u16,
         serial: u32,
     },
+    HasAny {
+        model: u16,
+        serial: u32,
+    },
     List {
         start: u64,
         keys: usize,
@@ -104,6 +108,7 @@ impl fmt::Display for Call {
                 write!(out, "lookup {model} {serial} {issue}")
             }
             Call::Newest { model, serial } => write!(out, "newest {model} {serial}"),
+            Call::HasAny { model, serial } => write!(out, "has any {model} {serial}"),
             Call::List {
                 start,
                 keys,

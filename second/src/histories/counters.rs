@@ -13,23 +13,25 @@ pub enum Counted {
     Insert,
     Lookup,
     Newest,
+    HasAny,
     List,
     Sync,
 }
 
 /// Each call with the answers that a history can bring about: three comes only from bytes
 /// that no call wrote.
-const ANSWERS: [(&str, &[usize]); 6] = [
+const ANSWERS: [(&str, &[usize]); 7] = [
     ("open", &[0, 1, 8]),
     ("insert", &[0, 1, 2, 5, 6, 7]),
     ("lookup", &[0, 1, 2, 4]),
     ("newest", &[0, 1, 2, 4]),
+    ("has_any", &[0, 1, 2]),
     ("list", &[0, 1]),
     ("sync", &[0, 1, 8]),
 ];
 
 /// What else is counted and can be reached at any capacity.
-const NAMED: [&str; 42] = [
+const NAMED: [&str; 50] = [
     "histories",
     "histories ending with a leaf as root",
     "histories ending with a root of kind 2",
@@ -69,9 +71,17 @@ const NAMED: [&str; 42] = [
     "mixes with a set between the extremes",
     "mixes with the counter spent",
     "mixes of a tree with a lost page",
+    "reports of an unsound page",
+    "reports of a page of another kind",
+    "reports of a page of another birth",
+    "reports of two mends and more",
+    "reports beside a refusal",
     "newest below a provisional one",
     "newest of provisional ones only",
     "newest that leaves a lost page of its meter",
+    "meters with a certificate",
+    "meters without one",
+    "has-any that leaves a lost page of its meter",
 ];
 
 /// Reached only where a page that has just been split off, or a new root, has room: not where

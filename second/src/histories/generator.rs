@@ -15,6 +15,7 @@ enum Choice {
     Insert,
     Lookup,
     Newest,
+    HasAny,
     List,
     Sync,
     Open,
@@ -24,10 +25,11 @@ enum Choice {
     Misfit,
 }
 
-const CHOICES: [Choice; 10] = [
+const CHOICES: [Choice; 11] = [
     Choice::Insert,
     Choice::Lookup,
     Choice::Newest,
+    Choice::HasAny,
     Choice::List,
     Choice::Sync,
     Choice::Open,
@@ -135,7 +137,15 @@ impl Generator {
         if crash && player.differing().count_ones() < 2 && !self.rng.once_in(4) {
             choice = Choice::Insert;
         }
-        choice
+        // A lost page is worth splits beside it and another crash before a list mends it.
+        let lost = player.tree.as_ref().map_or(0, |tree| tree.lost().count());
+        match choice {
+            Choice::List if lost > 0 => {
+                self.rng
+                    .one_of(&[Choice::Insert, Choice::Mix, choice, choice])
+            }
+            _ => choice,
+        }
     }
 
     fn call(&mut self, player: &Player) -> Call {
@@ -154,6 +164,10 @@ impl Generator {
             Choice::Newest => {
                 let (model, serial) = self.any_meter(player);
                 Call::Newest { model, serial }
+            }
+            Choice::HasAny => {
+                let (model, serial) = self.any_meter(player);
+                Call::HasAny { model, serial }
             }
             Choice::List => self.list(player),
             Choice::Sync => Call::Sync,

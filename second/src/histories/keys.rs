@@ -36,6 +36,7 @@ impl Patterns {
         let all = [
             Pattern::Ascending,
             Pattern::Ascending,
+            Pattern::Ascending,
             Pattern::Descending,
             Pattern::Clustered,
             Pattern::Meters,
@@ -77,14 +78,15 @@ impl Patterns {
         }
     }
 
-    /// Keys to start with, the first one last. In two passes each meter gets its second issue
-    /// after all have their first: leaves that were left half full then fill up.
+    /// Keys to start with, the first one last. In two passes each meter gets its second issue, or a
+    /// provisional one, after all have their first: leaves that were left half full then fill up.
     pub fn load(&mut self, count: usize, rng: &Rng) -> Vec<u64> {
         let in_order = matches!(self.pattern, Pattern::Ascending | Pattern::Descending);
         let twice = in_order && !rng.once_in(3);
         let mut keys: Vec<u64> = (0..count).map(|_| self.key(rng)).collect();
         if twice {
-            keys.extend(keys.clone().iter().map(|key| key + 1));
+            let step = rng.one_of(&[1, u64::from(LAST_FINAL)]);
+            keys.extend(keys.clone().iter().map(|key| key + step));
         }
         keys.reverse();
         keys

@@ -81,6 +81,9 @@ impl Player {
         let tree =
             Tree::good(&store.working, store.session.n).ok_or("the opened tree is damaged")?;
         let found = Set::of(tree.entries());
+        if store.session.total as usize != found.len() {
+            return Err("the opening counts another total".to_string());
+        }
         self.between(&found, mix.pages, differ)?;
         if self.watch == Watch::Invariants {
             invariant::check(&store)?;

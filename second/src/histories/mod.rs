@@ -9,6 +9,7 @@ mod observe;
 mod player;
 mod set;
 mod shrink;
+mod told;
 
 pub use call::{Call, Mix, PageSet};
 pub use counters::Counters;

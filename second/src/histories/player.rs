@@ -12,6 +12,7 @@ use crate::key::{issues, parts, whole};
 use crate::layout::{zero, INNER_CAP, KIND_TOP, LAST_FINAL, LAST_NUMBER, LEVELS, PAGE};
 use crate::page::{self, Header};
 use crate::place::Place;
+use crate::report::Report;
 use crate::session::Session;
 use crate::store::Store;
 use crate::tree::Tree;
@@ -40,9 +41,9 @@ pub struct Player {
     pub(super) crashed: bool,
 }
 
-type Played = Result<(), String>;
+pub(super) type Played = Result<(), String>;
 
-fn must(holds: bool, what: impl FnOnce() -> String) -> Played {
+pub(super) fn must(holds: bool, what: impl FnOnce() -> String) -> Played {
     if holds {
         Ok(())
     } else {
@@ -70,6 +71,7 @@ impl Player {
             Call::Insert { key, record } => self.insert(key, record, counters)?,
             Call::Lookup { key } => self.lookup(key, counters)?,
             Call::Newest { model, serial } => self.newest(model, serial, counters)?,
+            Call::HasAny { model, serial } => self.has_any(model, serial, counters)?,
             Call::List {
                 start,
                 keys,
@@ -86,7 +88,14 @@ impl Player {
         must(!next.call.reads() || self.store.session == session, || {
             "a reading call changed the session".to_string()
         })?;
-        if next.quiet || self.over {
+        if self.over {
+            return Ok(());
+        }
+        let total = self.store.session.total as usize;
+        must(total == self.now.len(), || {
+            format!("the total is {total}, not {}", self.now.len())
+        })?;
+        if next.quiet {
             self.tree = None;
             return Ok(());
         }
@@ -109,11 +118,22 @@ impl Player {
         must(self.now.same(tree.entries()), || {
             "W shows another set than was inserted".to_string()
         })?;
+        self.total_is_listed()?;
         if let Some(before) = self.tree.take() {
             self.count_changes(&before, &tree, counters);
         }
         self.tree = Some(tree);
         Ok(())
+    }
+
+    /// The total is the length of a listing from key 0 with room enough.
+    fn total_is_listed(&self) -> Played {
+        let room = self.now.len() + 1;
+        let (mut keys, mut records) = (vec![0; room], vec![0; room]);
+        let (_, count) = self.store.clone().list(0, &mut keys, &mut records);
+        must(count == self.store.session.total as usize, || {
+            format!("{count} entries are listed, the total is another")
+        })
     }
 
     pub fn root_kind(&self) -> u16 {
@@ -123,6 +143,7 @@ impl Player {
 
     fn insert(&mut self, key: u64, record: u32, counters: &mut Counters) -> Played {
         let before = self.store.session;
+        let tells = self.walk_tells_of(key);
         let answer = self.store.insert(key, record);
         self.answer = answer;
         counters.answer(Counted::Insert, answer);
@@ -139,7 +160,8 @@ impl Player {
         })?;
         must(answer == DONE || self.store.session == before, || {
             "a refused insert changed the session".to_string()
-        })
+        })?;
+        self.told(tells, answer, counters)
     }
 
     /// After a sync the same insert is done, or wants pages.
@@ -173,6 +195,7 @@ impl Player {
     }
 
     fn lookup(&mut self, key: u64, counters: &mut Counters) -> Played {
+        let tells = self.walk_tells_of(key);
         let (answer, record) = self.store.lookup(key);
         counters.answer(Counted::Lookup, answer);
         let expected = match self.now.get(key) {
@@ -185,13 +208,15 @@ impl Player {
                 "lookup of {:?} answers {answer}, record {record}",
                 parts(key)
             )
-        })
+        })?;
+        self.told(tells, answer, counters)
     }
 
     fn newest(&mut self, model: u16, serial: u32, counters: &mut Counters) -> Played {
+        let asked = issues(model, serial, LAST_FINAL);
+        let tells = self.meter_tells((model, serial), LAST_FINAL, usize::MAX);
         let (answer, issue, record) = self.store.newest(model, serial);
         counters.answer(Counted::Newest, answer);
-        let asked = issues(model, serial, LAST_FINAL);
         let expected = match self.now.range(asked.clone()).last() {
             _ if model == 0 || serial == 0 => (BADKEY, 0, 0),
             Some((key, record)) => (DONE, parts(key).2, record),
@@ -205,7 +230,8 @@ impl Player {
         }
         must(answer == BADKEY || self.has_mended(&asked), || {
             format!("newest of {model} {serial} mends other pages than it asks for")
-        })
+        })?;
+        self.told(tells, answer, counters)
     }
 
     /// Whether of the places that were lost before exactly those that meet this range are mended.
@@ -217,11 +243,35 @@ impl Player {
         })
     }
 
+    fn has_any(&mut self, model: u16, serial: u32, counters: &mut Counters) -> Played {
+        let tells = self.meter_tells((model, serial), u16::MAX, 1);
+        let left = tells != self.meter_tells((model, serial), u16::MAX, usize::MAX);
+        counters.add_if(left, "has-any that leaves a lost page of its meter");
+        let (answer, any) = self.store.has_any(model, serial);
+        counters.answer(Counted::HasAny, answer);
+        let mut all = self.now.range(issues(model, serial, u16::MAX));
+        let expected = match (model, serial) {
+            (0, _) | (_, 0) => (BADKEY, false),
+            _ => (DONE, all.next().is_some()),
+        };
+        if answer == DONE {
+            counters.add(match any {
+                true => "meters with a certificate",
+                false => "meters without one",
+            });
+        }
+        must((answer, any) == expected, || {
+            format!("has any of {model} {serial} answers {answer}, {any}")
+        })?;
+        self.told(tells, answer, counters)
+    }
+
     fn list(&mut self, start: u64, keys: usize, records: usize, counters: &mut Counters) -> Played {
+        let room = keys.min(records);
+        let tells = self.walk_tells(start..=u64::MAX, room);
         let (mut key_list, mut record_list) = (vec![u64::MAX; keys], vec![u32::MAX; records]);
         let (answer, count) = self.store.list(start, &mut key_list, &mut record_list);
         counters.answer(Counted::List, answer);
-        let room = keys.min(records);
         let all: Vec<_> = self.now.range(start..=u64::MAX).take(room).collect();
         let filled = key_list.iter().copied().zip(record_list.iter().copied());
         let good = answer == DONE
@@ -238,7 +288,8 @@ impl Player {
         });
         must(good, || {
             format!("list from {start} answers {answer}, {count} entries")
-        })
+        })?;
+        self.told(tells, answer, counters)
     }
 
     fn sync(&mut self, counters: &mut Counters) -> Played {
@@ -275,15 +326,17 @@ impl Player {
             other.stable.resize(pages * PAGE, 0);
         }
         let before = other.clone();
-        let mut answered = |call, answer| {
+        let mut answered = |call, answer, report| {
             counters.answer(call, answer);
-            answer == LENGTH
+            answer == LENGTH && report == Report::default()
         };
-        let refused = answered(Counted::Insert, other.insert(1, 1))
-            && answered(Counted::Lookup, other.lookup(1).0)
-            && answered(Counted::Newest, other.newest(0, 1).0)
-            && answered(Counted::List, other.list(0, &mut [0], &mut [0]).0)
-            && answered(Counted::Sync, other.sync())
+        let list = |store: &mut Store| store.list(0, &mut [0], &mut [0]).0;
+        let refused = answered(Counted::Insert, other.insert(1, 1), other.report)
+            && answered(Counted::Lookup, other.lookup(1).0, other.report)
+            && answered(Counted::Newest, other.newest(0, 1).0, other.report)
+            && answered(Counted::HasAny, other.has_any(0, 1).0, other.report)
+            && answered(Counted::List, list(&mut other), other.report)
+            && answered(Counted::Sync, other.sync(), other.report)
             && other == before;
         must(refused, || "a wrong length was taken".to_string())?;
         if other.session.n == self.store.session.n {

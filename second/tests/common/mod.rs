@@ -75,11 +75,7 @@ pub fn by_hand(n: u16, root: u16, previous: u16, pages: &[(u16, Page)]) -> Store
     for (number, page) in pages {
         *page_mut(&mut table, *number) = *page;
     }
-    Store {
-        working: table.clone(),
-        stable: table,
-        session: Session::new(n, NOW),
-    }
+    Store::of(table.clone(), table, Session::new(n, NOW))
 }
 
 /// The header of a page in the working table.

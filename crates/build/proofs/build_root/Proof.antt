@@ -40,7 +40,7 @@ returns c =
     let write-child = c .before .before .before .before .before .before .before .before .before .before .write-child in
     let a = c .before .before .before .before .before .before .before .before .before .before .before .before .before .args in
     let pre = c .before .before .before .before .before .before .before .before .before .before .before .before .before .pre in
-    rw (header .ensures, clear .ensures, write-child .ensures) (root-built (a .table .now) (a .to) (a .kind) (a .c) (newChild (a .birth) (a .key) (a .child) (a .previous)) pre)
+    rw (header .ensures, clear .ensures, write-child .ensures) (root-built (a .table .now) (a .to) (a .kind) (a .c) (newChild (a .birth) (a .key) (a .child) (a .previous)) (pre .0) (pre .1))
 
 pub build-root-spec : {M : Type 1} → statement M
 build-root-spec =

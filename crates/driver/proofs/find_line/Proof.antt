@@ -1,5 +1,9 @@
 -- `driver::find_line` meets its contract. Assumes nothing.
 use mathlib.Core.Path.{ap}
+use Rattle.rules.specs.Report.{Reported}
+use Rattle.rules.specs.Reports.{lookupReported}
+use Rattle.rules.specs.Call.{Left}
+use Rattle.rules.specs.declared.Looked.{Looked}
 use Rattle.driver.specs.Acts.{acted, told, lookedReply}
 use borrow.Author.Needs.{needs}
 use Rattle.driver.proofs.find_line.Statement.{statement}
@@ -15,8 +19,8 @@ same-length : tie.Need-same-length
 same-length c = search needs
 
 returns : tie.Need-returns
-unfolding acted
-returns c = rw (c .looked-reply .ensures) (ap (told lookedReply) (c .before .before .before .before .lookup .ensures))
+unfolding acted lookupReported
+returns c = rw (c .looked-reply .ensures) (ap (λ (y : Reported (Left Looked)). told lookedReply (y .left)) (c .before .before .before .before .lookup .ensures))
 
 pub find-line-spec : {M : Type 1} → statement M
 find-line-spec = tie.close (tie.spec lookup-requires looked-reply-requires same-length returns)

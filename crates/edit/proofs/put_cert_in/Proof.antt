@@ -2,6 +2,7 @@
 -- Assumes nothing.
 use mathlib.Core.Path.{_≡_, sym}
 use Rattle.fields.specs.Field.{leAt}
+use Rattle.rules.specs.Layout.{leafHeader}
 use Rattle.entries.specs.Spot.{newCert, spotOf, keysIn}
 use Rattle.edit.proofs.Edits.{spot-below, leaf-room, cert-bytes}
 use native.Mathlib.Omega.{arith}
@@ -28,7 +29,7 @@ mul-at c =
     let a = c .before .before .before .before .before .args in
     let pre = c .before .before .before .before .before .pre in
     omega
-    (arith, get16 .ensures, spot-below 12 (get16 .result) (a .key) (spot .result) (a .page .now) (spot .ensures), leaf-room (a .page .now) (a .key) (pre .1))
+    (arith, get16 .ensures, spot-below leafHeader 12 (get16 .result) (a .key) (spot .result) (a .page .now) (spot .ensures), leaf-room (a .page .now) (a .key) (pre .1))
 
 add-at : tie.Need-add-at
 add-at c =
@@ -37,7 +38,7 @@ add-at c =
     let a = c .before .before .before .before .before .args in
     let pre = c .before .before .before .before .before .pre in
     omega
-    (arith, get16 .ensures, spot-below 12 (get16 .result) (a .key) (spot .result) (a .page .now) (spot .ensures), leaf-room (a .page .now) (a .key) (pre .1))
+    (arith, get16 .ensures, spot-below leafHeader 12 (get16 .result) (a .key) (spot .result) (a .page .now) (spot .ensures), leaf-room (a .page .now) (a .key) (pre .1))
 
 cast-move-up : tie.Need-cast-move-up
 cast-move-up c = search needs
@@ -54,7 +55,7 @@ move-up-requires c κs =
     let a = c .before .before .before .before .before .before .args in
     let spot = c .before .spot in
     let pre = c .before .before .before .before .before .before .pre in (
-      omega (arith, spot-below 12 (get16 .result) (a .key) (spot .result) (a .page .now) (spot .ensures)),
+      omega (arith, spot-below leafHeader 12 (get16 .result) (a .key) (spot .result) (a .page .now) (spot .ensures)),
       omega (arith, get16 .ensures, pre .0, leaf-room (a .page .now) (a .key) (pre .1)),
     )
 
@@ -66,7 +67,7 @@ write-cert-requires c κs =
     let a = c .before .before .before .before .before .before .before .before .before .before .args in
     let spot = c .before .before .before .before .before .spot in
     omega
-    (arith, get16 .ensures, pre .0, move-up .kept .0, spot-below 12 (get16 .result) (a .key) (spot .result) (a .page .now) (spot .ensures), leaf-room (a .page .now) (a .key) (pre .1))
+    (arith, get16 .ensures, pre .0, move-up .kept .0, spot-below leafHeader 12 (get16 .result) (a .key) (spot .result) (a .page .now) (spot .ensures), leaf-room (a .page .now) (a .key) (pre .1))
 
 add-stamp : tie.Need-add-stamp
 add-stamp c =
@@ -92,7 +93,7 @@ returns c =
     let move-up = c .before .before .before .before .before .before .before .before .before .before .move-up in
     let slice-known = c .before .before .before .before .before .before .before .before .before .before .before .before .before .before .before .before .slice-known in
     let pre = c .before .before .before .before .before .before .before .before .before .before .before .before .before .before .before .before .before .pre in
-    let e : spot .result ≡ spotOf (a .key) (keysIn 12 (leAt (a .page .now) 2 2) (a .page .now)) = rw (get16 .ensures)
+    let e : spot .result ≡ spotOf (a .key) (keysIn leafHeader 12 (leAt (a .page .now) 2 2) (a .page .now)) = rw (get16 .ensures)
     at (spot .ensures) in
     rw (stamp .ensures, write-cert .ensures, move-up .ensures, get16 .ensures)
     (sym (cert-bytes (a .page .now) (newCert (a .key) (a .value)) (a .c) (spot .result) (slice-known .given) (pre .0) (pre .1) e))

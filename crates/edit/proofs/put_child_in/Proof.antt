@@ -2,6 +2,7 @@
 -- Assumes nothing.
 use mathlib.Core.Path.{_≡_, sym}
 use Rattle.fields.specs.Field.{leAt}
+use Rattle.rules.specs.Layout.{innerHeader}
 use Rattle.rules.specs.Insert.{newChild}
 use Rattle.entries.specs.Spot.{spotOf, keysIn}
 use Rattle.edit.proofs.Edits.{spot-below, inner-room, child-bytes}
@@ -31,7 +32,7 @@ mul-at c =
     let a = c .before .before .before .before .before .args in
     let pre = c .before .before .before .before .before .pre in
     omega
-    (arith, get16 .ensures, spot-below 16 (get16 .result) (a .key) (spot .result) (a .page .now) (spot .ensures), inner-room (a .page .now) (pre .1 .inner) (pre .1 .room))
+    (arith, get16 .ensures, spot-below innerHeader 16 (get16 .result) (a .key) (spot .result) (a .page .now) (spot .ensures), inner-room (a .page .now) (pre .1 .inner) (pre .1 .room))
 
 add-at : tie.Need-add-at
 add-at c =
@@ -40,7 +41,7 @@ add-at c =
     let a = c .before .before .before .before .before .args in
     let pre = c .before .before .before .before .before .pre in
     omega
-    (arith, get16 .ensures, spot-below 16 (get16 .result) (a .key) (spot .result) (a .page .now) (spot .ensures), inner-room (a .page .now) (pre .1 .inner) (pre .1 .room))
+    (arith, get16 .ensures, spot-below innerHeader 16 (get16 .result) (a .key) (spot .result) (a .page .now) (spot .ensures), inner-room (a .page .now) (pre .1 .inner) (pre .1 .room))
 
 cast-move-up : tie.Need-cast-move-up
 cast-move-up c = search needs
@@ -57,7 +58,7 @@ move-up-requires c κs =
     let a = c .before .before .before .before .before .before .args in
     let spot = c .before .spot in
     let pre = c .before .before .before .before .before .before .pre in (
-      omega (arith, spot-below 16 (get16 .result) (a .key) (spot .result) (a .page .now) (spot .ensures)),
+      omega (arith, spot-below innerHeader 16 (get16 .result) (a .key) (spot .result) (a .page .now) (spot .ensures)),
       omega (arith, get16 .ensures, pre .0, inner-room (a .page .now) (pre .1 .inner) (pre .1 .room)),
     )
 
@@ -69,7 +70,7 @@ write-child-requires c κs =
     let a = c .before .before .before .before .before .before .before .before .before .before .args in
     let spot = c .before .before .before .before .before .spot in
     omega
-    (arith, get16 .ensures, pre .0, move-up .kept .0, spot-below 16 (get16 .result) (a .key) (spot .result) (a .page .now) (spot .ensures), inner-room (a .page .now) (pre .1 .inner) (pre .1 .room))
+    (arith, get16 .ensures, pre .0, move-up .kept .0, spot-below innerHeader 16 (get16 .result) (a .key) (spot .result) (a .page .now) (spot .ensures), inner-room (a .page .now) (pre .1 .inner) (pre .1 .room))
 
 add-stamp : tie.Need-add-stamp
 add-stamp c =
@@ -95,7 +96,7 @@ returns c =
     let move-up = c .before .before .before .before .before .before .before .before .before .before .move-up in
     let slice-known = c .before .before .before .before .before .before .before .before .before .before .before .before .before .before .before .before .slice-known in
     let pre = c .before .before .before .before .before .before .before .before .before .before .before .before .before .before .before .before .before .pre in
-    let e : spot .result ≡ spotOf (a .key) (keysIn 16 (leAt (a .page .now) 2 2) (a .page .now)) = rw (get16 .ensures)
+    let e : spot .result ≡ spotOf (a .key) (keysIn innerHeader 16 (leAt (a .page .now) 2 2) (a .page .now)) = rw (get16 .ensures)
     at (spot .ensures) in
     rw (stamp .ensures, write-child .ensures, move-up .ensures, get16 .ensures)
     (sym (child-bytes (a .page .now) (newChild (a .c) (a .key) (a .child) (a .previous)) (a .c) (spot .result) (slice-known .given) (pre .0) e (pre .1)))

@@ -2,6 +2,7 @@
 -- Assumes nothing.
 use mathlib.Core.Path.{_≡_, sym}
 use Rattle.fields.specs.Field.{leAt}
+use Rattle.rules.specs.Layout.{innerHeader}
 use Rattle.rules.specs.Insert.{newChild}
 use Rattle.entries.specs.Spot.{spotOf, keysIn}
 use Rattle.edit.proofs.Edits.{spot-below, inner-room, other-spot, other-bytes}
@@ -42,7 +43,7 @@ mul-write-child c =
     let spot = c .before .spot in
     let pre = c .before .before .before .before .before .before .pre in
     omega
-    (arith, get16 .ensures, spot-below 16 (get16 .result) (a .key) (spot .result) (a .page .now) (spot .ensures), inner-room (a .page .now) (pre .1 .inner) (pre .1 .room))
+    (arith, get16 .ensures, spot-below innerHeader 16 (get16 .result) (a .key) (spot .result) (a .page .now) (spot .ensures), inner-room (a .page .now) (pre .1 .inner) (pre .1 .room))
 
 add-write-child : tie.Need-add-write-child
 add-write-child c =
@@ -51,7 +52,7 @@ add-write-child c =
     let spot = c .before .spot in
     let pre = c .before .before .before .before .before .before .pre in
     omega
-    (arith, get16 .ensures, spot-below 16 (get16 .result) (a .key) (spot .result) (a .page .now) (spot .ensures), inner-room (a .page .now) (pre .1 .inner) (pre .1 .room))
+    (arith, get16 .ensures, spot-below innerHeader 16 (get16 .result) (a .key) (spot .result) (a .page .now) (spot .ensures), inner-room (a .page .now) (pre .1 .inner) (pre .1 .room))
 
 write-child-requires : tie.Need-write-child-requires
 write-child-requires c κs =
@@ -60,7 +61,7 @@ write-child-requires c κs =
     let a = c .before .before .before .before .before .before .args in
     let spot = c .before .spot in
     omega
-    (arith, get16 .ensures, pre .0, spot-below 16 (get16 .result) (a .key) (spot .result) (a .page .now) (spot .ensures), inner-room (a .page .now) (pre .1 .inner) (pre .1 .room))
+    (arith, get16 .ensures, pre .0, spot-below innerHeader 16 (get16 .result) (a .key) (spot .result) (a .page .now) (spot .ensures), inner-room (a .page .now) (pre .1 .inner) (pre .1 .room))
 
 stamp-requires : tie.Need-stamp-requires
 stamp-requires c κs = search needs
@@ -78,7 +79,7 @@ returns c =
     let write-child = c .before .before .before .before .before .before .write-child in
     let slice-known = c .before .before .before .before .before .before .before .before .before .before .before .before .slice-known in
     let pre = c .before .before .before .before .before .before .before .before .before .before .before .before .before .pre in
-    let e : spot .result ≡ spotOf (a .key) (keysIn 16 (leAt (a .page .now) 2 2) (a .page .now)) = rw (get16 .ensures)
+    let e : spot .result ≡ spotOf (a .key) (keysIn innerHeader 16 (leAt (a .page .now) 2 2) (a .page .now)) = rw (get16 .ensures)
     at (spot .ensures) in
     rw (stamp .ensures, write-child .ensures, get16 .ensures)
     (sym (other-bytes (a .page .now) (newChild (a .c) (a .key) (a .child) (a .previous)) (a .c) (spot .result) (slice-known .given) (pre .0) e (pre .1)))

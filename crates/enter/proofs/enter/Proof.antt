@@ -1,9 +1,13 @@
 -- `enter::enter`: above, fitting, or lost.
 -- Assumes nothing.
+use mathlib.Core.Path.{sym, ap, _∙_}
+use mathlib.Core.Bool.{true, false}
+use Rattle.rules.specs.Place.{isNone, fits}
+use Rattle.rules.specs.Enter as rules
+use Rattle.rules.specs.Report.{reasonAt}
+use Rattle.enter.specs.Entering.{told, aboveOf, entering}
 use Rattle.enter.specs.declared.Entered.{Entered}
 use Rattle.enter.proofs.Mended.{head-read}
-use mathlib.Core.Path.{sym, ap, _∙_}
-use Rattle.enter.specs.Entering.{told, aboveOf, entering}
 use Rattle.enter.proofs.Told.{enter-above, enter-fits, enter-lost}
 use borrow.Author.Needs.{needs}
 use Rattle.enter.proofs.enter.Statement.{statement}
@@ -13,13 +17,13 @@ stands-above-requires : tie.Need-stands-above-requires
 stands-above-requires c κs = search needs
 
 returns : tie.Need-returns
-returns c =
-    let args = c .before .before .before .args in
-    enter-above (args .n) (args .c) (args .t .now) (args .e) (aboveOf (args .above))
-    (sym (c .before .stands-above .ensures) ∙ c .if1 .taken)
+returns c = enter-above (c .before .before .before .args .n) (c .before .before .before .args .c) (c .before .before .before .args .t .now) (c .before .before .before .args .e) (reasonAt (c .before .before .before .args .n) (c .before .before .before .args .t .now) (c .before .before .before .args .e)) (aboveOf (c .before .before .before .args .above)) (sym (c .before .stands-above .ensures) ∙ c .if1 .taken)
 
-fits-at-requires : tie.Need-fits-at-requires
-fits-at-requires c κs = search needs
+unfit-at-requires : tie.Need-unfit-at-requires
+unfit-at-requires c κs = search needs
+
+is-none-requires : tie.Need-is-none-requires
+is-none-requires c κs = search needs
 
 cast-head-at : tie.Need-cast-head-at
 cast-head-at c = search needs
@@ -31,15 +35,17 @@ same-length : tie.Need-same-length
 same-length c = search needs
 
 returns-2 : tie.Need-returns-2
+unfolding fits reasonAt
 returns-2 c =
-    let args = c .before .before .before .before .before .before .before .before .before .args in
-    let stands-above = c .before .before .before .before .before .before .before .stands-above in
-    let if1 = c .before .before .before .before .before .before .if1 in
-    let fits-at = c .before .before .before .before .fits-at in
-    ap (λ a. entering (args .t .now) (Entered.Page a))
-    (head-read (args .t .now) (args .e .child) (c .head-at .ensures))
-    ∙ enter-fits (args .n) (args .c) (args .t .now) (args .e) (aboveOf (args .above))
-    (sym (stands-above .ensures) ∙ if1 .left) (sym (fits-at .ensures) ∙ c .before .before .before .if2 .taken)
+    let args = c .before .before .before .before .before .before .before .before .before .before .args in
+    let why = c .before .before .before .before .before .unfit-at .ensures in
+    cc (
+      ap (λ a. entering (args .t .now) (Entered.Page a (reasonAt (args .n) (args .t .now) (args .e))))
+          (head-read (args .t .now) (args .e .child) (c .head-at .ensures))
+          ∙ enter-fits (args .n) (args .c) (args .t .now) (args .e) (reasonAt (args .n) (args .t .now) (args .e)) (aboveOf (args .above))
+          (sym (c .before .before .before .before .before .before .before .before .stands-above .ensures) ∙ c .before .before .before .before .before .before .before .if1 .left) (sym (c .before .before .before .before .is-none .ensures ∙ ap isNone why) ∙ c .before .before .before .if2 .taken),
+      why,
+    )
 
 mend-requires : tie.Need-mend-requires
 mend-requires c κs = search needs
@@ -48,14 +54,13 @@ same-length-2 : tie.Need-same-length-2
 same-length-2 c = search needs
 
 returns-3 : tie.Need-returns-3
+unfolding fits reasonAt
 returns-3 c =
-    let args = c .before .before .before .before .before .before .before .before .before .before .args in
-    let stands-above = c .before .before .before .before .before .before .before .before .stands-above in
-    let if1 = c .before .before .before .before .before .before .before .if1 in
-    let fits-at = c .before .before .before .before .before .fits-at in
-    let if2 = c .before .before .before .before .if2 in
-    (c .before .before .mend .ensures) ∙ ap told
-    (sym (enter-lost (args .n) (args .c) (args .t .now) (args .e) (aboveOf (args .above)) (sym (stands-above .ensures) ∙ if1 .left) (sym (fits-at .ensures) ∙ if2 .left)))
+    let args = c .before .before .before .before .before .before .before .before .before .before .before .args in
+    let why = c .before .before .before .before .before .before .unfit-at .ensures in
+    c .before .before .mend .ensures ∙ ap (λ r. told r (rules.mend (args .n) (args .c) (args .t .now) (args .e))) why ∙ ap (told (reasonAt (args .n) (args .t .now) (args .e)))
+    (sym (enter-lost (args .n) (args .c) (args .t .now) (args .e) (reasonAt (args .n) (args .t .now) (args .e)) (aboveOf (args .above)) (sym (c .before .before .before .before .before .before .before .before .before .stands-above .ensures) ∙ c .before .before .before .before .before .before .before .before .if1 .left)
+    (sym (c .before .before .before .before .before .is-none .ensures ∙ ap isNone why) ∙ c .before .before .before .before .if2 .left)))
 
 pub enter-spec : {M : Type 1} → statement M
 enter-spec =
@@ -63,7 +68,8 @@ enter-spec =
     (tie.spec
     stands-above-requires
     returns
-    fits-at-requires
+    unfit-at-requires
+    is-none-requires
     cast-head-at
     head-at-requires
     same-length

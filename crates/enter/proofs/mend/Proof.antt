@@ -22,7 +22,7 @@ returns : tie.Need-returns
 returns c =
     let args = c .before .before .before .before .args in
     let mendable-at = c .before .mendable-at in
-    mend-damaged (args .n) (args .c) (args .t .now) (args .e)
+    mend-damaged (args .n) (args .c) (args .t .now) (args .e) (args .reason)
     (sym (mendable-at .ensures) ∙ not-true (mendable-at .result) (c .if1 .taken))
 
 build-mended-requires : tie.Need-build-mended-requires
@@ -58,7 +58,7 @@ returns-2 c =
     mended-told (args .n) (args .c) (args .t .now) (args .e) (slice-known .given) record
     { counter = omega (arith, fits .c); birth = omega (arith, struct-known .given .1 .1 .0); low = omega (arith, struct-known .given .1 .1 .1 .0); high = omega (arith, struct-known .given .1 .1 .1 .1 .0) }
     (pre .0) (pre .1) (sym (mendable-at .ensures) ∙ not-false (mendable-at .result) (if1 .left))
-    (build-mended .last .0) (head-at .result) (build-mended .ensures) (head-at .ensures)
+    (build-mended .last .0) (head-at .result) (args .reason) (build-mended .ensures) (head-at .ensures)
 
 pub mend-spec : {M : Type 1} → statement M
 mend-spec =

@@ -2,7 +2,7 @@
 -- left of the count.
 -- Assumes nothing.
 use Rattle.entries.proofs.Passed.{within, spot-pass, spot-stop, spot-end}
-use native.Mathlib.Nat.{zero-add, mul-zero, sub-zero, mul-suc}
+use native.Mathlib.Nat.{zero-add, add-zero, mul-zero, sub-zero, mul-suc}
 use native.Mathlib.Numerals.{add-one}
 use native.Mathlib.Omega.{arith}
 use Prim.Native.Nat.{_≤_, _-_, _+_, _*_}
@@ -15,14 +15,14 @@ use Rattle.entries.proofs.spot.Statement.{statement}
 use Rattle.entries.proofs.spot.Tie as tie
 
 abbrev Inv-loop : tie.InvT-loop
-Inv-loop page size count key j₀ at₀ j at = (j ≤ count) × (at ≡ 32 + size * j) × (spotOf key (keysIn size count page) ≡ j + spotOf key (readEach keyIn size (count - j) (drop at page)))
+Inv-loop page header size count key j₀ at₀ j at = (j ≤ count) × (at ≡ header + size * j) × (spotOf key (keysIn header size count page) ≡ j + spotOf key (readEach keyIn size (count - j) (drop at page)))
 
 abbrev μ-loop : tie.MeasureT-loop
-μ-loop page size count key j₀ at₀ j at = count - j
+μ-loop page header size count key j₀ at₀ j at = count - j
 
 loop-holds : tie.Need-loop-holds Inv-loop μ-loop
 unfolding keysIn
-loop-holds c = (search needs, rw mul-zero, rw (sub-zero, zero-add))
+loop-holds c = (search needs, rw (mul-zero, add-zero), rw (sub-zero, zero-add))
 
 get64-requires : tie.Need-get64-requires Inv-loop μ-loop
 get64-requires c κs =

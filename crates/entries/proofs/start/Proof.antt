@@ -21,7 +21,7 @@ spot-requires c κs = search needs
 returns-2 : tie.Need-returns-2
 returns-2 c =
     let a = c .before .before .before .args in
-    c .spot .ensures ∙ sym (start-spot (a .low) (keysIn (a .size) (a .count) (a .page .now)) (omega arith))
+    c .spot .ensures ∙ sym (start-spot (a .low) (keysIn (a .header) (a .size) (a .count) (a .page .now)) (omega arith))
 
 pub start-spec : {M : Type 1} → statement M
 start-spec = tie.close (tie.spec returns sub-spot spot-requires returns-2)

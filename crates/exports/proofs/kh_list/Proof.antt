@@ -14,6 +14,9 @@ listed-requires c κs = search needs
 listed-count-requires : tie.Need-listed-count-requires
 listed-count-requires c κs = search needs
 
+reason-requires : tie.Need-reason-requires
+reason-requires c κs = search needs
+
 same-length : tie.Need-same-length
 same-length c = search needs
 
@@ -25,9 +28,9 @@ same-length-3 c = search needs
 
 returns : tie.Need-returns
 returns c =
-    let args = c .before .before .before .before .before .before .before .before .before .before .before .before .before .before .before .before .args in
-    let list = c .before .before .before .before .before .before .before .before .list in
-    rw (c .before .listed .ensures, c .listed-count .ensures)
+    let args = c .before .before .before .before .before .before .before .before .before .before .before .before .before .before .before .before .before .before .args in
+    let list = c .before .before .before .before .before .before .before .before .before .before .list in
+    rw (c .before .before .listed .ensures, c .before .listed-count .ensures, c .reason .ensures)
     (listed-same (args .working .now) (args .stable .now) (args .session) (args .start) (args .keys .now) (args .records .now) (list .result) (list .last .0) (list .last .1 .1 .1 .1 .0) (list .last .1 .1 .1 .1 .1 .0) (list .ensures))
 
 pub kh-list-spec : {M : Type 1} → statement M
@@ -37,6 +40,7 @@ kh-list-spec =
     list-requires
     listed-requires
     listed-count-requires
+    reason-requires
     same-length
     same-length-2
     same-length-3

@@ -17,14 +17,17 @@ newest-issue-requires c κs = search needs
 newest-record-requires : tie.Need-newest-record-requires
 newest-record-requires c κs = search needs
 
+reason-requires : tie.Need-reason-requires
+reason-requires c κs = search needs
+
 same-length : tie.Need-same-length
 same-length c = search needs
 
 returns : tie.Need-returns
 returns c =
-    let args = c .before .before .before .before .before .before .before .before .before .args in
-    let newest = c .before .before .before .before .before .newest in
-    rw (c .before .before .newest2 .ensures, c .before .newest-issue .ensures, c .newest-record .ensures)
+    let args = c .before .before .before .before .before .before .before .before .before .before .before .args in
+    let newest = c .before .before .before .before .before .before .before .newest in
+    rw (c .before .before .before .newest2 .ensures, c .before .before .newest-issue .ensures, c .before .newest-record .ensures, c .reason .ensures)
     (newest-same (args .working .now) (args .stable .now) (args .session) (args .model) (args .serial) (newest .result) (newest .last .0) (newest .ensures))
 
 pub kh-newest-spec : {M : Type 1} → statement M
@@ -35,5 +38,6 @@ kh-newest-spec =
     newest-requires-2
     newest-issue-requires
     newest-record-requires
+    reason-requires
     same-length
     returns)

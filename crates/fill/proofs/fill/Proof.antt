@@ -12,23 +12,26 @@ use Rattle.fill.proofs.fill.Statement.{statement}
 use Rattle.fill.proofs.fill.Tie as tie
 
 abbrev Inv-loop : tie.InvT-loop
-Inv-loop t₀ n c a keys₀ records₀ key₀ cursor₀ filled₀ t keys records key cursor filled = (length t ≡ length t₀) × (length keys ≡ length keys₀) × (length records ≡ length records₀) × Writing n c a t₀ keys₀ records₀ t key cursor filled keys records
+Inv-loop t₀ n c a keys₀ records₀ key₀ cursor₀ filled₀ report₀ t keys records key cursor filled report = (length t ≡ length t₀) × (length keys ≡ length keys₀) × (length records ≡ length records₀) × Writing n c a t₀ keys₀ records₀ t key cursor filled keys records report
 
 abbrev μ-loop : tie.MeasureT-loop
-μ-loop t₀ n c a keys₀ records₀ key₀ cursor₀ filled₀ t keys records key cursor filled = a .high + 1 - key
+μ-loop t₀ n c a keys₀ records₀ key₀ cursor₀ filled₀ report₀ t keys records key cursor filled report = a .high + 1 - key
 
 start-requires : tie.Need-start-requires Inv-loop μ-loop
 start-requires c κs = search needs
 
+nothing-requires : tie.Need-nothing-requires Inv-loop μ-loop
+nothing-requires c κs = search needs
+
 loop-holds : tie.Need-loop-holds Inv-loop μ-loop
 loop-holds c =
-    let pre = c .before .before .before .before .pre in
-    let fits = c .before .before .before .before .fits in
-    (refl, refl, refl, writing-begins (record { long = pre .0; bytes = c .before .before .before .slice-known .given; fit = pre .1; counter = omega (arith, fits .c) }) (pre .2) (pre .3) (pre .4) (c .start .result) (c .start .ensures))
+    let pre = c .before .before .before .before .before .pre in
+    let fits = c .before .before .before .before .before .fits in
+    (refl, refl, refl, writing-begins (record { long = pre .0; bytes = c .before .before .before .before .slice-known .given; fit = pre .1; counter = omega (arith, fits .c) }) (pre .2) (pre .3) (pre .4) (c .before .start .result) (c .before .start .ensures) (c .nothing .result) (c .nothing .ensures))
 
 next-requires : tie.Need-next-requires Inv-loop μ-loop
 next-requires c κs =
-    let pre = c .before .before .before .before .before .before .before .before .pre in
+    let pre = c .before .before .before .before .before .before .before .before .before .pre in
     let loop = c .before .before .before .loop in
     (omega (arith, loop .inv .0, pre .0), loop .inv .3 .climbing .ground .fit, loop .inv .3 .climbing .kept)
 
@@ -56,11 +59,11 @@ same-length-3 c =
 
 returns : tie.Need-returns Inv-loop μ-loop
 returns c =
-    let pre = c .before .before .before .before .before .before .before .before .before .before .before .before .before .pre in
+    let pre = c .before .before .before .before .before .before .before .before .before .before .before .before .before .before .pre in
     let loop = c .before .before .before .before .before .before .before .before .loop in
     let if1 = c .before .before .before .before .before .before .if1 in
     let next = c .before .before .before .before .next in
-    writing-damaged (loop .inv .3) (if1 .taken) (loop .key) (next .last .0) (pre .5) (ap (nexting (next .last .0)) (sym (c .enum-told .given .1)) ∙ next .ensures)
+    writing-damaged (loop .inv .3) (if1 .taken) (loop .key) (next .last .0) (pre .5) (c .enum-told .given .0 .0) (ap (nexting (next .last .0)) (sym (c .enum-told .given .1)) ∙ next .ensures)
 
 cast-page : tie.Need-cast-page Inv-loop μ-loop
 cast-page c = search needs
@@ -70,37 +73,37 @@ cast-fill-leaf-at c = search needs
 
 fill-leaf-at-requires : tie.Need-fill-leaf-at-requires Inv-loop μ-loop
 fill-leaf-at-requires c κs =
-    let loop = c .before .before .before .before .before .before .before .before .before .before .before .before .before .before .loop in
-    let if1 = c .before .before .before .before .before .before .before .before .before .before .before .before .if1 in
-    let next = c .before .before .before .before .before .before .before .before .before .before .next in
-    let leaf = c .before .before .before .before .before .before .leaf in
+    let loop = c .before .before .before .before .before .before .before .before .before .before .before .before .before .before .before .loop in
+    let if1 = c .before .before .before .before .before .before .before .before .before .before .before .before .before .if1 in
+    let next = c .before .before .before .before .before .before .before .before .before .before .before .next in
+    let leaf = c .before .before .before .before .before .before .before .leaf in
     let r = writing-reached (loop .inv .3) (if1 .taken) (loop .key) (next .last .0) (leaf .given .0 .0) (ap (nexting (next .last .0)) (sym (leaf .given .1)) ∙ next .ensures) in
     (reached-inside r, reached-count r, reached-rises r, omega (arith, if1 .taken), roomy-from (loop .inv .3 .roomy))
 
 same-length-4 : tie.Need-same-length-4 Inv-loop μ-loop
 same-length-4 c =
-    let loop = c .before .before .before .before .before .before .before .before .before .before .before .before .before .before .before .before .before .before .before .before .before .before .loop in
-    let next = c .before .before .before .before .before .before .before .before .before .before .before .before .before .before .before .before .before .before .next in
+    let loop = c .before .before .before .before .before .before .before .before .before .before .before .before .before .before .before .before .before .before .before .before .before .before .before .loop in
+    let next = c .before .before .before .before .before .before .before .before .before .before .before .before .before .before .before .before .before .before .before .next in
     omega (arith, next .kept .0, loop .inv .0)
 
 same-length-5 : tie.Need-same-length-5 Inv-loop μ-loop
 same-length-5 c =
-    let loop = c .before .before .before .before .before .before .before .before .before .before .before .before .before .before .before .before .before .before .before .before .before .before .loop in
+    let loop = c .before .before .before .before .before .before .before .before .before .before .before .before .before .before .before .before .before .before .before .before .before .before .before .loop in
     let fill-leaf-at = c .before .before .before .before .before .before .before .fill-leaf-at in
     omega (arith, fill-leaf-at .kept .1 .1 .1 .1 .0, loop .inv .1)
 
 same-length-6 : tie.Need-same-length-6 Inv-loop μ-loop
 same-length-6 c =
-    let loop = c .before .before .before .before .before .before .before .before .before .before .before .before .before .before .before .before .before .before .before .before .before .before .loop in
+    let loop = c .before .before .before .before .before .before .before .before .before .before .before .before .before .before .before .before .before .before .before .before .before .before .before .loop in
     let fill-leaf-at = c .before .before .before .before .before .before .before .fill-leaf-at in
     omega (arith, fill-leaf-at .kept .1 .1 .1 .1 .1 .0, loop .inv .2)
 
 returns-2 : tie.Need-returns-2 Inv-loop μ-loop
 returns-2 c =
-    let loop = c .before .before .before .before .before .before .before .before .before .before .before .before .before .before .before .before .before .before .before .before .before .before .loop in
-    let if1 = c .before .before .before .before .before .before .before .before .before .before .before .before .before .before .before .before .before .before .before .before .if1 in
-    let next = c .before .before .before .before .before .before .before .before .before .before .before .before .before .before .before .before .before .before .next in
-    let leaf = c .before .before .before .before .before .before .before .before .before .before .before .before .before .before .leaf in
+    let loop = c .before .before .before .before .before .before .before .before .before .before .before .before .before .before .before .before .before .before .before .before .before .before .before .loop in
+    let if1 = c .before .before .before .before .before .before .before .before .before .before .before .before .before .before .before .before .before .before .before .before .before .if1 in
+    let next = c .before .before .before .before .before .before .before .before .before .before .before .before .before .before .before .before .before .before .before .next in
+    let leaf = c .before .before .before .before .before .before .before .before .before .before .before .before .before .before .before .leaf in
     let fill-leaf-at = c .before .before .before .before .before .before .before .fill-leaf-at in
     writing-ends (loop .inv .3) (if1 .taken) (loop .key) (next .last .0) (leaf .given .0 .0) (ap (nexting (next .last .0)) (sym (leaf .given .1)) ∙ next .ensures) (fill-leaf-at .result) (fill-leaf-at .last .1 .1 .1 .1 .0) (fill-leaf-at .last .1 .1 .1 .1 .1 .0) (fill-leaf-at .ensures) (omega (arith, c .if2 .taken))
 
@@ -109,18 +112,18 @@ add-key c = search needs
 
 loop-less : tie.Need-loop-less Inv-loop μ-loop
 loop-less c =
-    let loop = c .before .before .before .before .before .before .before .before .before .before .before .before .before .before .before .before .before .before .before .before .before .before .before .before .loop in
-    let if1 = c .before .before .before .before .before .before .before .before .before .before .before .before .before .before .before .before .before .before .before .before .before .before .if1 in
-    let next = c .before .before .before .before .before .before .before .before .before .before .before .before .before .before .before .before .before .before .before .before .next in
-    let leaf = c .before .before .before .before .before .before .before .before .before .before .before .before .before .before .before .before .leaf in
+    let loop = c .before .before .before .before .before .before .before .before .before .before .before .before .before .before .before .before .before .before .before .before .before .before .before .before .before .loop in
+    let if1 = c .before .before .before .before .before .before .before .before .before .before .before .before .before .before .before .before .before .before .before .before .before .before .before .if1 in
+    let next = c .before .before .before .before .before .before .before .before .before .before .before .before .before .before .before .before .before .before .before .before .before .next in
+    let leaf = c .before .before .before .before .before .before .before .before .before .before .before .before .before .before .before .before .before .leaf in
     writing-less (loop .inv .3) (if1 .taken) (loop .key) (next .last .0) (leaf .given .0 .0) (ap (nexting (next .last .0)) (sym (leaf .given .1)) ∙ next .ensures) (omega (arith, c .before .before .if2 .left))
 
 loop-again : tie.Need-loop-again Inv-loop μ-loop
 loop-again c =
-    let loop = c .before .before .before .before .before .before .before .before .before .before .before .before .before .before .before .before .before .before .before .before .before .before .before .before .loop in
-    let if1 = c .before .before .before .before .before .before .before .before .before .before .before .before .before .before .before .before .before .before .before .before .before .before .if1 in
-    let next = c .before .before .before .before .before .before .before .before .before .before .before .before .before .before .before .before .before .before .before .before .next in
-    let leaf = c .before .before .before .before .before .before .before .before .before .before .before .before .before .before .before .before .leaf in
+    let loop = c .before .before .before .before .before .before .before .before .before .before .before .before .before .before .before .before .before .before .before .before .before .before .before .before .before .loop in
+    let if1 = c .before .before .before .before .before .before .before .before .before .before .before .before .before .before .before .before .before .before .before .before .before .before .before .if1 in
+    let next = c .before .before .before .before .before .before .before .before .before .before .before .before .before .before .before .before .before .before .before .before .before .next in
+    let leaf = c .before .before .before .before .before .before .before .before .before .before .before .before .before .before .before .before .before .leaf in
     let fill-leaf-at = c .before .before .before .before .before .before .before .before .before .fill-leaf-at in
     (omega (arith, next .kept .0, loop .inv .0), omega (arith, fill-leaf-at .kept .1 .1 .1 .1 .0, loop .inv .1), omega (arith, fill-leaf-at .kept .1 .1 .1 .1 .1 .0, loop .inv .2), writing-on (loop .inv .3) (if1 .taken) (loop .key) (next .last .0) (leaf .given .0 .0) (ap (nexting (next .last .0)) (sym (leaf .given .1)) ∙ next .ensures) (fill-leaf-at .result) (fill-leaf-at .last .1 .1 .1 .1 .0) (fill-leaf-at .last .1 .1 .1 .1 .1 .0) (fill-leaf-at .ensures) (omega (arith, c .before .before .if2 .left)) (roomy-kept (loop .inv .3 .roomy) (fill-leaf-at .kept .1 .1 .1 .1 .0) (fill-leaf-at .kept .1 .1 .1 .1 .1 .0)))
 
@@ -143,6 +146,7 @@ fill-spec =
     Inv-loop
     μ-loop
     start-requires
+    nothing-requires
     loop-holds
     next-requires
     enum-known-leaf

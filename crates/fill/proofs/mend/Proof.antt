@@ -10,56 +10,59 @@ use Rattle.fill.proofs.mend.Statement.{statement}
 use Rattle.fill.proofs.mend.Tie as tie
 
 abbrev Inv-loop : tie.InvT-loop
-Inv-loop t₀ n c a key₀ cursor₀ t key cursor = (length t ≡ length t₀) × Mending n c a t₀ t key cursor
+Inv-loop t₀ n c a key₀ cursor₀ report₀ t key cursor report = (length t ≡ length t₀) × Mending n c a t₀ t key cursor report
 
 abbrev μ-loop : tie.MeasureT-loop
-μ-loop t₀ n c a key₀ cursor₀ t key cursor = a .high + 1 - key
+μ-loop t₀ n c a key₀ cursor₀ report₀ t key cursor report = a .high + 1 - key
 
 start-requires : tie.Need-start-requires Inv-loop μ-loop
 start-requires c κs = search needs
 
+nothing-requires : tie.Need-nothing-requires Inv-loop μ-loop
+nothing-requires c κs = search needs
+
 loop-holds : tie.Need-loop-holds Inv-loop μ-loop
 loop-holds c =
-    let pre = c .before .before .pre in
-    (refl, mending-begins (record { long = pre .0; bytes = c .before .slice-known .given; fit = pre .1; counter = omega (arith, c .before .before .fits .c) }) (pre .2) (pre .3) (c .start .result) (c .start .ensures))
+    let pre = c .before .before .before .pre in
+    (refl, mending-begins (record { long = pre .0; bytes = c .before .before .slice-known .given; fit = pre .1; counter = omega (arith, c .before .before .before .fits .c) }) (pre .2) (pre .3) (c .before .start .result) (c .before .start .ensures) (c .nothing .result) (c .nothing .ensures))
 
 next-requires : tie.Need-next-requires Inv-loop μ-loop
 next-requires c κs =
-    let pre = c .before .before .before .before .before .before .pre in
+    let pre = c .before .before .before .before .before .before .before .pre in
     let loop = c .before .before .before .loop in
     (omega (arith, loop .inv .0, pre .0), loop .inv .1 .climbing .ground .fit, loop .inv .1 .climbing .kept)
 
-enum-known-leaf : tie.Need-enum-known-leaf Inv-loop μ-loop
-enum-known-leaf c = search needs
-
-enum-told : tie.Need-enum-told Inv-loop μ-loop
-enum-told c = search needs
+enum-known-told : tie.Need-enum-known-told Inv-loop μ-loop
+enum-known-told c = search needs
 
 same-length : tie.Need-same-length Inv-loop μ-loop
 same-length c =
-    let loop = c .before .before .before .before .before .before .before .before .loop in
-    let next = c .before .before .before .before .next in
+    let loop = c .before .before .before .before .before .before .before .before .before .loop in
+    let next = c .before .before .before .before .before .next in
     omega (arith, next .kept .0, loop .inv .0)
 
 returns : tie.Need-returns Inv-loop μ-loop
 returns c =
-    let pre = c .before .before .before .before .before .before .before .before .before .before .before .pre in
-    let loop = c .before .before .before .before .before .before .before .before .loop in
-    let next = c .before .before .before .before .next in
-    mending-stops (loop .inv .1) (pre .4) (loop .key) (next .last .0) (ap (nexting (next .last .0)) (sym (c .enum-told .given .1)) ∙ next .ensures)
+    let pre = c .before .before .before .before .before .before .before .before .before .before .before .before .before .pre in
+    let loop = c .before .before .before .before .before .before .before .before .before .loop in
+    let next = c .before .before .before .before .before .next in
+    mending-stops (loop .inv .1) (pre .4) (loop .key) (next .last .0) (c .before .told .given .0 .0) (ap (nexting (next .last .0)) (sym (c .before .told .given .1)) ∙ next .ensures)
+
+enum-known-leaf : tie.Need-enum-known-leaf Inv-loop μ-loop
+enum-known-leaf c = search needs
 
 same-length-2 : tie.Need-same-length-2 Inv-loop μ-loop
 same-length-2 c =
-    let loop = c .before .before .before .before .before .before .before .before .before .before .before .before .loop in
-    let next = c .before .before .before .before .before .before .before .before .next in
+    let loop = c .before .before .before .before .before .before .before .before .before .before .before .before .before .loop in
+    let next = c .before .before .before .before .before .before .before .before .before .next in
     omega (arith, next .kept .0, loop .inv .0)
 
 returns-2 : tie.Need-returns-2 Inv-loop μ-loop
 returns-2 c =
-    let pre = c .before .before .before .before .before .before .before .before .before .before .before .before .before .before .before .pre in
-    let loop = c .before .before .before .before .before .before .before .before .before .before .before .before .loop in
-    let next = c .before .before .before .before .before .before .before .before .next in
-    let leaf = c .before .before .before .before .leaf in
+    let pre = c .before .before .before .before .before .before .before .before .before .before .before .before .before .before .before .before .before .pre in
+    let loop = c .before .before .before .before .before .before .before .before .before .before .before .before .before .loop in
+    let next = c .before .before .before .before .before .before .before .before .before .next in
+    let leaf = c .before .before .before .before .before .leaf in
     mending-ends (loop .inv .1) (pre .4) (loop .key) (next .last .0) (leaf .given .0 .0) (ap (nexting (next .last .0)) (sym (leaf .given .1)) ∙ next .ensures) (omega (arith, c .if2 .taken))
 
 add-key : tie.Need-add-key Inv-loop μ-loop
@@ -67,18 +70,18 @@ add-key c = search needs
 
 loop-less : tie.Need-loop-less Inv-loop μ-loop
 loop-less c =
-    let pre = c .before .before .before .before .before .before .before .before .before .before .before .before .before .before .before .before .before .pre in
-    let loop = c .before .before .before .before .before .before .before .before .before .before .before .before .before .before .loop in
-    let next = c .before .before .before .before .before .before .before .before .before .before .next in
-    let leaf = c .before .before .before .before .before .before .leaf in
+    let pre = c .before .before .before .before .before .before .before .before .before .before .before .before .before .before .before .before .before .before .before .pre in
+    let loop = c .before .before .before .before .before .before .before .before .before .before .before .before .before .before .before .loop in
+    let next = c .before .before .before .before .before .before .before .before .before .before .before .next in
+    let leaf = c .before .before .before .before .before .before .before .leaf in
     mending-less (loop .inv .1) (pre .4) (loop .key) (next .last .0) (leaf .given .0 .0) (ap (nexting (next .last .0)) (sym (leaf .given .1)) ∙ next .ensures) (omega (arith, c .before .before .if2 .left))
 
 loop-again : tie.Need-loop-again Inv-loop μ-loop
 loop-again c =
-    let pre = c .before .before .before .before .before .before .before .before .before .before .before .before .before .before .before .before .before .pre in
-    let loop = c .before .before .before .before .before .before .before .before .before .before .before .before .before .before .loop in
-    let next = c .before .before .before .before .before .before .before .before .before .before .next in
-    let leaf = c .before .before .before .before .before .before .leaf in
+    let pre = c .before .before .before .before .before .before .before .before .before .before .before .before .before .before .before .before .before .before .before .pre in
+    let loop = c .before .before .before .before .before .before .before .before .before .before .before .before .before .before .before .loop in
+    let next = c .before .before .before .before .before .before .before .before .before .before .before .next in
+    let leaf = c .before .before .before .before .before .before .before .leaf in
     (omega (arith, next .kept .0, loop .inv .0), mending-on (loop .inv .1) (pre .4) (loop .key) (next .last .0) (leaf .given .0 .0) (ap (nexting (next .last .0)) (sym (leaf .given .1)) ∙ next .ensures) (omega (arith, c .before .before .if2 .left)))
 
 same-length-3 : tie.Need-same-length-3 Inv-loop μ-loop
@@ -94,12 +97,13 @@ mend-spec =
     Inv-loop
     μ-loop
     start-requires
+    nothing-requires
     loop-holds
     next-requires
-    enum-known-leaf
-    enum-told
+    enum-known-told
     same-length
     returns
+    enum-known-leaf
     same-length-2
     returns-2
     add-key

@@ -1,12 +1,18 @@
 -- `insert::insert`: the tests, the walk, then refused as decided, or done as `apply` does it.
 -- Assumes nothing.
 use Prim.Native.Nat.{ℕ}
-use mathlib.Core.Path.{refl, sym, ap, _∙_}
-use Rattle.rules.specs.Insert.{insertKey}
+use mathlib.Core.Path.{refl, sym, ap, _∙_, subst}
+use Rattle.rules.specs.Report.{Reported, nothing}
+use Rattle.rules.specs.Walk.{wayReport}
+use Rattle.rules.specs.Insert.{insertDone, insertKey}
+use Rattle.rules.specs.declared.Session.{Session}
 use Rattle.rules.proofs.bytes.Lengths.{lengthsFor-true}
 use Rattle.insert.proofs.Along.{not-done}
-use Rattle.insert.proofs.Call.{test-refused, test-passed, way-short, deciding, key-refused, key-ready, key-done}
+use Rattle.insert.proofs.Call.{told-too, passed-report, nothing-told, test-refused, test-passed, way-short, deciding, key-refused, key-ready, key-done}
 use native.Mathlib.Omega.{arith}
+use Rattle.way.specs.Ways.{Walking}
+use Rattle.apply.specs.Leads.{ReadyWay}
+use Rattle.insert.specs.Inserts.{stepsOf}
 use borrow.Author.Needs.{needs}
 use Rattle.insert.proofs.insert.Statement.{statement}
 use Rattle.insert.proofs.insert.Tie as tie
@@ -17,16 +23,23 @@ tested-requires c κs = search needs
 enum-told : tie.Need-enum-told
 enum-told c = search needs
 
+nothing-requires : tie.Need-nothing-requires
+nothing-requires c κs = search needs
+
 same-length : tie.Need-same-length
 same-length c = search needs
 
 returns : tie.Need-returns
 returns c =
-    let args = c .before .before .before .before .before .args in
-    let tested = c .before .tested in
-    test-refused (args .working .now) (args .stable .now) (args .session) (args .model) (args .serial) (args .issue)
-    (args .value) (tested .result) (tested .ensures (args .session) refl)
-    (not-done (tested .result) (c .match .keys2))
+    let args = c .before .before .before .before .before .before .args in
+    let tested = c .before .before .tested in
+    let no = not-done (tested .result) (c .before .match .keys2) in
+    told-too (args .working .now) (args .stable .now) (args .session) (args .model) (args .serial) (args .issue)
+    (args .value)
+    (test-refused (args .working .now) (args .stable .now) (args .session) (args .model) (args .serial) (args .issue)
+    (args .value) (tested .result) (tested .ensures (args .session) refl) no)
+    (c .nothing .ensures
+    ∙ sym (nothing-told (args .working .now) (args .stable .now) (args .session) (args .model) (args .serial) (args .issue) (args .value) (tested .result) (tested .ensures (args .session) refl) no))
 
 key-of-requires : tie.Need-key-of-requires
 key-of-requires c κs = search needs
@@ -46,37 +59,39 @@ way-of-requires c κs =
 
 choose-requires : tie.Need-choose-requires
 choose-requires c κs =
-    let args = c .before .before .before .before .before .before .before .before .before .before .before .before .args in
-    let slice-known = c .before .before .before .before .before .before .before .before .before .before .before .slice-known in
-    let tested = c .before .before .before .before .before .before .before .before .tested in
-    let enum-told′ = c .before .before .before .before .before .before .enum-told in
-    let key-of = c .before .before .before .before .before .key-of in
-    let way-of = c .before .before .way-of in
+    let args = c .before .before .before .before .before .before .before .before .before .before .before .before .before .args in
+    let slice-known = c .before .before .before .before .before .before .before .before .before .before .before .before .slice-known in
+    let tested = c .before .before .before .before .before .before .before .before .before .tested in
+    let enum-told′ = c .before .before .before .before .before .before .before .enum-told in
+    let key-of = c .before .before .before .before .before .before .key-of in
+    let way-of = c .before .before .before .way-of in
+    let way-is = ap (λ (y : Reported Walking). y .left) (way-of .ensures) in
     let p = test-passed (args .working .now) (args .stable .now) (args .session) (args .model) (args .serial)
     (args .issue) (args .value) (tested .result) (tested .ensures (args .session) refl) (enum-told′ .given .1) in
     let l = lengthsFor-true (args .session) (args .working .now) (args .stable .now) (p .lengths) in (
       l .most,
       way-short (key-of .result) (args .value) (args .session) (args .working .now) (l .working) (p .zero)
-          (slice-known .given) (omega arith) (omega (arith, key-of .ok)) (way-of .last .0) (way-of .result)
-          (way-of .ensures),
+          (slice-known .given) (omega (arith, c .before .before .before .before .before .before .before .before .before .before .before .before .before .good)) (omega (arith, key-of .ok)) (way-of .last .0) (way-of .result .way)
+          way-is,
     )
 
 decided-requires : tie.Need-decided-requires
 decided-requires c κs =
-    let args = c .before .before .before .before .before .before .before .before .before .before .before .before .before .before .args in
-    let good = c .before .before .before .before .before .before .before .before .before .before .before .before .before .before .good in
-    let slice-known = c .before .before .before .before .before .before .before .before .before .before .before .before .before .slice-known in
-    let tested = c .before .before .before .before .before .before .before .before .before .before .tested in
-    let enum-told′ = c .before .before .before .before .before .before .before .before .enum-told in
-    let key-of = c .before .before .before .before .before .before .before .key-of in
-    let way-of = c .before .before .before .before .way-of in
+    let args = c .before .before .before .before .before .before .before .before .before .before .before .before .before .before .before .args in
+    let good = c .before .before .before .before .before .before .before .before .before .before .before .before .before .before .before .good in
+    let slice-known = c .before .before .before .before .before .before .before .before .before .before .before .before .before .before .slice-known in
+    let tested = c .before .before .before .before .before .before .before .before .before .before .before .tested in
+    let enum-told′ = c .before .before .before .before .before .before .before .before .before .enum-told in
+    let key-of = c .before .before .before .before .before .before .before .before .key-of in
+    let way-of = c .before .before .before .before .before .way-of in
+    let way-is = ap (λ (y : Reported Walking). y .left) (way-of .ensures) in
     let choose = c .before .choose in
     let p = test-passed (args .working .now) (args .stable .now) (args .session) (args .model) (args .serial)
     (args .issue) (args .value) (tested .result) (tested .ensures (args .session) refl) (enum-told′ .given .1) in
     let l = lengthsFor-true (args .session) (args .working .now) (args .stable .now) (p .lengths) in
     deciding (key-of .result) (args .value) (args .session) (args .working .now) (l .working) (p .zero)
-    (slice-known .given) (omega (arith, good)) (omega (arith, key-of .ok)) (way-of .last .0) (way-of .result)
-    (way-of .ensures) (l .most) (omega (arith, way-of .kept .0, l .working)) (c .before .before .slice-known2 .given)
+    (slice-known .given) (omega (arith, good)) (omega (arith, key-of .ok)) (way-of .last .0) (way-of .result .way)
+    way-is (l .most) (omega (arith, way-of .kept .0, l .working)) (c .before .before .before .slice-known2 .given)
     (choose .result) (choose .ensures)
 
 enum-told-2 : tie.Need-enum-told-2
@@ -87,78 +102,98 @@ same-length-2 c = search needs
 
 returns-2 : tie.Need-returns-2
 returns-2 c =
-    let args = c .before .before .before .before .before .before .before .before .before .before .before .before .before .before .before .before .args in
-    let good = c .before .before .before .before .before .before .before .before .before .before .before .before .before .before .before .before .good in
-    let slice-known = c .before .before .before .before .before .before .before .before .before .before .before .before .before .before .before .slice-known in
-    let tested = c .before .before .before .before .before .before .before .before .before .before .before .before .tested in
-    let enum-told′ = c .before .before .before .before .before .before .before .before .before .before .enum-told in
-    let key-of = c .before .before .before .before .before .before .before .before .before .key-of in
-    let way-of = c .before .before .before .before .before .before .way-of in
-    let slice-known2 = c .before .before .before .before .slice-known2 in
+    let args = c .before .before .before .before .before .before .before .before .before .before .before .before .before .before .before .before .before .args in
+    let good = c .before .before .before .before .before .before .before .before .before .before .before .before .before .before .before .before .before .good in
+    let slice-known = c .before .before .before .before .before .before .before .before .before .before .before .before .before .before .before .before .slice-known in
+    let tested = c .before .before .before .before .before .before .before .before .before .before .before .before .before .tested in
+    let enum-told′ = c .before .before .before .before .before .before .before .before .before .before .before .enum-told in
+    let key-of = c .before .before .before .before .before .before .before .before .before .before .key-of in
+    let way-of = c .before .before .before .before .before .before .before .way-of in
+    let way-is = ap (λ (y : Reported Walking). y .left) (way-of .ensures) in
+    let slice-known2 = c .before .before .before .before .before .slice-known2 in
     let choose = c .before .before .before .choose in
     let decided = c .before .decided in
     let p = test-passed (args .working .now) (args .stable .now) (args .session) (args .model) (args .serial)
     (args .issue) (args .value) (tested .result) (tested .ensures (args .session) refl) (enum-told′ .given .1) in
     let l = lengthsFor-true (args .session) (args .working .now) (args .stable .now) (p .lengths) in
-    key-refused (key-of .result) (args .value) (args .session) (args .working .now) (l .working) (p .zero)
-    (slice-known .given) (omega (arith, good)) (omega (arith, key-of .ok)) (way-of .last .0) (way-of .result)
-    (way-of .ensures) (l .most) (omega (arith, way-of .kept .0, l .working)) (slice-known2 .given) (choose .result)
+    told-too (args .working .now) (args .stable .now) (args .session) (args .model) (args .serial) (args .issue)
+    (args .value)
+    (key-refused (key-of .result) (args .value) (args .session) (args .working .now) (l .working) (p .zero)
+    (slice-known .given) (omega (arith, good)) (omega (arith, key-of .ok)) (way-of .last .0) (way-of .result .way)
+    way-is (l .most) (omega (arith, way-of .kept .0, l .working)) (slice-known2 .given) (choose .result)
     (choose .ensures) (decided .result)
-    (decided .ensures (deciding (key-of .result) (args .value) (args .session) (args .working .now) (l .working) (p .zero) (slice-known .given) (omega (arith, good)) (omega (arith, key-of .ok)) (way-of .last .0) (way-of .result) (way-of .ensures) (l .most) (omega (arith, way-of .kept .0, l .working)) (slice-known2 .given) (choose .result) (choose .ensures)))
+    (decided .ensures (deciding (key-of .result) (args .value) (args .session) (args .working .now) (l .working) (p .zero) (slice-known .given) (omega (arith, good)) (omega (arith, key-of .ok)) (way-of .last .0) (way-of .result .way) way-is (l .most) (omega (arith, way-of .kept .0, l .working)) (slice-known2 .given) (choose .result) (choose .ensures)))
     (args .stable .now) (not-done (decided .result) (c .match2 .keys2))
     ∙
-    (ap (λ (k : ℕ). insertKey k (args .value) (args .session) (args .working .now) (args .stable .now)) (key-of .ensures) ∙ sym (p .keyed))
+    (ap (λ (k : ℕ). insertKey k (args .value) (args .session) (args .working .now) (args .stable .now)) (key-of .ensures) ∙ sym (p .keyed)))
+    (ap (λ (y : Reported Walking). y .report) (way-of .ensures)
+    ∙ (ap (λ (k : ℕ). wayReport (args .session .n) (args .session .c) k (args .working .now) nothing) (key-of .ensures)
+    ∙ sym (passed-report (args .working .now) (args .stable .now) (args .session) (args .model) (args .serial) (args .issue) (args .value) p)))
+
+count-requires : tie.Need-count-requires
+count-requires c κs = search needs
 
 apply-requires : tie.Need-apply-requires
 apply-requires c κs =
-    let args = c .before .before .before .before .before .before .before .before .before .before .before .before .before .before .before .before .before .before .args in
-    let good = c .before .before .before .before .before .before .before .before .before .before .before .before .before .before .before .before .before .before .good in
-    let slice-known = c .before .before .before .before .before .before .before .before .before .before .before .before .before .before .before .before .before .slice-known in
-    let tested = c .before .before .before .before .before .before .before .before .before .before .before .before .before .before .tested in
-    let enum-told′ = c .before .before .before .before .before .before .before .before .before .before .before .before .enum-told in
-    let key-of = c .before .before .before .before .before .before .before .before .before .before .before .key-of in
-    let way-of = c .before .before .before .before .before .before .before .before .way-of in
-    let slice-known2 = c .before .before .before .before .before .before .slice-known2 in
-    let choose = c .before .before .before .before .before .choose in
-    let decided = c .before .before .before .decided in
+    let args = c .before .before .before .before .before .before .before .before .before .before .before .before .before .before .before .before .before .before .before .before .args in
+    let good = c .before .before .before .before .before .before .before .before .before .before .before .before .before .before .before .before .before .before .before .before .good in
+    let slice-known = c .before .before .before .before .before .before .before .before .before .before .before .before .before .before .before .before .before .before .before .slice-known in
+    let tested = c .before .before .before .before .before .before .before .before .before .before .before .before .before .before .before .before .tested in
+    let enum-told′ = c .before .before .before .before .before .before .before .before .before .before .before .before .before .before .enum-told in
+    let key-of = c .before .before .before .before .before .before .before .before .before .before .before .before .before .key-of in
+    let way-of = c .before .before .before .before .before .before .before .before .before .before .way-of in
+    let way-is = ap (λ (y : Reported Walking). y .left) (way-of .ensures) in
+    let slice-known2 = c .before .before .before .before .before .before .before .before .slice-known2 in
+    let choose = c .before .before .before .before .before .before .choose in
+    let decided = c .before .before .before .before .decided in
     let p = test-passed (args .working .now) (args .stable .now) (args .session) (args .model) (args .serial)
     (args .issue) (args .value) (tested .result) (tested .ensures (args .session) refl) (enum-told′ .given .1) in
     let l = lengthsFor-true (args .session) (args .working .now) (args .stable .now) (p .lengths) in
-    key-ready (key-of .result) (args .value) (args .session) (args .working .now) (l .working) (p .zero)
-    (slice-known .given) (omega (arith, good)) (omega (arith, key-of .ok)) (way-of .last .0) (way-of .result)
-    (way-of .ensures) (l .most) (omega (arith, way-of .kept .0, l .working)) (slice-known2 .given) (choose .result)
+    subst (λ (z : Session). ReadyWay (key-of .result) (way-of .last .0) z (way-of .result .way) (choose .result .pages)) (sym (c .count .ensures))
+    (key-ready (key-of .result) (args .value) (args .session) (args .working .now) (l .working) (p .zero)
+    (slice-known .given) (omega (arith, good)) (omega (arith, key-of .ok)) (way-of .last .0) (way-of .result .way)
+    way-is (l .most) (omega (arith, way-of .kept .0, l .working)) (slice-known2 .given) (choose .result)
     (choose .ensures) (decided .result)
-    (decided .ensures (deciding (key-of .result) (args .value) (args .session) (args .working .now) (l .working) (p .zero) (slice-known .given) (omega (arith, good)) (omega (arith, key-of .ok)) (way-of .last .0) (way-of .result) (way-of .ensures) (l .most) (omega (arith, way-of .kept .0, l .working)) (slice-known2 .given) (choose .result) (choose .ensures)))
-    (c .before .enum-told2 .given .1)
+    (decided .ensures (deciding (key-of .result) (args .value) (args .session) (args .working .now) (l .working) (p .zero) (slice-known .given) (omega (arith, good)) (omega (arith, key-of .ok)) (way-of .last .0) (way-of .result .way) way-is (l .most) (omega (arith, way-of .kept .0, l .working)) (slice-known2 .given) (choose .result) (choose .ensures)))
+    (c .before .before .enum-told2 .given .1))
 
 same-length-3 : tie.Need-same-length-3
 same-length-3 c = search needs
 
 returns-3 : tie.Need-returns-3
 returns-3 c =
-    let args = c .before .before .before .before .before .before .before .before .before .before .before .before .before .before .before .before .before .before .before .before .before .args in
-    let good = c .before .before .before .before .before .before .before .before .before .before .before .before .before .before .before .before .before .before .before .before .before .good in
-    let slice-known = c .before .before .before .before .before .before .before .before .before .before .before .before .before .before .before .before .before .before .before .before .slice-known in
-    let tested = c .before .before .before .before .before .before .before .before .before .before .before .before .before .before .before .before .before .tested in
-    let enum-told′ = c .before .before .before .before .before .before .before .before .before .before .before .before .before .before .before .enum-told in
-    let key-of = c .before .before .before .before .before .before .before .before .before .before .before .before .before .before .key-of in
-    let way-of = c .before .before .before .before .before .before .before .before .before .before .before .way-of in
-    let slice-known2 = c .before .before .before .before .before .before .before .before .before .slice-known2 in
-    let choose = c .before .before .before .before .before .before .before .before .choose in
-    let decided = c .before .before .before .before .before .before .decided in
-    let enum-told2 = c .before .before .before .before .enum-told2 in
+    let args = c .before .before .before .before .before .before .before .before .before .before .before .before .before .before .before .before .before .before .before .before .before .before .before .args in
+    let good = c .before .before .before .before .before .before .before .before .before .before .before .before .before .before .before .before .before .before .before .before .before .before .before .good in
+    let slice-known = c .before .before .before .before .before .before .before .before .before .before .before .before .before .before .before .before .before .before .before .before .before .before .slice-known in
+    let tested = c .before .before .before .before .before .before .before .before .before .before .before .before .before .before .before .before .before .before .before .tested in
+    let enum-told′ = c .before .before .before .before .before .before .before .before .before .before .before .before .before .before .before .before .before .enum-told in
+    let key-of = c .before .before .before .before .before .before .before .before .before .before .before .before .before .before .before .before .key-of in
+    let way-of = c .before .before .before .before .before .before .before .before .before .before .before .before .before .way-of in
+    let way-is = ap (λ (y : Reported Walking). y .left) (way-of .ensures) in
+    let slice-known2 = c .before .before .before .before .before .before .before .before .before .before .before .slice-known2 in
+    let choose = c .before .before .before .before .before .before .before .before .before .choose in
+    let decided = c .before .before .before .before .before .before .before .decided in
+    let enum-told2 = c .before .before .before .before .before .enum-told2 in
+    let count = c .before .before .before .count in
     let apply = c .before .before .apply in
     let p = test-passed (args .working .now) (args .stable .now) (args .session) (args .model) (args .serial)
     (args .issue) (args .value) (tested .result) (tested .ensures (args .session) refl) (enum-told′ .given .1) in
     let l = lengthsFor-true (args .session) (args .working .now) (args .stable .now) (p .lengths) in
-    key-done (key-of .result) (args .value) (args .session) (args .working .now) (l .working) (p .zero)
-    (slice-known .given) (omega (arith, good)) (omega (arith, key-of .ok)) (way-of .last .0) (way-of .result)
-    (way-of .ensures) (l .most) (omega (arith, way-of .kept .0, l .working)) (slice-known2 .given) (choose .result)
+    told-too (args .working .now) (args .stable .now) (args .session) (args .model) (args .serial) (args .issue)
+    (args .value)
+    (key-done (key-of .result) (args .value) (args .session) (args .working .now) (l .working) (p .zero)
+    (slice-known .given) (omega (arith, good)) (omega (arith, key-of .ok)) (way-of .last .0) (way-of .result .way)
+    way-is (l .most) (omega (arith, way-of .kept .0, l .working)) (slice-known2 .given) (choose .result)
     (choose .ensures) (decided .result)
-    (decided .ensures (deciding (key-of .result) (args .value) (args .session) (args .working .now) (l .working) (p .zero) (slice-known .given) (omega (arith, good)) (omega (arith, key-of .ok)) (way-of .last .0) (way-of .result) (way-of .ensures) (l .most) (omega (arith, way-of .kept .0, l .working)) (slice-known2 .given) (choose .result) (choose .ensures)))
-    (enum-told2 .given .1) (args .stable .now) (apply .result) (apply .last .0) (apply .ensures (args .stable .now))
+    (decided .ensures (deciding (key-of .result) (args .value) (args .session) (args .working .now) (l .working) (p .zero) (slice-known .given) (omega (arith, good)) (omega (arith, key-of .ok)) (way-of .last .0) (way-of .result .way) way-is (l .most) (omega (arith, way-of .kept .0, l .working)) (slice-known2 .given) (choose .result) (choose .ensures)))
+    (enum-told2 .given .1) (args .stable .now) (apply .result) (apply .last .0)
+    (apply .ensures (args .stable .now)
+    ∙ ap (λ (z : Session). insertDone (key-of .result) (args .value) z (stepsOf (way-of .last .0) (way-of .result .way)) (way-of .last .0) (args .stable .now)) (count .ensures))
     ∙
-    (ap (λ (k : ℕ). insertKey k (args .value) (args .session) (args .working .now) (args .stable .now)) (key-of .ensures) ∙ sym (p .keyed))
+    (ap (λ (k : ℕ). insertKey k (args .value) (args .session) (args .working .now) (args .stable .now)) (key-of .ensures) ∙ sym (p .keyed)))
+    (ap (λ (y : Reported Walking). y .report) (way-of .ensures)
+    ∙ (ap (λ (k : ℕ). wayReport (args .session .n) (args .session .c) k (args .working .now) nothing) (key-of .ensures)
+    ∙ sym (passed-report (args .working .now) (args .stable .now) (args .session) (args .model) (args .serial) (args .issue) (args .value) p)))
 
 pub insert-spec : {M : Type 1} → statement M
 insert-spec =
@@ -166,6 +201,7 @@ insert-spec =
     (tie.spec
     tested-requires
     enum-told
+    nothing-requires
     same-length
     returns
     key-of-requires
@@ -176,6 +212,7 @@ insert-spec =
     enum-told-2
     same-length-2
     returns-2
+    count-requires
     apply-requires
     same-length-3
     returns-3)

@@ -17,10 +17,10 @@ use Rattle.marks.proofs.opened.Statement.{statement}
 use Rattle.marks.proofs.opened.Tie as tie
 
 abbrev Inv-loop : tie.InvT-loop
-Inv-loop n c children spared free₀ i₀ free i = (i ≤ 128) × (free ≡ filled (freeAtOpening n children spared) i (marks (λ i. false)))
+Inv-loop n c total children spared free₀ i₀ free i = (i ≤ 128) × (free ≡ filled (freeAtOpening n children spared) i (marks (λ i. false)))
 
 abbrev μ-loop : tie.MeasureT-loop
-μ-loop n c children spared free₀ i₀ free i = 128 - i
+μ-loop n c total children spared free₀ i₀ free i = 128 - i
 
 loop-holds : tie.Need-loop-holds Inv-loop μ-loop
 unfolding marks marksFrom
@@ -48,7 +48,7 @@ loop-again : tie.Need-loop-again Inv-loop μ-loop
 loop-again c =
     let args = c .before .before .before .args in
     let loop = c .before .before .loop in
-    let free = freeAtOpening (args .n) (args .t3) (args .t4) in
+    let free = freeAtOpening (args .n) (args .t4) (args .t5) in
     let i = loop .i in
     let none = marks (λ j. false) in
     let filling = filled-more free i none (omega (arith, length-marks (λ j. false), c .before .loop-test .taken)) in
@@ -58,12 +58,12 @@ returns : tie.Need-returns Inv-loop μ-loop
 returns c =
     let args = c .before .before .args in
     let loop = c .before .loop in
-    let free = freeAtOpening (args .n) (args .t3) (args .t4) in
+    let free = freeAtOpening (args .n) (args .t4) (args .t5) in
     let none = marks (λ j. false) in
     let i = loop .i in
     let all : i ≡ mostPages = omega (arith, loop .inv .0, c .loop-test .left) in
     let filling = ap (λ (k : ℕ). filled free k none) all ∙ filled-all free none (length-marks (λ j. false)) in
-    openedBy-made (args .n) (args .c) (args .t3) (args .t4) (loop .free) (loop .inv .1 ∙ filling)
+    openedBy-made (args .n) (args .c) (args .total) (args .t4) (args .t5) (loop .free) (loop .inv .1 ∙ filling)
 
 pub opened-spec : {M : Type 1} → statement M
 opened-spec =

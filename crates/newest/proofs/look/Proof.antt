@@ -7,44 +7,47 @@ use Rattle.newest.proofs.look.Statement.{statement}
 use Rattle.newest.proofs.look.Tie as tie
 
 abbrev Inv-loop : tie.InvT-loop
-Inv-loop t₀ n c low high newest₀ cursor₀ key₀ t newest cursor key = Going n c low high t₀ t newest cursor key
+Inv-loop t₀ n c low high newest₀ cursor₀ key₀ report₀ t newest cursor key report = Going n c low high t₀ t newest cursor key report
 
 abbrev μ-loop : tie.MeasureT-loop
-μ-loop t₀ n c low high newest₀ cursor₀ key₀ t newest cursor key = high + 1 - key
+μ-loop t₀ n c low high newest₀ cursor₀ key₀ report₀ t newest cursor key report = high + 1 - key
 
 start-requires : tie.Need-start-requires Inv-loop μ-loop
 start-requires c κs = search needs
 
+nothing-requires : tie.Need-nothing-requires Inv-loop μ-loop
+nothing-requires c κs = search needs
+
 loop-holds : tie.Need-loop-holds Inv-loop μ-loop
 loop-holds c =
-    let pre = c .before .before .pre in
-    let fits = c .before .before .fits in
-    let slice-known = c .before .slice-known in
-    goes-first (record { long = pre .0; bytes = slice-known .given; fit = pre .1; counter = omega (arith, fits .c) }) (pre .2) (pre .3) (omega (arith, fits .high)) (c .start .ensures)
+    let pre = c .before .before .before .pre in
+    let fits = c .before .before .before .fits in
+    let slice-known = c .before .before .slice-known in
+    goes-first (record { long = pre .0; bytes = slice-known .given; fit = pre .1; counter = omega (arith, fits .c) }) (pre .2) (pre .3) (omega (arith, fits .high)) (c .before .start .ensures) (c .nothing .ensures)
 
 next-requires : tie.Need-next-requires Inv-loop μ-loop
 next-requires c κs =
     let loop = c .before .before .loop in
     (loop .inv .ground .long, loop .inv .ground .fit, loop .inv .kept)
 
-enum-known-leaf : tie.Need-enum-known-leaf Inv-loop μ-loop
-enum-known-leaf c = search needs
-
-enum-told : tie.Need-enum-told Inv-loop μ-loop
-enum-told c = search needs
+enum-known-last : tie.Need-enum-known-last Inv-loop μ-loop
+enum-known-last c = search needs
 
 same-length : tie.Need-same-length Inv-loop μ-loop
 same-length c =
-    let pre = c .before .before .before .before .before .before .before .before .before .before .pre in
-    let loop = c .before .before .before .before .before .before .before .loop in
-    let next = c .before .before .before .before .next in
+    let pre = c .before .before .before .before .before .before .before .before .before .before .before .before .pre in
+    let loop = c .before .before .before .before .before .before .before .before .loop in
+    let next = c .before .before .before .before .before .next in
     omega (arith, next .kept .0, loop .inv .ground .long, pre .0)
 
 returns : tie.Need-returns Inv-loop μ-loop
 returns c =
-    let loop = c .before .before .before .before .before .before .before .loop in
-    let next = c .before .before .before .before .next in
-    ends-damaged (loop .inv) (next .ensures) (c .enum-told .given .1)
+    let loop = c .before .before .before .before .before .before .before .before .loop in
+    let next = c .before .before .before .before .before .next in
+    ends-damaged (loop .inv) (next .ensures) (c .before .last .given .1)
+
+enum-known-leaf : tie.Need-enum-known-leaf Inv-loop μ-loop
+enum-known-leaf c = search needs
 
 last-on-requires : tie.Need-last-on-requires Inv-loop μ-loop
 last-on-requires c κs =
@@ -56,44 +59,44 @@ last-on-requires c κs =
 
 same-length-2 : tie.Need-same-length-2 Inv-loop μ-loop
 same-length-2 c =
-    let pre = c .before .before .before .before .before .before .before .before .before .before .before .before .before .before .before .pre in
-    let loop = c .before .before .before .before .before .before .before .before .before .before .before .before .loop in
-    let next = c .before .before .before .before .before .before .before .before .before .next in
+    let pre = c .before .before .before .before .before .before .before .before .before .before .before .before .before .before .before .before .before .pre in
+    let loop = c .before .before .before .before .before .before .before .before .before .before .before .before .before .loop in
+    let next = c .before .before .before .before .before .before .before .before .before .before .next in
     omega (arith, next .kept .0, loop .inv .ground .long, pre .0)
 
 returns-2 : tie.Need-returns-2 Inv-loop μ-loop
 returns-2 c =
-    let loop = c .before .before .before .before .before .before .before .before .before .before .before .before .loop in
-    let next = c .before .before .before .before .before .before .before .before .before .next in
-    let leaf = c .before .before .before .before .before .leaf in
-    let last-on = c .before .before .last-on in
+    let loop = c .before .before .before .before .before .before .before .before .before .before .before .before .before .loop in
+    let next = c .before .before .before .before .before .before .before .before .before .before .next in
+    let leaf = c .before .before .before .before .before .before .leaf in
+    let last-on = c .before .before .before .last-on in
     ends-leaf (loop .inv) (next .ensures) (leaf .given .1) (last-on .ensures) (c .if1 .taken)
 
 add-key : tie.Need-add-key Inv-loop μ-loop
 add-key c =
-    let fits = c .before .before .before .before .before .before .before .before .before .before .before .before .before .before .before .before .before .fits in
+    let fits = c .before .before .before .before .before .before .before .before .before .before .before .before .before .before .before .before .before .before .before .fits in
     let if1 = c .before .before .if1 in
     omega (arith, if1 .left, fits .high)
 
 loop-less : tie.Need-loop-less Inv-loop μ-loop
 loop-less c =
-    let loop = c .before .before .before .before .before .before .before .before .before .before .before .before .before .before .loop in
-    let next = c .before .before .before .before .before .before .before .before .before .before .before .next in
-    let leaf = c .before .before .before .before .before .before .before .leaf in
+    let loop = c .before .before .before .before .before .before .before .before .before .before .before .before .before .before .before .loop in
+    let next = c .before .before .before .before .before .before .before .before .before .before .before .before .next in
+    let leaf = c .before .before .before .before .before .before .before .before .leaf in
     turns-less (loop .inv) (next .ensures) (leaf .given .1)
 
 loop-again : tie.Need-loop-again Inv-loop μ-loop
 loop-again c =
-    let loop = c .before .before .before .before .before .before .before .before .before .before .before .before .before .before .loop in
-    let next = c .before .before .before .before .before .before .before .before .before .before .before .next in
-    let leaf = c .before .before .before .before .before .before .before .leaf in
-    let last-on = c .before .before .before .before .last-on in
+    let loop = c .before .before .before .before .before .before .before .before .before .before .before .before .before .before .before .loop in
+    let next = c .before .before .before .before .before .before .before .before .before .before .before .before .next in
+    let leaf = c .before .before .before .before .before .before .before .before .leaf in
+    let last-on = c .before .before .before .before .before .last-on in
     let if1 = c .before .before .if1 in
     goes-next (loop .inv) (next .ensures) (leaf .given .1) (last-on .ensures) (omega (arith, if1 .left))
 
 same-length-3 : tie.Need-same-length-3 Inv-loop μ-loop
 same-length-3 c =
-    let pre = c .before .before .before .before .pre in
+    let pre = c .before .before .before .before .before .pre in
     let loop = c .before .loop in
     omega (arith, loop .inv .ground .long, pre .0)
 
@@ -109,12 +112,13 @@ look-spec =
     Inv-loop
     μ-loop
     start-requires
+    nothing-requires
     loop-holds
     next-requires
-    enum-known-leaf
-    enum-told
+    enum-known-last
     same-length
     returns
+    enum-known-leaf
     last-on-requires
     same-length-2
     returns-2

@@ -17,7 +17,7 @@ use Rattle.rules.specs.Entry.{keys, rising}
 use Rattle.rules.specs.Page.{Page, isLeaf, count, fresh}
 use Rattle.rules.specs.Table.{read, build, kind0, n0, number0, root0, previous0, birth0, setNumber, setRoot, fit0}
 use Rattle.rules.specs.Sound.{inOrder, sound}
-use Rattle.rules.specs.Place.{rootPlace, kids, placesIn, kindAsked, fits, show}
+use Rattle.rules.specs.Place.{rootPlace, kids, placesIn, kindAsked, fits, show, unfit, firstFailed, isNone}
 use Rattle.rules.specs.Tree.{empty, join, sparedAt, here, treeEach, tree, treeOf, goodTree}
 use Rattle.rules.specs.Format.{emptyLeaf, formatted, format}
 use Rattle.rules.specs.Open.{openDone, opening}
@@ -59,7 +59,7 @@ abbrev pub freshRoot : Place
 freshRoot = record { child = 1; previous = 0; birth = 1; low = 0; high = lastKey; want = 0 }
 
 pub first-fits : (n : ℕ) → fits n freshRoot freshLeaf ≡ true
-unfolding fits sound every between inOrder rising all keys kindAsked isLeaf fresh emptyLeaf
+unfolding fits unfit firstFailed isNone sound every between inOrder rising all keys kindAsked isLeaf fresh emptyLeaf
 first-fits n = refl
 
 module _ (n : ℕ) (least : fewestPages ≤ n) (most : n ≤ mostPages) where

@@ -14,7 +14,7 @@ use Rattle.fields.specs.Field.{le, leAt, Bytes}
 use Rattle.fields.proofs.Bytes.{bytes-nil, bytes-cons, bytes-le, bytes-append, bytes-drop}
 use Rattle.fields.proofs.Number.{length-le}
 use Rattle.fields.proofs.Field.{leAt-bound, le-leAt, in-pieces}
-use Rattle.rules.specs.Layout.{pageSize, headerSize, certSize, childSize, leafRoom, innerRoom, leafKind}
+use Rattle.rules.specs.Layout.{pageSize, commonHeader, leafHeader, innerHeader, certSize, childSize, leafRoom, innerRoom, leafKind}
 use Rattle.rules.specs.Entry.{Cert, Child}
 use Rattle.rules.specs.Page.{View, Page, isLeaf, count, readEach, writeEach, certIn, certBytes, childIn, childBytes, viewIn, pageIn, headerBytes, pageBytes, over, blank, buildBytes, changeBytes, fresh, touch}
 pub use Rattle.rules.proofs.entries.Views.{Shaped, shaped-viewIn}
@@ -44,11 +44,11 @@ pub record Wide (p : Page) : Type 0 where
 
 -- ── What is read: a leaf or an inner page ───────────────────────────────────────────────────────────────────────
 
-pub viewIn-leaf : (b : List ℕ) → eqb (leAt b 0 2) leafKind ≡ true → viewIn b ≡ record { kind = leAt b 0 2; certs = readEach certIn certSize (leAt b 2 2) (drop headerSize b); children = [] }
+pub viewIn-leaf : (b : List ℕ) → eqb (leAt b 0 2) leafKind ≡ true → viewIn b ≡ record { kind = leAt b 0 2; certs = readEach certIn certSize (leAt b 2 2) (drop leafHeader b); children = [] }
 unfolding viewIn
 viewIn-leaf b e = rw (e, viewIn)
 
-pub viewIn-inner : (b : List ℕ) → eqb (leAt b 0 2) leafKind ≡ false → viewIn b ≡ record { kind = leAt b 0 2; certs = []; children = readEach childIn childSize (leAt b 2 2) (drop headerSize b) }
+pub viewIn-inner : (b : List ℕ) → eqb (leAt b 0 2) leafKind ≡ false → viewIn b ≡ record { kind = leAt b 0 2; certs = []; children = readEach childIn childSize (leAt b 2 2) (drop innerHeader b) }
 unfolding viewIn
 viewIn-inner b e = rw (e, viewIn)
 
@@ -82,12 +82,12 @@ wide-viewIn b h = record {
 }
   where
     certs : (t : Bool) → eqb (leAt b 0 2) leafKind ≡ t → All WideCert (viewIn b .certs)
-    certs true e = rw (viewIn-leaf b e) (wide-readCerts (leAt b 2 2) (drop headerSize b) (bytes-drop headerSize b h))
+    certs true e = rw (viewIn-leaf b e) (wide-readCerts (leAt b 2 2) (drop leafHeader b) (bytes-drop leafHeader b h))
     certs false e = rw (viewIn-inner b e) nil
 
     children : (t : Bool) → eqb (leAt b 0 2) leafKind ≡ t → All WideChild (viewIn b .children)
     children true e = rw (viewIn-leaf b e) nil
-    children false e = rw (viewIn-inner b e) (wide-readChildren (leAt b 2 2) (drop headerSize b) (bytes-drop headerSize b h))
+    children false e = rw (viewIn-inner b e) (wide-readChildren (leAt b 2 2) (drop innerHeader b) (bytes-drop innerHeader b h))
 
 pub wide-pageIn : (b : List ℕ) → Bytes b → Wide (pageIn b)
 unfolding pageIn
@@ -102,22 +102,26 @@ wide-pageIn b h = record {
 
 -- ── What is written: lengths and bytes ──────────────────────────────────────────────────────────────────────────
 
-pub length-headerBytes : (p : Page) → length (headerBytes p) ≡ headerSize
+pub length-leafHeader : (p : Page) → isLeaf (p .view) ≡ true → length (headerBytes p) ≡ leafHeader
 unfolding headerBytes
-length-headerBytes p = simp (length-append, length-le)
+length-leafHeader p e = simp (length-append, length-le)
 
-pub length-pageBytes : (p : Page) → length (pageBytes p) ≡ headerSize + (certSize * length (p .view .certs) + childSize * length (p .view .children))
+pub length-innerHeader : (p : Page) → isLeaf (p .view) ≡ false → length (headerBytes p) ≡ innerHeader
+unfolding headerBytes
+length-innerHeader p e = simp (length-append, length-le)
+
+pub length-pageBytes : (p : Page) → length (pageBytes p) ≡ length (headerBytes p) + (certSize * length (p .view .certs) + childSize * length (p .view .children))
 unfolding pageBytes
 length-pageBytes p =
-    simp (length-append, length-headerBytes p, length-writeCerts (p .view .certs), length-writeChildren (p .view .children))
+    simp (length-append, length-writeCerts (p .view .certs), length-writeChildren (p .view .children))
 
 -- a page has room for as many entries as it may have
 pub room-pageBytes : (p : Page) → Shaped (p .view) → length (p .view .certs) ≤ leafRoom → length (p .view .children) ≤ innerRoom → length (pageBytes p) ≤ pageSize
 room-pageBytes p s h k = rw (length-pageBytes p) (go (isLeaf (p .view)) refl)
   where
-    go : (t : Bool) → isLeaf (p .view) ≡ t → headerSize + (certSize * length (p .view .certs) + childSize * length (p .view .children)) ≤ pageSize
-    go true e = let z = ap length (s .leaf e) in omega arith
-    go false e = let z = ap length (s .inner e) in omega arith
+    go : (t : Bool) → isLeaf (p .view) ≡ t → length (headerBytes p) + (certSize * length (p .view .certs) + childSize * length (p .view .children)) ≤ pageSize
+    go true e = let z = ap length (s .leaf e) in omega (arith, length-leafHeader p e)
+    go false e = let z = ap length (s .inner e) in omega (arith, length-innerHeader p e)
 
 pub bytes-headerBytes : (p : Page) → Bytes (headerBytes p)
 unfolding headerBytes
@@ -174,16 +178,16 @@ bytes-buildBytes p = bytes-over (pageBytes p) blank (bytes-pageBytes p) bytes-bl
 -- ── What was written is read ────────────────────────────────────────────────────────────────────────────────────
 
 -- what a leaf and an inner page are read as, given their kind and their entries
-leaf-back : (kind : ℕ) (certs : List Cert) (children : List Child) (b : List ℕ) → leAt b 0 2 ≡ kind → leAt b 2 2 ≡ length certs → readEach certIn certSize (length certs) (drop headerSize b) ≡ certs → eqb kind leafKind ≡ true → children ≡ [] → viewIn b ≡ record { kind = kind; certs = certs; children = children }
+leaf-back : (kind : ℕ) (certs : List Cert) (children : List Child) (b : List ℕ) → leAt b 0 2 ≡ kind → leAt b 2 2 ≡ length certs → readEach certIn certSize (length certs) (drop leafHeader b) ≡ certs → eqb kind leafKind ≡ true → children ≡ [] → viewIn b ≡ record { kind = kind; certs = certs; children = children }
 leaf-back kind certs children b k n r e z = viewIn-leaf b (rw k e) ∙ rw (n, r, k, z)
 
-inner-back : (kind : ℕ) (certs : List Cert) (children : List Child) (b : List ℕ) → leAt b 0 2 ≡ kind → leAt b 2 2 ≡ length children → readEach childIn childSize (length children) (drop headerSize b) ≡ children → eqb kind leafKind ≡ false → certs ≡ [] → viewIn b ≡ record { kind = kind; certs = certs; children = children }
+inner-back : (kind : ℕ) (certs : List Cert) (children : List Child) (b : List ℕ) → leAt b 0 2 ≡ kind → leAt b 2 2 ≡ length children → readEach childIn childSize (length children) (drop innerHeader b) ≡ children → eqb kind leafKind ≡ false → certs ≡ [] → viewIn b ≡ record { kind = kind; certs = certs; children = children }
 inner-back kind certs children b k n r e z = viewIn-inner b (rw k e) ∙ rw (n, r, k, z)
 
-pub drop-header : (p : Page) (rest : List ℕ) → drop headerSize (pageBytes p ++ rest) ≡ writeEach certBytes (p .view .certs) ++ (writeEach childBytes (p .view .children) ++ rest)
+drop-header : (header : ℕ) (p : Page) (rest : List ℕ) → length (headerBytes p) ≡ header → drop header (pageBytes p ++ rest) ≡ writeEach certBytes (p .view .certs) ++ (writeEach childBytes (p .view .children) ++ rest)
 unfolding pageBytes
-drop-header p rest =
-    rw (append-assoc, append-assoc) (drop-at (headerBytes p) (writeEach certBytes (p .view .certs) ++ (writeEach childBytes (p .view .children) ++ rest)) headerSize (length-headerBytes p))
+drop-header header p rest l =
+    rw (append-assoc, append-assoc) (drop-at (headerBytes p) (writeEach certBytes (p .view .certs) ++ (writeEach childBytes (p .view .children) ++ rest)) header l)
 
 module _ {p : Page} (w : Wide p) (rest : List ℕ) where
   pub kind-pageBytes : leAt (pageBytes p ++ rest) 0 2 ≡ p .view .kind
@@ -223,7 +227,7 @@ module _ {p : Page} (w : Wide p) (rest : List ℕ) where
           let z = w .view .shaped .leaf e in
           leaf-back (p .view .kind) (p .view .certs) (p .view .children) (pageBytes p ++ rest) kind-pageBytes
           (count-pageBytes ∙ omega (arith, ap length z))
-          (ap (readEach certIn certSize (length (p .view .certs))) (drop-header p rest) ∙ readCerts-writeCerts (w .view .certs) (writeEach childBytes (p .view .children) ++ rest))
+          (ap (readEach certIn certSize (length (p .view .certs))) (drop-header leafHeader p rest (length-leafHeader p e)) ∙ readCerts-writeCerts (w .view .certs) (writeEach childBytes (p .view .children) ++ rest))
           e
           z
       go false e =
@@ -231,7 +235,7 @@ module _ {p : Page} (w : Wide p) (rest : List ℕ) where
           inner-back (p .view .kind) (p .view .certs) (p .view .children) (pageBytes p ++ rest) kind-pageBytes
           (count-pageBytes ∙ omega (arith, ap length z))
           (ap (readEach childIn childSize (length (p .view .children)))
-          (drop-header p rest ∙ ap (λ (xs : List Cert). writeEach certBytes xs ++ (writeEach childBytes (p .view .children) ++ rest)) z)
+          (drop-header innerHeader p rest (length-innerHeader p e) ∙ ap (λ (xs : List Cert). writeEach certBytes xs ++ (writeEach childBytes (p .view .children) ++ rest)) z)
           ∙ readChildren-writeChildren (w .view .children) rest)
           e
           z
@@ -255,12 +259,12 @@ pageIn-changeBytes w old = pageIn-over w old
 
 -- ── The header that was read is written ─────────────────────────────────────────────────────────────────────────
 
-take-header : (b : List ℕ) → take headerSize b ≡ take 2 b ++ (take 2 (drop 2 b) ++ (take 4 (drop 4 b) ++ (take 4 (drop 8 b) ++ (take 4 (drop 12 b) ++ (take 8 (drop 16 b) ++ take 8 (drop 24 b))))))
+take-header : (b : List ℕ) → take commonHeader b ≡ take 2 b ++ (take 2 (drop 2 b) ++ (take 4 (drop 4 b) ++ (take 4 (drop 8 b) ++ (take 4 (drop 12 b) ++ (take 8 (drop 16 b) ++ take 8 (drop 24 b))))))
 take-header b =
     rw (take-add 2 30 b, take-add 2 28 (drop 2 b), drop-drop, take-add 4 24 (drop 4 b), drop-drop, take-add 4 20 (drop 8 b), drop-drop, take-add 4 16 (drop 12 b), drop-drop, take-add 8 8 (drop 16 b), drop-drop)
 
 -- the header as it stood
-pub headerBytes-pageIn : (b : List ℕ) → Bytes b → headerSize ≤ length b → headerBytes (pageIn b) ≡ take headerSize b
+pub headerBytes-pageIn : (b : List ℕ) → Bytes b → commonHeader ≤ length b → headerBytes (pageIn b) ≡ take commonHeader b
 unfolding headerBytes pageIn
 headerBytes-pageIn b h l =
     let kind : le 2 (viewIn b .kind) ≡ take 2 b = ap (le 2) (kind-viewIn b) ∙ le-leAt b 0 2 h (omega arith) in

@@ -9,7 +9,7 @@ use Rattle.rules.specs.Page.{Page}
 use Rattle.rules.specs.Table.{read, build}
 use Rattle.rules.specs.Place.{rootPlace, kids, pick, fits, mendable, mended}
 use Rattle.rules.specs.Enter.{mend, enter}
-use Rattle.rules.specs.Walk.{Step, numbers, descend, wayOf, Walked, enters, finds, stops, walkEach, walk, walkOf}
+use Rattle.rules.specs.Walk.{Step, numbers, descend, wayOf, Walked, unwalked, noted, enters, finds, stops, walkEach, walk, walkOf}
 use Rattle.rules.specs.declared.Place.{Place}
 use Rattle.rules.specs.declared.Asked.{Asked}
 
@@ -103,7 +103,7 @@ walk-step level n c a above t e w m rest = go (enters a e w) refl (enter n c abo
     go true p (some x) q =
         rw (walk, p, q)
         (each-mends n c t (walk level n c a (e .child ∷ above)) (rest (e .child ∷ above)) (kids e (x .view))
-        (finds a (x .view) w (enter n c above (w .table) e .table)) entered)
+        (finds a (x .view) (noted n e w) (enter n c above (w .table) e .table)) entered)
 
 pub walk-mends : (level n c : ℕ) (a : Asked) (above : List ℕ) (t : List ℕ) (e : Place) (w : Walked)
     → Mends n c t (w .table) → Mends n c t (walk level n c a above e w .table)
@@ -114,4 +114,4 @@ walk-mends (suc level) n c a above t e w m =
 
 pub walkOf-mends : (n c : ℕ) (a : Asked) (t : List ℕ) → Mends n c t (walkOf n c a t .table)
 unfolding walkOf
-walkOf-mends n c a t = walk-mends 3 n c a [] t (rootPlace t) (record { table = t; whole = true; found = [] }) same
+walkOf-mends n c a t = walk-mends 3 n c a [] t (rootPlace t) (unwalked t) same

@@ -18,6 +18,7 @@ use Rattle.rules.specs.Open.{opening, openRefused, openDone}
 use Rattle.rules.specs.Insert.{insert, insertKey, insertAlong, insertDone, insertRefused, splitting, tooSoon, noRoom}
 use Rattle.rules.specs.Lookup.{lookup, lookupKey, lookupLeft}
 use Rattle.rules.specs.Newest.{newest, newestMeter, newestLeft, meter}
+use Rattle.rules.specs.HasAny.{hasAny, anyMeter, anyLeft, firstOf}
 use Rattle.rules.specs.List.{ListLeft, list, listFrom, listDone, listRefused, upFrom}
 use Rattle.rules.specs.Sync.{sync, syncRefused, syncDone}
 use Rattle.rules.specs.declared.Session.{Session}
@@ -85,7 +86,7 @@ module _ (k x : ℕ) (s : Session) (way : List Step) (w t : List ℕ) where
       go none o false p true q = rw (insertAlong, o, p, q)
       go none o false p false q = rw (insertAlong, o, p, q)
 
-  along-refused : (insertAlong k x s way w t .answer ≡ Inserted.Done → ⊥) → Unchanged w t s (insertAlong k x s way w t)
+  pub along-refused : (insertAlong k x s way w t .answer ≡ Inserted.Done → ⊥) → Unchanged w t s (insertAlong k x s way w t)
   unfolding insertAlong insertRefused insertDone
   along-refused h = go (find k (certsAt way)) refl (tooSoon (s .c) (splitting way)) refl
       (noRoom way (freePages s (numbers way))) refl
@@ -194,6 +195,26 @@ newest-mends w t s model serial =
     go true p false q c o = rw (newest, p, q) (record { working = same; stable = refl; session = refl })
     go true p true q false o = rw (newest, p, q, o) (record { working = same; stable = refl; session = refl })
     go true p true q true o = rw (newest, p, q, o) (meter-mends (meter model serial) s w t)
+
+first-mends : (a : Asked) (s : Session) (w t : List ℕ) → OnlyMended w t s (anyMeter a s w t)
+unfolding anyMeter anyLeft
+first-mends a s w t = go (walkOf (s .n) (s .c) a w .whole) refl
+  where
+    go : (b : Bool) → walkOf (s .n) (s .c) a w .whole ≡ b → OnlyMended w t s (anyMeter a s w t)
+    go false p = rw (anyMeter, p) (record { working = walkOf-mends (s .n) (s .c) a w; stable = refl; session = refl })
+    go true p = rw (anyMeter, p) (record { working = walkOf-mends (s .n) (s .c) a w; stable = refl; session = refl })
+
+pub any-mends : (w t : List ℕ) (s : Session) (model serial : ℕ) → OnlyMended w t s (hasAny w t s model serial)
+unfolding hasAny anyLeft
+any-mends w t s model serial =
+    go (lengthsFor s w t) refl (ltb 0 model && ltb 0 serial) refl (fit0 (s .n) w) refl
+  where
+    go : (a : Bool) → lengthsFor s w t ≡ a → (b : Bool) → (ltb 0 model && ltb 0 serial) ≡ b
+        → (c : Bool) → fit0 (s .n) w ≡ c → OnlyMended w t s (hasAny w t s model serial)
+    go false p b q c o = rw (hasAny, p) (record { working = same; stable = refl; session = refl })
+    go true p false q c o = rw (hasAny, p, q) (record { working = same; stable = refl; session = refl })
+    go true p true q false o = rw (hasAny, p, q, o) (record { working = same; stable = refl; session = refl })
+    go true p true q true o = rw (hasAny, p, q, o) (first-mends (firstOf model serial) s w t)
 
 -- ── List: the same of both tables, and a refusal changes neither lent list ──────────────────────────────────────
 

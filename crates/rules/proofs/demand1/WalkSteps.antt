@@ -1,18 +1,21 @@
 -- One step of the rules' walks, down a key's way and over a range, by the answer of entering the page. Assumes nothing.
 use Prim.Native.Nat.{ℕ, suc}
 use native.Mathlib.Omega.{arith}
-use mathlib.Core.Path.{_≡_, refl}
+use mathlib.Core.Path.{_≡_, refl, sym}
 use mathlib.Core.Bool.{Bool, true, false}
 use mathlib.Core.List.{List, [], _∷_}
 use mathlib.Core.Option.{some, none, Option·none-ne-some}
 use borrow.Author.Tests.{le-ltb}
 use Rattle.rules.specs.Test.{every, mem}
 use Rattle.rules.specs.Page.{Page}
-use Rattle.rules.specs.Place.{rootPlace, kids, pick}
-use Rattle.rules.specs.Enter.{enter}
-use Rattle.rules.specs.Walk.{Step, noWay, numbers, descend, Walked, enters, finds, stops, walkEach, walk, walkOf}
+use Rattle.rules.specs.Table.{read}
+use Rattle.rules.specs.Place.{rootPlace, kids, pick, fits, mendable, mended}
+use Rattle.rules.specs.Enter.{mend, enter}
+use Rattle.rules.specs.Report.{adds, reasonAt}
+use Rattle.rules.specs.Walk.{Step, noWay, numbers, descend, descendReport, Walked, unwalked, noted, enters, finds, stops, walkEach, walk, walkOf}
 use Rattle.rules.specs.declared.Asked.{Asked}
 use Rattle.rules.specs.declared.Place.{Place}
+use Rattle.rules.specs.declared.Report.{Report}
 
 -- a page above is never entered again
 pub enter-apart : (n c : ℕ) (above t : List ℕ) (e : Place) (p : Page) → enter n c above t e .page ≡ some p → mem (e .child) above ≡ false
@@ -23,9 +26,34 @@ enter-apart n c above t e p h = go (mem (e .child) above) refl
     go true q = absurd (Option·none-ne-some p (rw (enter, q) at h))
     go false q = q
 
+-- a damaged place leaves the table as it is, and so does a page that fits
+pub enter-damaged : (n c : ℕ) (above t : List ℕ) (e : Place) → enter n c above t e .page ≡ none → enter n c above t e .table ≡ t
+unfolding enter mend
+enter-damaged n c above t e h =
+    go (mem (e .child) above) refl (fits n e (read t (e .child))) refl (mendable n e (read t (e .previous))) refl
+  where
+    go : (a : Bool) → mem (e .child) above ≡ a → (b : Bool) → fits n e (read t (e .child)) ≡ b
+        → (d : Bool) → mendable n e (read t (e .previous)) ≡ d → enter n c above t e .table ≡ t
+    go true m b f d g = rw (m, enter)
+    go false m true f d g = rw (m, enter, f)
+    go false m false f true g = absurd (Option·none-ne-some (mended c e (read t (e .previous))) (sym (rw (m, enter, f, mend, g) at h)))
+    go false m false f false g = rw (m, enter, f, mend, g)
+
+pub enter-fits : (n c : ℕ) (above t : List ℕ) (e : Place) → fits n e (read t (e .child)) ≡ true → enter n c above t e .table ≡ t
+unfolding enter
+enter-fits n c above t e f = go (mem (e .child) above) refl
+  where
+    go : (a : Bool) → mem (e .child) above ≡ a → enter n c above t e .table ≡ t
+    go true m = rw (m, enter)
+    go false m = rw (m, enter, f)
+
 -- ── Down a way ──────────────────────────────────────────────────────────────────────────────────────────────────
 
 module _ (level n c k : ℕ) (above : List Step) (t : List ℕ) (e : Place) where
+  pub report-damaged : (x : Report) → enter n c (numbers above) t e .page ≡ none → descendReport (suc level) n c k above t e x ≡ x
+  unfolding descendReport
+  report-damaged x h = rw (descendReport, h)
+
   pub descend-damaged : enter n c (numbers above) t e .page ≡ none
       → descend (suc level) n c k above t e ≡ noWay (enter n c (numbers above) t e .table)
   unfolding descend
@@ -37,6 +65,17 @@ module _ (level n c k : ℕ) (above : List Step) (t : List ℕ) (e : Place) wher
         ≡ record { table = enter n c (numbers above) t e .table; steps = some (record { place = e; page = p } ∷ above) }
     unfolding descend
     descend-ends q = rw (descend, h, q)
+
+    pub report-ends : (x : Report) → pick k (kids e (p .view)) ≡ none
+        → descendReport (suc level) n c k above t e x ≡ adds (reasonAt n t e) x
+    unfolding descendReport
+    report-ends x q = rw (descendReport, h, q)
+
+    pub report-below : (x : Report) (d : Place) → pick k (kids e (p .view)) ≡ some d
+        → descendReport (suc level) n c k above t e x
+        ≡ descendReport level n c k (record { place = e; page = p } ∷ above) (enter n c (numbers above) t e .table) d (adds (reasonAt n t e) x)
+    unfolding descendReport
+    report-below x d q = rw (descendReport, h, q)
 
     pub descend-below : (d : Place) → pick k (kids e (p .view)) ≡ some d
         → descend (suc level) n c k above t e
@@ -58,13 +97,9 @@ module _ (level n c : ℕ) (a : Asked) (above : List ℕ) (e : Place) (w : Walke
 
   pub walk-entered : enters a e w ≡ true → (p : Page) → enter n c above (w .table) e .page ≡ some p
       → walk (suc level) n c a above e w
-      ≡ walkEach (walk level n c a (e .child ∷ above)) (kids e (p .view)) (finds a (p .view) w (enter n c above (w .table) e .table))
+      ≡ walkEach (walk level n c a (e .child ∷ above)) (kids e (p .view)) (finds a (p .view) (noted n e w) (enter n c above (w .table) e .table))
   unfolding walk
   walk-entered h p q = rw (walk, h, q)
-
--- before a walk
-abbrev pub unwalked : List ℕ → Walked
-unwalked t = record { table = t; whole = true; found = [] }
 
 -- with no room the walk ends before the root, and the table stays
 pub walk-none : (n c : ℕ) (a : Asked) (t : List ℕ) → a .room ≡ 0 → walkOf n c a t ≡ unwalked t

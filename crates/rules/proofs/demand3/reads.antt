@@ -8,5 +8,7 @@ pub mod Gathers
 pub mod Shown
 pub mod Walks
 pub mod Lists
+pub mod Totals
 pub mod Tellings
+pub mod Anys
 pub mod InsertsSame

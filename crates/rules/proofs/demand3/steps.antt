@@ -9,6 +9,7 @@ pub mod Halve
 pub mod Grow
 pub mod After
 pub mod Retire
+pub mod Unmarked
 pub mod Writes
 pub mod Mended
 pub mod Paths

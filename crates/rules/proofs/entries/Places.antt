@@ -5,21 +5,22 @@ use native.Mathlib.Omega.{arith}
 use mathlib.Core.Path.{_≡_, refl, sym, ap, _∙_, subst}
 use mathlib.Core.Logic.{_⊎_, inl, inr}
 use mathlib.Core.Bool.{Bool, true, false, not}
-use mathlib.Core.List.{List}
+use mathlib.Core.List.{List, [], _∷_}
 use mathlib.Core.Option.{some, none, Option·some-injective, Option·none-ne-some}
 use lib.Dec.{eqb}
 use borrow.Author.Tests.{leb-true, le-leb, eqb-true, eqb-false, eq-eqb, ne-eqb, not-true}
 use lib.ListN.{length}
 use Rattle.rules.specs.Layout.{leafRoom}
-use Rattle.rules.specs.Test.{mem}
+use Rattle.rules.specs.Test.{every, mem}
 use Rattle.rules.specs.Key.{goodKey}
 use Rattle.rules.specs.Entry.{Cert, keys}
 use Rattle.rules.specs.Page.{View, Page, isLeaf, fresh, touch}
 use Rattle.rules.specs.Table.{read}
 use Rattle.rules.specs.Sound.{sound}
-use Rattle.rules.specs.Place.{kindAsked, fits, mendable, cutView, mended, show}
+use Rattle.rules.specs.Place.{kindAsked, trial, firstFailed, unfit, isNone, fits, mendable, cutView, mended, show}
 use Rattle.rules.specs.Insert.{putCert}
 use Rattle.rules.specs.declared.Place.{Place}
+use Rattle.rules.specs.declared.Reason.{Reason}
 use Rattle.rules.proofs.entries.Tests.{or-cases, or-left, or-right, fails, every-true, every-of, between-low, between-high, between-of, or-other, or-of}
 use Rattle.rules.proofs.entries.Views.{Shaped, shaped-read, shaped-cut}
 use Rattle.rules.proofs.entries.Sounds.{Sound, sound-true, sound-of, sound-same, sound-cut, sound-putCert}
@@ -48,10 +49,31 @@ pub record Fits (n : ℕ) (e : Place) (p : Page) : Type 0 where
   pub low : p .low ≡ e .low
   pub high : p .high ≡ e .high
 
+-- the tests of a place, one by one
+abbrev tests : ℕ → Place → Page → List Bool
+tests n e p =
+    sound n p
+    ∷ (kindAsked (e .want) (p .view .kind) ∷ (eqb (p .birth) (e .birth) ∷ (eqb (p .low) (e .low) ∷ (eqb (p .high) (e .high) ∷ []))))
+
+-- a page fits if every test passes
+fits-every : (n : ℕ) (e : Place) (p : Page) → fits n e p ≡ every (tests n e p)
+unfolding fits unfit firstFailed isNone every
+fits-every n e p =
+    go (sound n p) (kindAsked (e .want) (p .view .kind)) (eqb (p .birth) (e .birth)) (eqb (p .low) (e .low)) (eqb (p .high) (e .high))
+  where
+    go : (a b c d f : Bool)
+        → isNone (firstFailed (trial a Reason.Soundness ∷ (trial b Reason.Kind ∷ (trial c Reason.Birth ∷ (trial d Reason.Range ∷ (trial f Reason.Range ∷ []))))))
+        ≡ every (a ∷ (b ∷ (c ∷ (d ∷ (f ∷ [])))))
+    go false b c d f = refl
+    go true false c d f = refl
+    go true true false d f = refl
+    go true true true false f = refl
+    go true true true true false = refl
+    go true true true true true = refl
+
 pub fits-true : (n : ℕ) (e : Place) (p : Page) → fits n e p ≡ true → Fits n e p
-unfolding fits
 fits-true n e p h =
-    let f = every-true _ h in
+    let f = every-true (tests n e p) (sym (fits-every n e p) ∙ h) in
     let l = eqb-true (p .low) (e .low) (f .1 .1 .1 .0) in
     let u = eqb-true (p .high) (e .high) (f .1 .1 .1 .1 .0) in
     record {
@@ -63,9 +85,9 @@ fits-true n e p h =
     }
 
 pub fits-of : (n : ℕ) (e : Place) (p : Page) → Fits n e p → fits n e p ≡ true
-unfolding fits
 fits-of n e p f =
-    every-of _ (
+    fits-every n e p
+    ∙ every-of (tests n e p) (
       sound-of n p (sound-same (sym (f .low)) (sym (f .high)) (f .sound)),
       (
         asked-of (e .want) (p .view .kind) (f .kind),

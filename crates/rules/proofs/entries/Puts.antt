@@ -11,7 +11,7 @@ use lib.ListN.{length}
 use borrow.Author.Tests.{ltb-true, ltb-false, lt-ltb, le-ltb, eqb-true, eqb-false, eq-eqb, ne-eqb}
 use Rattle.rules.specs.Test.{all, mem}
 use Rattle.rules.specs.Entry.{Entry, keys, find, put, risesFrom, rising}
-use Rattle.rules.proofs.entries.Tests.{all-head, all-tail, all-cons, mem-nil, mem-cases}
+use Rattle.rules.proofs.entries.Tests.{fails, not-both, all-head, all-tail, all-cons, mem-nil, mem-head, mem-tail, mem-cases}
 use Rattle.rules.proofs.entries.Rises.{rises-nil, rises-head, rises-tail, rises-cons, rises-lower, rises-mem, rising-from, rising-of-from, rising-tail, all-keys}
 use Rattle.rules.proofs.entries.Entries.{find-head, find-tail, find-cons, find-mem, mem-find}
 
@@ -161,6 +161,16 @@ module _ {B : Type 0} where
           → (x .key ≡ y .key) ⊎ (mem (x .key) (keys ys) ≡ true) → mem (x .key) (keys ys) ≡ true
       later y ys e (inl q) = absurd (omega (arith, q))
       later y ys e (inr m) = m
+
+  pub length-put-absent : (x : Entry B) (ys : List (Entry B)) → mem (x .key) (keys ys) ≡ false → length (put x ys) ≡ suc (length ys)
+  unfolding keys
+  length-put-absent x ys =
+      put-ind x (λ ys zs. mem (x .key) (keys ys) ≡ false → length zs ≡ suc (length ys))
+      (λ m. refl)
+      (λ y ys e m. refl)
+      (λ y ys e m. absurd (not-both (ap (λ (k : ℕ). mem k (y .key ∷ keys ys)) e ∙ mem-head (y .key) (keys ys)) m))
+      (λ y ys e ih m. ap suc (ih (fails _ (λ h. not-both (mem-tail (x .key) (y .key) (keys ys) h) m))))
+      ys
 
   pub length-put-le : (x : Entry B) (ys : List (Entry B)) → length (put x ys) ≤ suc (length ys)
   length-put-le x ys =

@@ -7,10 +7,10 @@ use mathlib.Core.Path.{_≡_, refl, ap}
 use mathlib.Core.Logic.{_⊎_, inl, inr}
 use mathlib.Core.Bool.{Bool, true, false, _&&_}
 use mathlib.Core.List.{List, [], _∷_, _++_}
-use lib.Dec.{ltb}
+use lib.Dec.{ltb, eqb}
 use lib.ListN.{length, getD, take, drop, take-append-drop, length-take, length-drop}
 use lib.Seq.{getD-take, getD-drop}
-use borrow.Author.Tests.{ltb-true, ltb-false, lt-ltb}
+use borrow.Author.Tests.{ltb-true, ltb-false, lt-ltb, eqb-true, eqb-false}
 use Rattle.rules.specs.Test.{all, mem, distinct}
 use Rattle.rules.specs.Entry.{Entry, keys, risesFrom, rising}
 use Rattle.rules.proofs.entries.Tests.{mem-index, and-left, and-right, and-of, fails, mem-nil, mem-head, mem-tail, mem-cases, mem-at, distinct-nil, distinct-cons}
@@ -141,6 +141,43 @@ pub rising-behind : (xs : List ℕ) (i j d : ℕ) → rising xs ≡ true → mem
 rising-behind xs i j d h m =
     let r = mem-index j (drop i xs) d m in
     omega (arith, rising-at-le xs i (i + r .0) d h (omega arith) (omega (arith, r .1, length-drop i xs)), r .2, getD-drop i xs (r .0) d)
+
+-- what rises is no longer than what rises too and has all of it
+pub length-among : (xs ys : List ℕ) → rising xs ≡ true → rising ys ≡ true → ((k : ℕ) → mem k xs ≡ true → mem k ys ≡ true)
+    → length xs ≤ length ys
+length-among [] ys a b f = omega arith
+length-among (x ∷ xs) [] a b f = absurd (mem-nil x (f x (mem-head x xs)))
+length-among (x ∷ xs) (y ∷ ys) a b f =
+    go (eqb x y) refl (length-among xs ys (rising-tail x xs a) (rising-tail y ys b))
+    (length-among (x ∷ xs) ys a (rising-tail y ys b))
+  where
+    behind : (k : ℕ) → y < k → mem k (y ∷ ys) ≡ true → mem k ys ≡ true
+    behind k h m = pass (mem-cases k y ys m)
+      where
+        pass : (k ≡ y) ⊎ (mem k ys ≡ true) → mem k ys ≡ true
+        pass (inl e) = absurd (omega (arith, e))
+        pass (inr n) = n
+
+    above : (x ≡ y → ⊥) → (x ≡ y) ⊎ (mem x ys ≡ true) → y < x
+    above d (inl e) = absurd (d e)
+    above d (inr m) = rises-mem y x ys (rising-from y ys b) m
+
+    later : y < x → (k : ℕ) → (k ≡ x) ⊎ (mem k xs ≡ true) → y < k
+    later h k (inl e) = omega (arith, e)
+    later h k (inr m) = omega (arith, rises-mem x k xs (rising-from x xs a) m)
+
+    go : (t : Bool) → eqb x y ≡ t → (((k : ℕ) → mem k xs ≡ true → mem k ys ≡ true) → length xs ≤ length ys)
+        → (((k : ℕ) → mem k (x ∷ xs) ≡ true → mem k ys ≡ true) → suc (length xs) ≤ length ys) → suc (length xs) ≤ suc (length ys)
+    go true e both rest =
+        let q = eqb-true x y e in
+        omega (
+          arith,
+          both (λ k m.
+              behind k (omega (arith, q, rises-mem x k xs (rising-from x xs a) m)) (f k (mem-tail k x xs m))),
+        )
+    go false e both rest =
+        let h = above (eqb-false x y e) (mem-cases x y ys (f x (mem-head x xs))) in
+        omega (arith, rest (λ k m. behind k (later h k (mem-cases k x xs m)) (f k m)))
 
 -- ── The keys of entries ─────────────────────────────────────────────────────────────────────────────────────────
 

@@ -13,7 +13,7 @@ stands-requires c κs = search needs
 returns : tie.Need-returns
 returns c =
     let args = c .before .before .before .args in
-    eqb-true (args .guess) (spotOf (args .key) (keysIn (args .size) (args .count) (args .page .now)))
+    eqb-true (args .guess) (spotOf (args .key) (keysIn (args .header) (args .size) (args .count) (args .page .now)))
     (sym (c .before .stands .ensures) ∙ c .if1 .taken)
 
 seek-requires : tie.Need-seek-requires

@@ -11,15 +11,15 @@ use Rattle.seek.proofs.guess.Statement.{statement}
 use Rattle.seek.proofs.guess.Tie as tie
 
 abbrev Inv-loop : tie.InvT-loop
-Inv-loop page size count key low₀ left₀ low left = Halving key (keysIn size count page) low left
+Inv-loop page header size count key low₀ left₀ low left = Halving key (keysIn header size count page) low left
 
 abbrev μ-loop : tie.MeasureT-loop
-μ-loop page size count key low₀ left₀ low left = left
+μ-loop page header size count key low₀ left₀ low left = left
 
 loop-holds : tie.Need-loop-holds Inv-loop μ-loop
 loop-holds c =
     let args = c .before .args in
-    halving-all (args .key) (args .size) (args .count) (args .page .now)
+    halving-all (args .key) (args .header) (args .size) (args .count) (args .page .now)
 
 sub-step : tie.Need-sub-step Inv-loop μ-loop
 sub-step c = omega arith
@@ -29,35 +29,35 @@ add-get64 c =
     let args = c .before .before .before .args in
     let loop = c .before .loop in
     omega
-    (arith, half-inside (args .key) (args .size) (args .count) (args .page .now) (loop .low) (loop .left) (loop .inv) (omega arith))
+    (arith, half-inside (args .key) (args .header) (args .size) (args .count) (args .page .now) (loop .low) (loop .left) (loop .inv) (omega arith))
 
 sub-get64 : tie.Need-sub-get64 Inv-loop μ-loop
 sub-get64 c =
     let args = c .before .before .before .args in
     let loop = c .before .loop in
     omega
-    (arith, half-inside (args .key) (args .size) (args .count) (args .page .now) (loop .low) (loop .left) (loop .inv) (omega arith))
+    (arith, half-inside (args .key) (args .header) (args .size) (args .count) (args .page .now) (loop .low) (loop .left) (loop .inv) (omega arith))
 
 mul-get64 : tie.Need-mul-get64 Inv-loop μ-loop
 mul-get64 c =
     let args = c .before .before .before .args in
     let loop = c .before .loop in
     omega
-    (arith, within (args .size) (loop .low + (loop .left - loop .left / 2) - 1) (args .count) (half-inside (args .key) (args .size) (args .count) (args .page .now) (loop .low) (loop .left) (loop .inv) (omega arith)))
+    (arith, within (args .size) (loop .low + (loop .left - loop .left / 2) - 1) (args .count) (half-inside (args .key) (args .header) (args .size) (args .count) (args .page .now) (loop .low) (loop .left) (loop .inv) (omega arith)))
 
 add-get64-2 : tie.Need-add-get64-2 Inv-loop μ-loop
 add-get64-2 c =
     let args = c .before .before .before .args in
     let loop = c .before .loop in
     omega
-    (arith, within (args .size) (loop .low + (loop .left - loop .left / 2) - 1) (args .count) (half-inside (args .key) (args .size) (args .count) (args .page .now) (loop .low) (loop .left) (loop .inv) (omega arith)))
+    (arith, within (args .size) (loop .low + (loop .left - loop .left / 2) - 1) (args .count) (half-inside (args .key) (args .header) (args .size) (args .count) (args .page .now) (loop .low) (loop .left) (loop .inv) (omega arith)))
 
 get64-requires : tie.Need-get64-requires Inv-loop μ-loop
 get64-requires c κs =
     let args = c .before .before .before .args in
     let loop = c .before .loop in
     omega
-    (arith, within (args .size) (loop .low + (loop .left - loop .left / 2) - 1) (args .count) (half-inside (args .key) (args .size) (args .count) (args .page .now) (loop .low) (loop .left) (loop .inv) (omega arith)))
+    (arith, within (args .size) (loop .low + (loop .left - loop .left / 2) - 1) (args .count) (half-inside (args .key) (args .header) (args .size) (args .count) (args .page .now) (loop .low) (loop .left) (loop .inv) (omega arith)))
 
 cast-low : tie.Need-cast-low Inv-loop μ-loop
 cast-low c = search needs
@@ -71,7 +71,7 @@ sub-low c =
     let pre = c .before .before .before .before .pre in
     let loop = c .before .before .loop in
     shifted (args .key) (c .get64 .result) (loop .left - loop .left / 2)
-    (omega (arith, few (args .size) (args .count) (pre .0) (omega arith), half-inside (args .key) (args .size) (args .count) (args .page .now) (loop .low) (loop .left) (loop .inv) (omega arith))) .0
+    (omega (arith, few (args .header) (args .size) (args .count) (pre .0) (omega arith), half-inside (args .key) (args .header) (args .size) (args .count) (args .page .now) (loop .low) (loop .left) (loop .inv) (omega arith))) .0
 
 add-low : tie.Need-add-low Inv-loop μ-loop
 add-low c =
@@ -80,8 +80,8 @@ add-low c =
     let loop = c .before .before .loop in
     let get64 = c .get64 in
     rw
-    (shifted (args .key) (get64 .result) (loop .left - loop .left / 2) (omega (arith, few (args .size) (args .count) (pre .0) (omega arith), half-inside (args .key) (args .size) (args .count) (args .page .now) (loop .low) (loop .left) (loop .inv) (omega arith))) .1)
-    (omega (arith, passed-most (args .key) (get64 .result) (loop .left - loop .left / 2), few (args .size) (args .count) (pre .0) (omega arith), half-inside (args .key) (args .size) (args .count) (args .page .now) (loop .low) (loop .left) (loop .inv) (omega arith)))
+    (shifted (args .key) (get64 .result) (loop .left - loop .left / 2) (omega (arith, few (args .header) (args .size) (args .count) (pre .0) (omega arith), half-inside (args .key) (args .header) (args .size) (args .count) (args .page .now) (loop .low) (loop .left) (loop .inv) (omega arith))) .1)
+    (omega (arith, passed-most (args .key) (get64 .result) (loop .left - loop .left / 2), few (args .header) (args .size) (args .count) (pre .0) (omega arith), half-inside (args .key) (args .header) (args .size) (args .count) (args .page .now) (loop .low) (loop .left) (loop .inv) (omega arith)))
 
 sub-left : tie.Need-sub-left Inv-loop μ-loop
 sub-left c = omega arith
@@ -96,14 +96,14 @@ loop-again c =
     let loop = c .before .before .loop in
     let get64 = c .get64 in
     rw
-    (shifted (args .key) (get64 .result) (loop .left - loop .left / 2) (omega (arith, few (args .size) (args .count) (pre .0) (omega arith), half-inside (args .key) (args .size) (args .count) (args .page .now) (loop .low) (loop .left) (loop .inv) (omega arith))) .1)
-    (halving-step (args .key) (args .size) (args .count) (args .page .now) (loop .low) (loop .left) (loop .inv) (omega arith) (get64 .result) (get64 .ensures))
+    (shifted (args .key) (get64 .result) (loop .left - loop .left / 2) (omega (arith, few (args .header) (args .size) (args .count) (pre .0) (omega arith), half-inside (args .key) (args .header) (args .size) (args .count) (args .page .now) (loop .low) (loop .left) (loop .inv) (omega arith))) .1)
+    (halving-step (args .key) (args .header) (args .size) (args .count) (args .page .now) (loop .low) (loop .left) (loop .inv) (omega arith) (get64 .result) (get64 .ensures))
 
 returns : tie.Need-returns Inv-loop μ-loop
 returns c =
     let args = c .before .before .before .args in
     let loop = c .before .loop in
-    halving-end (args .key) (args .size) (args .count) (args .page .now) (loop .low) (loop .left) (loop .inv)
+    halving-end (args .key) (args .header) (args .size) (args .count) (args .page .now) (loop .low) (loop .left) (loop .inv)
     (omega arith)
 
 pub guess-spec : {M : Type 1} → statement M

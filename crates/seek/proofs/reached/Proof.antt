@@ -11,7 +11,7 @@ use Rattle.seek.proofs.reached.Tie as tie
 returns : tie.Need-returns
 returns c =
     let args = c .before .before .args in
-    reached-none (args .key) (args .size) (args .count) (args .number) (args .page .now) (c .if1 .taken)
+    reached-none (args .key) (args .header) (args .size) (args .count) (args .number) (args .page .now) (c .if1 .taken)
 
 sub-get64 : tie.Need-sub-get64
 sub-get64 c = search needs
@@ -42,7 +42,7 @@ returns-2 c =
     let args = c .before .before .before .args in
     let pre = c .before .before .before .pre in
     let get64 = c .get64 in
-    reached-last (args .key) (args .size) (args .count) (args .number) (args .page .now) (pre .3) (pre .4)
+    reached-last (args .key) (args .header) (args .size) (args .count) (args .number) (args .page .now) (pre .3) (pre .4)
     (c .before .if1 .left) (get64 .result) (get64 .ensures)
 
 pub reached-spec : {M : Type 1} → statement M

@@ -13,7 +13,7 @@ guess-requires c κs = search needs
 returns : tie.Need-returns
 returns c =
     let args = c .before .before .args in
-    c .guess .ensures ∙ guess-spot (args .key) (keysIn (args .size) (args .count) (args .page .now))
+    c .guess .ensures ∙ guess-spot (args .key) (keysIn (args .header) (args .size) (args .count) (args .page .now))
     (c .before .before .pre .3)
 
 pub seek-spec : {M : Type 1} → statement M

@@ -12,7 +12,7 @@ use Rattle.seek.proofs.stands.Tie as tie
 returns : tie.Need-returns
 returns c =
     let args = c .before .before .args in
-    beyond-all (args .key) (args .size) (args .count) (args .number) (args .page .now) (c .if1 .taken)
+    beyond-all (args .key) (args .header) (args .size) (args .count) (args .number) (args .page .now) (c .if1 .taken)
 
 reached-requires : tie.Need-reached-requires
 reached-requires c κs = search needs
@@ -21,14 +21,14 @@ returns-2 : tie.Need-returns-2
 returns-2 c =
     let args = c .before .before .before .before .args in
     let reached = c .before .reached in
-    not-reached (args .key) (args .size) (args .count) (args .number) (args .page .now)
+    not-reached (args .key) (args .header) (args .size) (args .count) (args .number) (args .page .now)
     (sym (reached .ensures) ∙ not-true (reached .result) (c .if2 .taken))
 
 returns-3 : tie.Need-returns-3
 returns-3 c =
     let args = c .before .before .before .before .before .args in
     let reached = c .before .before .reached in
-    reached-all (args .key) (args .size) (args .count) (args .number) (args .page .now)
+    reached-all (args .key) (args .header) (args .size) (args .count) (args .number) (args .page .now)
     (sym (reached .ensures) ∙ not-false (reached .result) (c .before .if2 .left)) (c .if3 .taken)
 
 mul-get64 : tie.Need-mul-get64
@@ -63,7 +63,7 @@ returns-4 c =
     let reached = c .before .before .before .reached in
     let get64 = c .get64 in
     let o = c .before .if3 .left in
-    reached-next (args .key) (args .size) (args .count) (args .number) (args .page .now)
+    reached-next (args .key) (args .header) (args .size) (args .count) (args .number) (args .page .now)
     (sym (reached .ensures) ∙ not-false (reached .result) (c .before .before .if2 .left)) (pre .3)
     (omega (arith, if1 .left)) (get64 .result) (get64 .ensures)
 

@@ -1,5 +1,6 @@
 -- `split::grow`: the root built, named in page 0 and taken are what the rules grow. Assumes nothing.
 use Rattle.split.proofs.Grown.{grown}
+use native.Mathlib.Omega.{arith}
 use borrow.Author.Needs.{needs}
 use Rattle.split.proofs.grow.Statement.{statement}
 use Rattle.split.proofs.grow.Tie as tie
@@ -8,7 +9,9 @@ add-build-root : tie.Need-add-build-root
 add-build-root c = search needs
 
 build-root-requires : tie.Need-build-root-requires
-build-root-requires c κs = search needs
+build-root-requires c κs =
+    let pre = c .before .before .before .pre in
+    (search needs, omega (arith, pre .kind-from))
 
 root-previous-requires : tie.Need-root-previous-requires
 root-previous-requires c κs = search needs

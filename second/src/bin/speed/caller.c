@@ -60,7 +60,7 @@ static bool store_sync(void)
 
 static bool store_put(uint64_t key, uint32_t record)
 {
-    KhAnswered put = kh_insert(working, BYTES, stable, BYTES, session, model(key), serial(key), issue(key), record);
+    KhChanged put = kh_insert(working, BYTES, stable, BYTES, session, model(key), serial(key), issue(key), record);
     session = put.session;
     return put.answer == KH_DONE;
 }

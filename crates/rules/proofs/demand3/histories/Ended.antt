@@ -17,15 +17,17 @@ use Rattle.rules.specs.Open.{opening, openRefused}
 use Rattle.rules.specs.Insert.{insert, insertRefused}
 use Rattle.rules.specs.Lookup.{lookup, lookupLeft}
 use Rattle.rules.specs.Newest.{newest, newestLeft}
+use Rattle.rules.specs.HasAny.{hasAny, anyLeft}
 use Rattle.rules.specs.List.{ListLeft, list, listRefused}
 use Rattle.rules.specs.Sync.{sync, syncRefused}
 use Rattle.rules.specs.Crash.{crashed, insideSync}
-use Rattle.rules.specs.History.{Event, inserts, looks, asksNewest, lists, syncs, opens, crashes, crashesInSync, State, afterInsert, afterSync, afterOpen, afterReading, step, Proper}
+use Rattle.rules.specs.History.{Event, inserts, looks, asksNewest, asksAny, lists, syncs, opens, crashes, crashesInSync, State, afterInsert, afterSync, afterOpen, afterReading, step, Proper}
 use Rattle.rules.specs.Demand.{CrashOf, betweenCalls, inSync, openAnswer, Survives}
 use Rattle.rules.specs.declared.Opened.{Opened}
 use Rattle.rules.specs.declared.Inserted.{Inserted}
 use Rattle.rules.specs.declared.Looked.{Looked}
 use Rattle.rules.specs.declared.Newest.{Newest}
+use Rattle.rules.specs.declared.Any.{Any}
 use Rattle.rules.specs.declared.Listed.{Listed}
 use Rattle.rules.specs.declared.Synced.{Synced}
 use Rattle.rules.specs.declared.Session.{Session}
@@ -73,6 +75,11 @@ module _ {n : ℕ} {m : State} (o : Over n m) where
       → newest (m .working) (m .stable) (m .session) model serial ≡ newestLeft (m .session) (m .working) (m .stable) Newest.Length
   unfolding newest
   asking model serial = rw (refused, newest)
+
+  asking-any : (model serial : ℕ)
+      → hasAny (m .working) (m .stable) (m .session) model serial ≡ anyLeft (m .session) (m .working) (m .stable) Any.Length
+  unfolding hasAny
+  asking-any model serial = rw (refused, hasAny)
 
   listing : (start : ℕ) (ks xs : List ℕ)
       → list (m .working) (m .stable) (m .session) start ks xs ≡ listRefused Listed.Length (m .session) (m .working) (m .stable) ks xs
@@ -128,13 +135,15 @@ module _ {n : ℕ} {m : State} (o : Over n m) where
   -- ── Any event ─────────────────────────────────────────────────────────────────────────────────────────────────
 
   pub over-step : (e : Event) → Proper n e → Over n (step e m)
-  unfolding Proper step afterReading afterInsert afterSync insertRefused lookupLeft newestLeft listRefused syncRefused
+  unfolding Proper step afterReading afterInsert afterSync insertRefused lookupLeft newestLeft anyLeft listRefused syncRefused
   over-step (inserts model serial issue x) p =
       subst (λ (r : Left Inserted). Over n (afterInsert (keyOf model serial issue) x m r)) (sym (inserting model serial issue x)) o
   over-step (looks model serial issue) p =
       subst (λ (r : Left Looked). Over n (afterReading m (r .session) (r .working) (r .stable))) (sym (looking model serial issue)) o
   over-step (asksNewest model serial) p =
       subst (λ (r : Left Newest). Over n (afterReading m (r .session) (r .working) (r .stable))) (sym (asking model serial)) o
+  over-step (asksAny model serial) p =
+      subst (λ (r : Left Any). Over n (afterReading m (r .session) (r .working) (r .stable))) (sym (asking-any model serial)) o
   over-step (lists start ks xs) p =
       subst (λ (r : ListLeft). Over n (afterReading m (r .session) (r .working) (r .stable))) (sym (listing start ks xs)) o
   over-step syncs p = subst (λ (r : Left Synced). Over n (afterSync m r)) (sym syncing) o

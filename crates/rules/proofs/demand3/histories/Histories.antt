@@ -1,6 +1,6 @@
 -- Histories: a store fresh from format and opening is alive, and every event leaves it alive or with its number spent. So what
 -- demand 3 says holds at every point of every history.
-use Prim.Native.Nat.{ℕ, _*_, _≤_}
+use Prim.Native.Nat.{ℕ, _+_, _*_, _≤_}
 use native.Mathlib.Omega.{arith}
 use mathlib.Core.Path.{_≡_, refl, sym, ap, _∙_, subst}
 use mathlib.Core.Logic.{inl, inr}
@@ -13,14 +13,14 @@ use borrow.Author.Tests.{eqb-true, eqb-false, leb-true, leb-false}
 use Rattle.rules.specs.Layout.{pageSize, fewestPages, lastKey, lastNumber}
 use Rattle.rules.specs.Key.{keyOf, goodParts}
 use Rattle.rules.specs.Table.{pages, goodLengths}
-use Rattle.rules.specs.Marks.{turned, nobody}
+use Rattle.rules.specs.Marks.{wraps, turned, nobody}
 use Rattle.rules.specs.Call.{Left, insertedNo}
 use Rattle.rules.specs.Format.{formatted, format}
 use Rattle.rules.specs.Open.{opening}
 use Rattle.rules.specs.Insert.{insertRefused, insert}
 use Rattle.rules.specs.Sync.{sync, syncDone, syncRefused}
-use Rattle.rules.specs.History.{Event, inserts, looks, asksNewest, lists, syncs, opens, crashes, crashesInSync, State, latest, earliest, gains, afterInsert, afterSync, afterOpen, afterReading, crashNow, crashInSyncNow, step, start, run, Proper, AllProper}
-use Rattle.rules.specs.Demand.{betweenCalls, inSync, OneOf, Reads, look, ask, listing, Survives, Serves, Lent, Demand3, SessionTells, OpenedTold}
+use Rattle.rules.specs.History.{Event, inserts, looks, asksNewest, asksAny, lists, syncs, opens, crashes, crashesInSync, State, latest, earliest, gains, afterInsert, afterSync, afterOpen, afterReading, crashNow, crashInSyncNow, step, start, run, Proper, AllProper}
+use Rattle.rules.specs.Demand.{betweenCalls, inSync, OneOf, Reads, look, ask, askAny, listing, Survives, Serves, Lent, Demand3, SessionTells, OpenedTold}
 use Rattle.rules.specs.declared.Opened.{Opened}
 use Rattle.rules.specs.declared.Inserted.{Inserted}
 use Rattle.rules.specs.declared.Synced.{Synced}
@@ -28,15 +28,19 @@ use Rattle.rules.specs.declared.Session.{Session}
 use Rattle.rules.proofs.bytes.Keys.{keyOf-bound}
 use Rattle.rules.proofs.bytes.Lengths.{pages-of, tables-good}
 use Rattle.rules.proofs.demand3.ways.Ways.{Tells}
+use Rattle.rules.proofs.demand3.ways.Invariant.{Good}
 use Rattle.rules.proofs.demand3.ways.Nodes.{tells-one}
+use Rattle.rules.proofs.demand3.epochs.Epochs.{working-good}
 use Rattle.rules.proofs.demand3.epochs.Store.{Safe}
 use Rattle.rules.proofs.demand3.epochs.Syncs.{sync-done, sync-spent, numbered, sync-safe, sync-told}
-use Rattle.rules.proofs.demand3.epochs.Formats.{fresh-table, first-opening, first-safe}
+use Rattle.rules.proofs.demand3.epochs.FirstLeaf.{first-good}
+use Rattle.rules.proofs.demand3.epochs.Formats.{fresh-table, format-first, first-opening, first-safe}
 use Rattle.rules.proofs.demand3.steps.Mended.{steady-same}
 use Rattle.rules.proofs.demand3.steps.PutIn.{Also}
 use Rattle.rules.proofs.demand3.steps.Inserts.{Stays, Added, Inserts, present, sync-first, no-room, added, insert-inserts, insert-bad-key}
+use Rattle.rules.proofs.demand3.reads.Totals.{certsIn, few-certs, same-certs, one-more}
 use Rattle.rules.proofs.demand3.histories.Pasts.{Settled, settled-gains, settled-earliest, gains-here, gains-other, gains-more, gains-new}
-use Rattle.rules.proofs.demand3.histories.Fates.{Alive, Fate, alive, over, safe-widen, tells-bound, alive-anew, alive-done, alive-reading}
+use Rattle.rules.proofs.demand3.histories.Fates.{Alive, Fate, alive, over, safe-widen, tells-bound, wraps-few, alive-anew, alive-done, alive-reading}
 use Rattle.rules.proofs.demand3.histories.Survivals.{alive-survives, fate-opens, fate-crashes}
 use Rattle.rules.proofs.demand3.histories.Ended.{no-pages, over-closed, over-survives, over-step}
 use Rattle.rules.proofs.demand3.histories.Servings.{alive-reads, alive-serves}
@@ -128,6 +132,17 @@ module _ {n : ℕ} {m : State} (a : Alive n m) (k x : ℕ) (bound : k ≤ lastKe
           (ap (λ (l : ℕ). latest (m .past l)) e ∙ tells-one (a .now k bound) (i .absent)))
       go false q = subst Settled (sym (gains-other k x (m .past) j (eqb-false j k q))) (a .settled j)
 
+  totals : r .session .total ≡ certsIn (r .session .n) (r .working)
+  totals =
+      let old = working-good (a .safe .inv) in
+      let new = subst (λ (l : ℕ). Good l (r .working)) (i .pages) (working-good (i .safe .inv)) in
+      let more = one-more old new k x (i .absent) (i .own) (i .others) in
+      ap (λ (s : Session). s .total) (i .unmarked)
+      ∙ ap (λ (j : ℕ). wraps (j + 1)) (a .total)
+      ∙ ap wraps (sym more)
+      ∙ wraps-few (few-certs (m .session .n) (r .working))
+      ∙ ap (λ (l : ℕ). certsIn l (r .working)) (sym (i .pages))
+
   pub alive-inserted : Alive n (afterInsert k x m r)
   alive-inserted =
       subst (Alive n) (sym inserted-is)
@@ -144,6 +159,7 @@ module _ {n : ℕ} {m : State} (a : Alive n m) (k x : ℕ) (bound : k ≤ lastKe
         now = λ j h.
             subst (λ (l : ℕ). Tells l (r .working) j (latest (gains k x (m .past) j))) (sym (i .pages)) (told j h);
         settled = settles;
+        total = totals;
       })
 
 -- ── Sync ────────────────────────────────────────────────────────────────────────────────────────────────────────
@@ -156,6 +172,7 @@ alive-sync {n} {m} a = go (leb (m .session .c) lastNumber) refl
     new l =
         alive-anew (turned (m .session)) (numbered (a .safe)) (m .opened) (λ k. latest (m .past k)) (a .opened) (sync-safe (a .safe) l)
         (λ k o y. tells-one y (sync-told (a .safe) (a .now k (tells-bound y))))
+        (a .total ∙ sym (same-certs (working-good (a .safe .inv)) (working-good (sync-safe (a .safe) l .inv)) (λ k o y. sync-told (a .safe) y)))
 
     go : (b : Bool) → leb (m .session .c) lastNumber ≡ b → Alive n (afterSync m (sync (m .working) (m .stable) (m .session)))
     go true h =
@@ -201,6 +218,7 @@ unfolding Proper step
 alive-step a (inserts model serial issue x) t = alive (alive-insert a model serial issue x t)
 alive-step a (looks model serial issue) t = alive (alive-reads a (looks model serial issue) look)
 alive-step a (asksNewest model serial) t = alive (alive-reads a (asksNewest model serial) ask)
+alive-step a (asksAny model serial) t = alive (alive-reads a (asksAny model serial) askAny)
 alive-step a (lists from ks xs) t = alive (alive-reads a (lists from ks xs) listing)
 alive-step a syncs t = alive (alive-sync a)
 alive-step a opens t = fate-opens a
@@ -222,7 +240,7 @@ unfolding start format
 fate-start n w s l =
     alive (subst (λ (t : List ℕ). Alive n (afterOpen (λ k. []) (opening w t))) (sym formats)
     (subst (λ (r : Left Opened). Alive n (afterOpen (λ k. []) r)) (sym (first-opening n (l .few) (l .most) w (l .working)))
-    (alive-done n (λ k. []) (fresh-table n (l .few) (l .most)) (first-safe n (l .few) (l .most)))))
+    (alive-done n (λ k. []) (fresh-table n (l .few) (l .most)) (first-good (format-first n (l .few) (l .most))) (first-safe n (l .few) (l .most)))))
   where
     lengths : goodLengths w s ≡ true
     lengths = tables-good (record { least = l .few; most = l .most; working = l .working; stable = l .stable })

@@ -187,7 +187,7 @@ module _ {n : ℕ} {m : State} (a : Alive n m) where
         go true h =
             let l = leb-true (number0 t) lastNumber h in
             subst (λ (r : Left Opened). Fate (m .session .n) (afterOpen (m .past) r)) (sym (opens-done l))
-            (alive (alive-done (m .session .n) (m .past) t (opened-safe l)))
+            (alive (alive-done (m .session .n) (m .past) t good (opened-safe l)))
         go false h =
             let l = leb-false (number0 t) lastNumber h in
             subst (λ (r : Left Opened). Fate (m .session .n) (afterOpen (m .past) r)) (sym (opens-spent l))

@@ -70,11 +70,11 @@ abbrev EachOrdered : (Place → Tree) → List Place → Type 0
 EachOrdered f es = (d : Place) → List·Memᴰ d es → Ordered (d .low) (d .high) (f d .certs)
 
 module _ (f : Place → Tree) where
-  each-nil : treeEach f [] .certs ≡ []
+  pub each-nil : treeEach f [] .certs ≡ []
   unfolding treeEach empty
   each-nil = refl
 
-  each-cons : (e : Place) (es : List Place) → treeEach f (e ∷ es) .certs ≡ f e .certs ++ treeEach f es .certs
+  pub each-cons : (e : Place) (es : List Place) → treeEach f (e ∷ es) .certs ≡ f e .certs ++ treeEach f es .certs
   unfolding treeEach join
   each-cons e es = refl
 

@@ -12,7 +12,7 @@ use Rattle.rules.specs.Entry.{Cert, cut}
 use Rattle.rules.specs.Page.{View}
 use Rattle.rules.specs.Place.{rootPlace, kids, show}
 use Rattle.rules.specs.Enter.{enter}
-use Rattle.rules.specs.Walk.{Walked, enters, finds, walkEach, walk, walkOf}
+use Rattle.rules.specs.Walk.{Walked, unwalked, noted, enters, finds, walkEach, walk, walkOf}
 use Rattle.rules.specs.Tree.{empty, join, treeEach, tree, treeOf}
 use Rattle.rules.specs.declared.Asked.{Asked}
 use Rattle.rules.specs.declared.Place.{Place}
@@ -60,7 +60,7 @@ module _ (s : Session) (t S : List ℕ) (Been : States) (a : Asked) where
     here = entering (h .left) node shows above higher
 
     -- on entering
-    begun : Walking (gather a xs (v .certs)) (finds a v w (enter (s .n) (s .c) above (w .table) e .table))
+    begun : Walking (gather a xs (v .certs)) (finds a v (noted (s .n) e w) (enter (s .n) (s .c) above (w .table) e .table))
     unfolding finds
     begun =
         record {
@@ -112,9 +112,9 @@ module _ (s : Session) (t S : List ℕ) (Been : States) (a : Asked) where
           (sym (walk-entered level (s .n) (s .c) a above e w p (r .found) (r .page)))
           (subst (λ (u : View). Walking (gather a (gather a xs (v .certs)) (treeEach (tree level (s .n) t) (kids e v) .certs))
           (walkEach (walk level (s .n) (s .c) a (e .child ∷ above)) (kids e u)
-          (finds a u w (enter (s .n) (s .c) above (w .table) e .table)))) (sym (r .view))
+          (finds a u (noted (s .n) e w) (enter (s .n) (s .c) above (w .table) e .table)))) (sym (r .view))
           (each level (e .child ∷ above) (kids e v) ih (gather a xs (v .certs))
-          (finds a v w (enter (s .n) (s .c) above (w .table) e .table)) (begun node shows above higher xs w h))))
+          (finds a v (noted (s .n) e w) (enter (s .n) (s .c) above (w .table) e .table)) (begun node shows above higher xs w h))))
 
 -- what a walk over a range finds in t
 abbrev pub sought : ℕ → List ℕ → Asked → List Cert
@@ -133,4 +133,4 @@ walkOf-walking {s} {t} {u} {S} {Been} a x m =
     (record { whole = refl; found = refl; left = m }))
   where
     first : Walked
-    first = record { table = u; whole = true; found = [] }
+    first = unwalked u

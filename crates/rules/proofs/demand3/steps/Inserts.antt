@@ -14,7 +14,7 @@ use Rattle.rules.specs.Key.{keyOf, goodParts, goodKey}
 use Rattle.rules.specs.Entry.{find}
 use Rattle.rules.specs.Table.{read, fit0}
 use Rattle.rules.specs.Walk.{Step, Way, numbers, certsAt, wayOf}
-use Rattle.rules.specs.Marks.{freePages}
+use Rattle.rules.specs.Marks.{counted, freePages}
 use Rattle.rules.specs.Call.{Left, lengthsFor}
 use Rattle.rules.specs.Insert.{splitting, tooSoon, noRoom, putCert, changed, Making, making, split, insertRefused, insertDone, insertAlong, insertKey, insert}
 use Rattle.rules.specs.declared.Place.{Place}
@@ -32,7 +32,8 @@ use Rattle.rules.proofs.demand3.epochs.Store.{freeMark, Safe}
 use Rattle.rules.proofs.demand3.epochs.Syncs.{lengths-for}
 use Rattle.rules.proofs.demand3.steps.Mended.{Steady, steady-tells, steady-told}
 use Rattle.rules.proofs.demand3.steps.Paths.{From, Path, at-shows, Descends, way-descends, way-tells}
-use Rattle.rules.proofs.demand3.steps.Keeps.{Keeps, keeps-of, safe-of}
+use Rattle.rules.proofs.demand3.steps.Keeps.{Keeps, keeps-of, keeps-counted, safe-of}
+use Rattle.rules.proofs.demand3.steps.Unmarked.{unmarked, split-unmarked}
 use Rattle.rules.proofs.demand3.steps.Stands.{Stands}
 use Rattle.rules.proofs.demand3.steps.SplitWay.{split-stands}
 use Rattle.rules.proofs.demand3.steps.PutIn.{Also, put-keeps, put-tells-own, put-tells-other}
@@ -53,6 +54,8 @@ pub record Added (s : Session) (W S : List ℕ) (Been : States) (k x : ℕ) (r :
   pub stable : r .stable ≡ S
   pub pages : r .session .n ≡ s .n
   pub counter : r .session .c ≡ s .c
+  -- there is one certificate more
+  pub unmarked : unmarked (r .session) ≡ unmarked (counted s)
   pub safe : Safe (r .session) (r .working) S (Also Been k x)
   pub absent : Tells (s .n) W k none
   pub own : Tells (s .n) (r .working) k (some x)
@@ -83,7 +86,7 @@ unfolding insertAlong
 along-full k x s way w t f q r = rw (f, insertAlong) (rw q (rw r))
 
 along-done : (k x : ℕ) (s : Session) (way : List Step) (w t : List ℕ) → find k (certsAt way) ≡ none → tooSoon (s .c) (splitting way) ≡ false
-    → noRoom way (freePages s (numbers way)) ≡ false → insertAlong k x s way w t ≡ insertDone k x s way w t
+    → noRoom way (freePages s (numbers way)) ≡ false → insertAlong k x s way w t ≡ insertDone k x (counted s) way w t
 unfolding insertAlong
 along-done k x s way w t f q r = rw (f, insertAlong) (rw q (rw r))
 
@@ -135,8 +138,8 @@ module _ {s : Session} {W S : List ℕ} {Been : States} (X : Safe s W S Been) (k
   abbrev n : ℕ
   n = s .n
 
-  keeps : Keeps n (s .c) s (way .table) S Been
-  keeps = keeps-of (D .safe)
+  keeps : Keeps n (s .c) (counted s) (way .table) S Been
+  keeps = keeps-counted (keeps-of (D .safe))
 
   leaf-tells : (a : Option ℕ) → find k (certsAt steps) ≡ a → Tells n W k a
   unfolding steps
@@ -152,9 +155,9 @@ module _ {s : Session} {W S : List ℕ} {Been : States} (X : Safe s W S Been) (k
     new = freePages s (numbers steps)
 
     made : Making
-    made = split (s .c) k steps (freePages s (numbers steps)) (making (way .table) s 0)
+    made = split (s .c) k steps new (making (way .table) (counted s) 0)
 
-    standing : Stands n (s .c) S Been (way .table) s k (D .last) (numbers steps) new made
+    standing : Stands n (s .c) S Been (way .table) (counted s) k (D .last) (numbers steps) new made
     unfolding steps made
     standing =
         split-stands keeps k (D .above) (D .last) new (D .path)
@@ -175,13 +178,14 @@ module _ {s : Session} {W S : List ℕ} {Been : States} (X : Safe s W S Been) (k
     put-here F h =
         subst (λ (i : ℕ). F (changed (s .c) (putCert (record { key = k; value = x })) (made .table) i)) (standing .number) h
 
-    done : find k (certsAt steps) ≡ none → Added s W S Been k x (insertDone k x s steps (way .table) S)
-    unfolding insertDone made result
+    done : find k (certsAt steps) ≡ none → Added s W S Been k x (insertDone k x (counted s) steps (way .table) S)
+    unfolding insertDone freePages made result
     done f = record {
       answer = refl;
       stable = refl;
       pages = standing .keeps .pages;
       counter = standing .keeps .counter;
+      unmarked = split-unmarked (s .c) k steps new (making (way .table) (counted s) 0);
       safe = put-here (λ t. Safe (made .session) t S (Also Been k x))
           (safe-of (put-keeps (standing .keeps) (standing .node) (standing .found) leaf roomy good x small));
       absent = leaf-tells none f;

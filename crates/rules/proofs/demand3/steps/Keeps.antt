@@ -10,6 +10,7 @@ use Rattle.rules.specs.Layout.{fewestPages, mostPages, lastNumber, inner
 use Rattle.rules.specs.Table.{number0}
 use Rattle.rules.specs.Page.{View, isLeaf, count}
 use Rattle.rules.specs.Walk.{Step}
+use Rattle.rules.specs.Marks.{counted}
 use Rattle.rules.specs.Insert.{previousOf, newChild, putChild, twins, rootOver}
 use Rattle.rules.specs.declared.Session.{Session}
 use Rattle.rules.proofs.bytes.All.{nil, cons}
@@ -67,6 +68,24 @@ safe-of {n} {c} {s} {W} {S} {Been} x = record {
       (subst (λ (m : ℕ). Inv n S W m Been) (sym (x .counter)) (x .inv));
   paged = subst (λ (m : ℕ). Paged m (freeMark s) (waitingMark s)) (sym (x .pages)) (x .paged);
   marks = subst (λ (m : ℕ). Marks m S W (freeMark s) (waitingMark s)) (sym (x .pages)) (x .marks);
+}
+
+-- how many certificates are counted has no say
+pub keeps-counted : {n c : ℕ} {s : Session} {W S : List ℕ} {Been : States} → Keeps n c s W S Been → Keeps n c (counted s) W S Been
+keeps-counted x = record {
+  pages = x .pages;
+  counter = x .counter;
+  sized = record { free = x .sized .free; waiting = x .sized .waiting };
+  few = x .few;
+  most = x .most;
+  small = x .small;
+  working = x .working;
+  stable = x .stable;
+  number-working = x .number-working;
+  number-stable = x .number-stable;
+  inv = x .inv;
+  paged = x .paged;
+  marks = x .marks;
 }
 
 -- a free page is used by nothing

@@ -1,0 +1,4 @@
+pub mod Leaf
+pub mod Turns
+pub mod Calls
+pub mod Tight
