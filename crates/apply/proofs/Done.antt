@@ -12,7 +12,8 @@ use Rattle.rules.specs.Insert.{newPages, putCert, changed, Making, making, spli
 use Rattle.rules.specs.declared.Session.{Session}
 use Rattle.entries.specs.Spot.{newCert}
 use Rattle.edit.specs.Takes.{TakesCert}
-use Rattle.apply.specs.Leads.{Ready, done}
+use Rattle.way.specs.declared.Way.{Way}
+use Rattle.apply.specs.Leads.{Ready, listed, stepsIn, ReadyPages, done}
 use Rattle.apply.proofs.Going.{Gone}
 use Rattle.apply.proofs.Whole.{split-gone}
 use Rattle.apply.proofs.Ends.{leaf-takes}
@@ -58,3 +59,12 @@ module _ {k : ℕ} {t : List ℕ} {s : Session} {steps : List Step} {pages : Lis
       let same = q ∙ split-same (s .c) k steps pages (freePages s (numbers steps)) (making t s 0) (R .lowest) in
       ap (λ (v : List ℕ). done s′ v stable) z
       ∙ ap (λ (m : Making). done (m .session) (changed (s .c) (putCert (record { key = k; value = x })) (m .table) (m .at)) stable) same
+
+-- the same, where of the session only the counter is at hand
+pub pages-done : {c k : ℕ} {t : List ℕ} {w : Way} {pages : List ℕ} (y : ReadyPages c k t w pages) (t′ : List ℕ) (s′ : Session) (at : ℕ)
+    → making t′ s′ at ≡ split (y .session .c) k (stepsIn t (listed w)) pages (making t (y .session) 0) → (x : ℕ) (v : List ℕ)
+    → v ≡ changed c (putCert (newCert k x)) t′ at → (stable : List ℕ)
+    → done s′ v stable ≡ insertDone k x (y .session) (stepsIn t (listed w)) t stable
+pages-done {k = k} y t′ s′ at q x v z stable =
+    all-done (y .ready .ready) t′ s′ at q x v
+    (z ∙ ap (λ (d : ℕ). changed d (putCert (newCert k x)) t′ at) (sym (y .counter))) stable

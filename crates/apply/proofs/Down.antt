@@ -226,7 +226,7 @@ module _ {k : ℕ} {t : List ℕ} {s : Session} {w : Way} {pages : List ℕ} (R 
   reached-split zero h = refl
   reached-split (suc j) h = sym (over-below j h)
 
-  turn-halves : (j : ℕ) → j < many → (t′ : List ℕ) (m′ : Session) (at : ℕ) → making t′ m′ at ≡ reached k t s w pages (suc j)
+  pub turn-halves : (j : ℕ) → j < many → (t′ : List ℕ) (m′ : Session) (at : ℕ) → making t′ m′ at ≡ reached k t s w pages (suc j)
       → Halves t′ (stepOn w j .place) (stepOn w j .head) (getD pages (2 * j) 0) (getD pages (2 * j + 1) 0) at
   turn-halves j h t′ m′ at z =
       over-halves pages s (stepOn w j) (drop (suc j) xs) (2 * j) (level-here j h) (full-here j h) t′ m′ at (z ∙ over-here j h)

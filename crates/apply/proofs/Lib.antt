@@ -11,5 +11,6 @@ pub mod Numbers
 pub mod Handed
 pub mod Done
 pub mod Down
+pub mod Marks
 pub mod Steps
 pub mod Tight

@@ -1,5 +1,5 @@
 -- What is known of a way that was walked, and of the numbers chosen for new pages.
-use Prim.Native.Nat.{ℕ, _-_, _^_, _*_, _≤_, _<_}
+use Prim.Native.Nat.{ℕ, zero, suc, _+_, _-_, _^_, _*_, _≤_, _<_}
 use mathlib.Core.Path.{_≡_}
 use mathlib.Core.Bool.{true, false}
 use mathlib.Core.List.{List, [], _∷_}
@@ -13,7 +13,7 @@ use Rattle.rules.specs.Entry.{find}
 use Rattle.rules.specs.Page.{isLeaf}
 use Rattle.rules.specs.Table.{read}
 use Rattle.rules.specs.Place.{kids, pick}
-use Rattle.rules.specs.Marks.{freePages}
+use Rattle.rules.specs.Marks.{taken, freePages}
 use Rattle.rules.specs.Walk.{Step, numbers, certsAt}
 use Rattle.rules.specs.Call.{Left}
 use Rattle.rules.specs.Insert.{rootSplits, tooHigh, newPages, noRoom, Making, making, grow}
@@ -22,7 +22,7 @@ use Rattle.rules.specs.declared.Inserted.{Inserted}
 use Rattle.rules.proofs.bytes.All.{All}
 use Rattle.rules.proofs.entries.Places.{Fits}
 use Rattle.head.proofs.Headers.{headOf}
-use Rattle.split.specs.Split.{stepAt, Grows}
+use Rattle.split.specs.Split.{stepAt, retireBy, Grows}
 use Rattle.way.specs.Ways.{noStep}
 use Rattle.way.specs.declared.Step as way
 use Rattle.way.specs.declared.Way.{Way}
@@ -136,6 +136,48 @@ startOf c t w chosen many s =
       | true ↦ grow c (stepAt t (stepOn w (many - 1) .place)) (getD chosen (2 * many) 0) (making t s 0)
       | false ↦ making t s (stepOn w many .place .child)
     ]
+
+-- ── The session's part ──────────────────────────────────────────────────────────────────────────────────────────
+
+-- the halves of a step's page are taken, and the page retires
+abbrev pub marksAt : ℕ → Way → List ℕ → ℕ → Session → Session
+marksAt c w chosen j s =
+    retireBy c (stepOn w j .place .child) (stepOn w j .head)
+    (taken (getD chosen (2 * j + 1) 0) (taken (getD chosen (2 * j) 0) s))
+
+-- so for the last so many steps, the highest first
+unfoldable pub marksFor : ℕ → Way → List ℕ → ℕ → Session → Session
+marksFor c w chosen zero s = s
+marksFor c w chosen (suc j) s = marksFor c w chosen j (marksAt c w chosen j s)
+
+-- a new root's page is taken before them
+unfoldable pub rootMarked : Way → List ℕ → ℕ → Session → Session
+rootMarked w chosen many s = elim (eqb many (w .len)) [ true ↦ taken (getD chosen (2 * many) 0) s | false ↦ s ]
+
+unfoldable pub marksBy : Way → List ℕ → ℕ → Session → Session
+marksBy w chosen many s = marksFor (s .c) w chosen many (rootMarked w chosen many s)
+
+-- numbers that have marks: of the pages that split and of their halves
+pub record Numbered (w : Way) (chosen : List ℕ) (many : ℕ) : Type 0 where
+  pub short : many ≤ w .len
+  pub len : w .len ≤ topKind
+  pub child : (j : ℕ) → j < many → stepOn w j .place .child < mostPages
+  pub lower : (j : ℕ) → j < many → getD chosen (2 * j) 0 < mostPages
+  pub upper : (j : ℕ) → j < many → getD chosen (2 * j + 1) 0 < mostPages
+
+-- ── Handed over apart ───────────────────────────────────────────────────────────────────────────────────────────
+
+-- to the work on pages no more of the session than its counter
+pub record ReadyPages (c k : ℕ) (t : List ℕ) (w : Way) (chosen : List ℕ) : Type 0 where
+  pub session : Session
+  pub counter : session .c ≡ c
+  pub ready : ReadyWay k t session w chosen
+
+-- to the session's part neither key nor table
+pub record ReadySession (s : Session) (w : Way) (chosen : List ℕ) : Type 0 where
+  pub key : ℕ
+  pub table : List ℕ
+  pub ready : ReadyWay key table s w chosen
 
 -- what is left by an insert that is done
 abbrev pub done : Session → List ℕ → List ℕ → Left Inserted

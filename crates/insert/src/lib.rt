@@ -6,7 +6,7 @@
 // behind a refusal.
 //
 // Below stand `tables`, which tests lengths, `keys`, `way`, which walks, `lookup`, which finds a key in a leaf, `plan`,
-// which decides, and `apply`, which splits pages and puts the entry.
+// which decides, and `apply`, which splits pages, puts the entry and has the marks.
 use marks::Chosen;
 use plan::Planned;
 use rules::Inserted;
@@ -113,7 +113,8 @@ pub fn insert(
             session,
         };
     };
-    let left = apply::apply(working, session.count(), key, value, went.way, chosen);
+    apply::apply(working, session.c, key, value, went.way, chosen);
+    let left = apply::marked(session.count(), went.way, chosen);
     Inserting {
         answer,
         report,

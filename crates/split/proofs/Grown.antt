@@ -20,11 +20,11 @@ rootOver-of : (t : List ℕ) (e : Place) (h : Head) → h ≡ headOf (read t (e 
 unfolding rootView rootOver headOf
 rootOver-of t e h q = rw q
 
-pub grown : (c : ℕ) (t : List ℕ) (e : Place) (h : Head) (new previous : ℕ) (s : Session) (t₁ t₂ : List ℕ) (m : Session)
+pub grown : (c : ℕ) (t : List ℕ) (e : Place) (h : Head) (new previous : ℕ) (s : Session) (t₁ t₂ : List ℕ)
     → h ≡ headOf (read t (e .child))
     → t₁ ≡ build t new (fresh c c 0 lastKey (rootView (h .kind + 1) (newChild (e .birth) (e .low) (e .child) (e .previous))))
-    → previous ≡ rootPreviousBy c e h → t₂ ≡ setRoot t₁ new previous c → m ≡ taken new s
-    → making t₂ m new ≡ grow c (stepAt t e) new (making t s 0)
+    → previous ≡ rootPreviousBy c e h → t₂ ≡ setRoot t₁ new previous c
+    → making t₂ (taken new s) new ≡ grow c (stepAt t e) new (making t s 0)
 unfolding grow
-grown c t e h new previous s t₁ t₂ m q q₁ qp q₂ qs =
-    rw (q₂, q₁, qs, rootOver-of t e h q, qp, q, rootPreviousBy-of c e (read t (e .child)))
+grown c t e h new previous s t₁ t₂ q q₁ qp q₂ =
+    rw (q₂, q₁, rootOver-of t e h q, qp, q, rootPreviousBy-of c e (read t (e .child)))

@@ -71,14 +71,15 @@ module _ {t : List ℕ} {e : Place} {h : Head} {lower upper at : ℕ} (H : Halve
           (subst (λ (d : ℕ). TakesTwins (page .low) d (read t₂ at .view)) (sym m)
           (subst (λ (p : Page). TakesTwins (page .low) (divide (page .view)) (p .view)) (sym above-stays) (H .takes)))
 
-      pub halved : (k : ℕ) (s : Session) (middle previous : ℕ) (t₃ : List ℕ) (m : Session) (i : ℕ)
+      pub halved : (k : ℕ) (s : Session) (middle previous : ℕ) (t₃ : List ℕ) (i : ℕ)
           → middle ≡ divide (page .view) → previous ≡ previousBy c e h
           → t₃ ≡ changed c (twinsOf c (h .low) lower middle upper previous) t₂ at
-          → m ≡ retireBy c (e .child) h (taken upper (taken lower s)) → i ≡ sideOf k middle lower upper
-          → making t₃ m i ≡ halve c k (stepAt t e) lower upper (making t s at)
+          → i ≡ sideOf k middle lower upper
+          → making t₃ (retireBy c (e .child) h (taken upper (taken lower s))) i
+          ≡ halve c k (stepAt t e) lower upper (making t s at)
       unfolding halve twins twinsOf sideOf headOf
-      halved k s middle previous t₃ m i qm qp q₃ qs qi =
-          rw (q₃, q₂, q₁, child-of, qs, qi, qm, qp, H .head, previousBy-of c e page, retireBy-of c e page)
+      halved k s middle previous t₃ i qm qp q₃ qi =
+          rw (q₃, q₂, q₁, child-of, qi, qm, qp, H .head, previousBy-of c e page, retireBy-of c e page)
         where
           child-of : read (build t lower (lowerPage c page)) (e .child) ≡ page
           child-of = ap (λ (u : List ℕ). read u (e .child)) (sym q₁) ∙ child-stays

@@ -1,7 +1,7 @@
 // One page split in two, and a new root over an old one: the rules' `halve` and `grow`.
 //
-// Each leaves the table, the session and the number of the page that now stands on the key's way exactly as the rules
-// say. A split goes downwards: the page above has room when a page is halved, because it was split before or was not
+// Each leaves the table and names the page that now stands on the key's way exactly as the rules say, whatever the
+// session; `mark` has the session's part of a split, so that no session goes through the work on pages. A split goes downwards: the page above has room when a page is halved, because it was split before or was not
 // full. What is asked for here, that the page is full and the pages above and new ones are others, the caller knows
 // from the way that it walked and from the choice of free numbers.
 //
@@ -16,13 +16,8 @@ ghost use Prim.Native.Nat.{_<_};
 ghost use Rattle.rules.specs.Layout.{mostPages};
 ghost use Rattle.rules.specs.Marks.{taken};
 ghost use Rattle.rules.specs.Insert.{making, grow, halve};
+ghost use Rattle.rules.specs.declared.Session.{Session};
 ghost use Rattle.split.specs.Split.{stepAt, heirsBy, previousBy, freesBy, retireBy, rootPreviousBy, sideOf, Halves, Grows};
-
-// What a split leaves beside the table: the session, and the page that now stands on the key's way.
-pub struct Made {
-    pub session: Session,
-    pub at: u16,
-}
 
 // A leaf that was built since the last sync or opening is nobody's previous page.
 fn heirs(c: u32, head: Head) -> bool
@@ -66,7 +61,7 @@ fn retire(session: Session, c: u32, child: u16, head: Head) -> Session
 }
 
 // The halves' pages are taken, then the split page retires.
-fn mark(session: Session, c: u32, child: u16, head: Head, lower: u16, upper: u16) -> Session
+pub fn mark(session: Session, c: u32, child: u16, head: Head, lower: u16, upper: u16) -> Session
     requires { ⌜ (child < mostPages) × (lower < mostPages) × (upper < mostPages) ⌝ }
     ensures { λ r. ⌜ r ≡ retireBy c child head (taken upper (taken lower session)) ⌝ }
 {
@@ -88,7 +83,6 @@ fn side(key: u64, middle: u64, lower: u16, upper: u16) -> u16
 // A full page becomes two on new pages, its entry in the page above becomes two, and the way goes on in one of them.
 pub fn halve(
     table: &mut [u8],
-    session: Session,
     c: u32,
     key: u64,
     e: Place,
@@ -96,10 +90,10 @@ pub fn halve(
     lower: u16,
     upper: u16,
     at: u16,
-) -> Made
+) -> u16
     requires { ⌜ Halves (now table) e head lower upper at ⌝ }
-    ensures { λ r. ⌜ making (now (table .exit)) (r .session) (r .at)
-        ≡ halve c key (stepAt (now (table .entry)) e) lower upper (making (now (table .entry)) session at) ⌝ }
+    ensures { λ r. ⌜ ((s : Session) → making (now (table .exit)) (retireBy c (e .child) head (taken upper (taken lower s))) r
+        ≡ halve c key (stepAt (now (table .entry)) e) lower upper (making (now (table .entry)) s at)) ⌝ }
 {
     let from = e.child as usize;
     let middle = build::middle_at(table, from);
@@ -115,10 +109,7 @@ pub fn halve(
         previous_of(c, e, head),
         c,
     );
-    Made {
-        session: mark(session, c, e.child, head, lower, upper),
-        at: side(key, middle, lower, upper),
-    }
+    side(key, middle, lower, upper)
 }
 
 // Page 0's previous: the old root, or what stands there if that was built since the last sync or opening.
@@ -132,10 +123,10 @@ fn root_previous(c: u32, e: Place, head: Head) -> u16
 }
 
 // A new root, one kind higher, at first over the old root alone, named in page 0.
-pub fn grow(table: &mut [u8], session: Session, c: u32, e: Place, head: Head, new: u16) -> Made
+pub fn grow(table: &mut [u8], c: u32, e: Place, head: Head, new: u16)
     requires { ⌜ Grows (now table) e head new ⌝ }
-    ensures { λ r. ⌜ making (now (table .exit)) (r .session) (r .at)
-        ≡ grow c (stepAt (now (table .entry)) e) new (making (now (table .entry)) session 0) ⌝ }
+    ensures { λ r. ⌜ ((s : Session) → making (now (table .exit)) (taken new s) new
+        ≡ grow c (stepAt (now (table .entry)) e) new (making (now (table .entry)) s 0)) ⌝ }
 {
     build::build_root(
         table,
@@ -148,8 +139,4 @@ pub fn grow(table: &mut [u8], session: Session, c: u32, e: Place, head: Head, ne
         e.birth,
     );
     head::set_root(table, new, root_previous(c, e, head), c);
-    Made {
-        session: session.take(new as usize),
-        at: new,
-    }
 }

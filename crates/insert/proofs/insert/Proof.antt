@@ -4,15 +4,16 @@ use Prim.Native.Nat.{ℕ}
 use mathlib.Core.Path.{refl, sym, ap, _∙_, subst}
 use Rattle.rules.specs.Report.{Reported, nothing}
 use Rattle.rules.specs.Walk.{wayReport}
-use Rattle.rules.specs.Insert.{insertDone, insertKey}
+use Rattle.rules.specs.Insert.{insertKey}
 use Rattle.rules.specs.declared.Session.{Session}
 use Rattle.rules.proofs.bytes.Lengths.{lengthsFor-true}
 use Rattle.insert.proofs.Along.{not-done}
 use Rattle.insert.proofs.Call.{told-too, passed-report, nothing-told, test-refused, test-passed, way-short, deciding, key-refused, key-ready, key-done}
 use native.Mathlib.Omega.{arith}
 use Rattle.way.specs.Ways.{Walking}
-use Rattle.apply.specs.Leads.{ReadyWay}
-use Rattle.insert.specs.Inserts.{stepsOf}
+use Rattle.rules.specs.Marks.{counted}
+use Rattle.plan.specs.Plan.{splitsBy, headsOf}
+use Rattle.apply.specs.Leads.{marksBy, ReadySession, done}
 use borrow.Author.Needs.{needs}
 use Rattle.insert.proofs.insert.Statement.{statement}
 use Rattle.insert.proofs.insert.Tie as tie
@@ -130,38 +131,36 @@ returns-2 c =
     ∙ (ap (λ (k : ℕ). wayReport (args .session .n) (args .session .c) k (args .working .now) nothing) (key-of .ensures)
     ∙ sym (passed-report (args .working .now) (args .stable .now) (args .session) (args .model) (args .serial) (args .issue) (args .value) p)))
 
-count-requires : tie.Need-count-requires
-count-requires c κs = search needs
-
 apply-requires : tie.Need-apply-requires
 apply-requires c κs =
-    let args = c .before .before .before .before .before .before .before .before .before .before .before .before .before .before .before .before .before .before .before .before .args in
-    let good = c .before .before .before .before .before .before .before .before .before .before .before .before .before .before .before .before .before .before .before .before .good in
-    let slice-known = c .before .before .before .before .before .before .before .before .before .before .before .before .before .before .before .before .before .before .before .slice-known in
-    let tested = c .before .before .before .before .before .before .before .before .before .before .before .before .before .before .before .before .tested in
-    let enum-told′ = c .before .before .before .before .before .before .before .before .before .before .before .before .before .before .enum-told in
-    let key-of = c .before .before .before .before .before .before .before .before .before .before .before .before .before .key-of in
-    let way-of = c .before .before .before .before .before .before .before .before .before .before .way-of in
+    let args = c .before .before .before .before .before .before .before .before .before .before .before .before .before .before .before .before .before .before .before .args in
+    let good = c .before .before .before .before .before .before .before .before .before .before .before .before .before .before .before .before .before .before .before .good in
+    let slice-known = c .before .before .before .before .before .before .before .before .before .before .before .before .before .before .before .before .before .before .slice-known in
+    let tested = c .before .before .before .before .before .before .before .before .before .before .before .before .before .before .before .tested in
+    let enum-told′ = c .before .before .before .before .before .before .before .before .before .before .before .before .before .enum-told in
+    let key-of = c .before .before .before .before .before .before .before .before .before .before .before .before .key-of in
+    let way-of = c .before .before .before .before .before .before .before .before .before .way-of in
     let way-is = ap (λ (y : Reported Walking). y .left) (way-of .ensures) in
-    let slice-known2 = c .before .before .before .before .before .before .before .before .slice-known2 in
-    let choose = c .before .before .before .before .before .before .choose in
-    let decided = c .before .before .before .before .decided in
+    let slice-known2 = c .before .before .before .before .before .before .before .slice-known2 in
+    let choose = c .before .before .before .before .before .choose in
+    let decided = c .before .before .before .decided in
+    let enum-told2 = c .before .enum-told2 in
     let p = test-passed (args .working .now) (args .stable .now) (args .session) (args .model) (args .serial)
     (args .issue) (args .value) (tested .result) (tested .ensures (args .session) refl) (enum-told′ .given .1) in
     let l = lengthsFor-true (args .session) (args .working .now) (args .stable .now) (p .lengths) in
-    subst (λ (z : Session). ReadyWay (key-of .result) (way-of .last .0) z (way-of .result .way) (choose .result .pages)) (sym (c .count .ensures))
-    (key-ready (key-of .result) (args .value) (args .session) (args .working .now) (l .working) (p .zero)
+    let ready = key-ready (key-of .result) (args .value) (args .session) (args .working .now) (l .working) (p .zero)
     (slice-known .given) (omega (arith, good)) (omega (arith, key-of .ok)) (way-of .last .0) (way-of .result .way)
     way-is (l .most) (omega (arith, way-of .kept .0, l .working)) (slice-known2 .given) (choose .result)
     (choose .ensures) (decided .result)
     (decided .ensures (deciding (key-of .result) (args .value) (args .session) (args .working .now) (l .working) (p .zero) (slice-known .given) (omega (arith, good)) (omega (arith, key-of .ok)) (way-of .last .0) (way-of .result .way) way-is (l .most) (omega (arith, way-of .kept .0, l .working)) (slice-known2 .given) (choose .result) (choose .ensures)))
-    (c .before .before .enum-told2 .given .1))
+    (enum-told2 .given .1) in
+    record { session = counted (args .session); counter = refl; ready = ready }
 
-same-length-3 : tie.Need-same-length-3
-same-length-3 c = search needs
+count-requires : tie.Need-count-requires
+count-requires c κs = search needs
 
-returns-3 : tie.Need-returns-3
-returns-3 c =
+marked-requires : tie.Need-marked-requires
+marked-requires c κs =
     let args = c .before .before .before .before .before .before .before .before .before .before .before .before .before .before .before .before .before .before .before .before .before .before .before .args in
     let good = c .before .before .before .before .before .before .before .before .before .before .before .before .before .before .before .before .before .before .before .before .before .before .before .good in
     let slice-known = c .before .before .before .before .before .before .before .before .before .before .before .before .before .before .before .before .before .before .before .before .before .before .slice-known in
@@ -174,11 +173,47 @@ returns-3 c =
     let choose = c .before .before .before .before .before .before .before .before .before .choose in
     let decided = c .before .before .before .before .before .before .before .decided in
     let enum-told2 = c .before .before .before .before .before .enum-told2 in
-    let count = c .before .before .before .count in
-    let apply = c .before .before .apply in
     let p = test-passed (args .working .now) (args .stable .now) (args .session) (args .model) (args .serial)
     (args .issue) (args .value) (tested .result) (tested .ensures (args .session) refl) (enum-told′ .given .1) in
     let l = lengthsFor-true (args .session) (args .working .now) (args .stable .now) (p .lengths) in
+    let ready = key-ready (key-of .result) (args .value) (args .session) (args .working .now) (l .working) (p .zero)
+    (slice-known .given) (omega (arith, good)) (omega (arith, key-of .ok)) (way-of .last .0) (way-of .result .way)
+    way-is (l .most) (omega (arith, way-of .kept .0, l .working)) (slice-known2 .given) (choose .result)
+    (choose .ensures) (decided .result)
+    (decided .ensures (deciding (key-of .result) (args .value) (args .session) (args .working .now) (l .working) (p .zero) (slice-known .given) (omega (arith, good)) (omega (arith, key-of .ok)) (way-of .last .0) (way-of .result .way) way-is (l .most) (omega (arith, way-of .kept .0, l .working)) (slice-known2 .given) (choose .result) (choose .ensures)))
+    (enum-told2 .given .1) in
+    subst (λ (z : Session). ReadySession z (way-of .result .way) (choose .result .pages)) (sym (c .count .ensures))
+    (record { key = key-of .result; table = way-of .last .0; ready = ready })
+
+same-length-3 : tie.Need-same-length-3
+same-length-3 c = search needs
+
+returns-3 : tie.Need-returns-3
+returns-3 c =
+    let args = c .before .before .before .before .before .before .before .before .before .before .before .before .before .before .before .before .before .before .before .before .before .before .before .before .args in
+    let good = c .before .before .before .before .before .before .before .before .before .before .before .before .before .before .before .before .before .before .before .before .before .before .before .before .good in
+    let slice-known = c .before .before .before .before .before .before .before .before .before .before .before .before .before .before .before .before .before .before .before .before .before .before .before .slice-known in
+    let tested = c .before .before .before .before .before .before .before .before .before .before .before .before .before .before .before .before .before .before .before .before .tested in
+    let enum-told′ = c .before .before .before .before .before .before .before .before .before .before .before .before .before .before .before .before .before .before .enum-told in
+    let key-of = c .before .before .before .before .before .before .before .before .before .before .before .before .before .before .before .before .before .key-of in
+    let way-of = c .before .before .before .before .before .before .before .before .before .before .before .before .before .before .way-of in
+    let way-is = ap (λ (y : Reported Walking). y .left) (way-of .ensures) in
+    let slice-known2 = c .before .before .before .before .before .before .before .before .before .before .before .before .slice-known2 in
+    let choose = c .before .before .before .before .before .before .before .before .before .before .choose in
+    let decided = c .before .before .before .before .before .before .before .before .decided in
+    let enum-told2 = c .before .before .before .before .before .before .enum-told2 in
+    let p = test-passed (args .working .now) (args .stable .now) (args .session) (args .model) (args .serial)
+    (args .issue) (args .value) (tested .result) (tested .ensures (args .session) refl) (enum-told′ .given .1) in
+    let l = lengthsFor-true (args .session) (args .working .now) (args .stable .now) (p .lengths) in
+    let ready = key-ready (key-of .result) (args .value) (args .session) (args .working .now) (l .working) (p .zero)
+    (slice-known .given) (omega (arith, good)) (omega (arith, key-of .ok)) (way-of .last .0) (way-of .result .way)
+    way-is (l .most) (omega (arith, way-of .kept .0, l .working)) (slice-known2 .given) (choose .result)
+    (choose .ensures) (decided .result)
+    (decided .ensures (deciding (key-of .result) (args .value) (args .session) (args .working .now) (l .working) (p .zero) (slice-known .given) (omega (arith, good)) (omega (arith, key-of .ok)) (way-of .last .0) (way-of .result .way) way-is (l .most) (omega (arith, way-of .kept .0, l .working)) (slice-known2 .given) (choose .result) (choose .ensures)))
+    (enum-told2 .given .1) in
+    let count = c .before .count in
+    let apply = c .before .before .before .before .apply in
+    let marked = c .marked in
     told-too (args .working .now) (args .stable .now) (args .session) (args .model) (args .serial) (args .issue)
     (args .value)
     (key-done (key-of .result) (args .value) (args .session) (args .working .now) (l .working) (p .zero)
@@ -186,9 +221,9 @@ returns-3 c =
     way-is (l .most) (omega (arith, way-of .kept .0, l .working)) (slice-known2 .given) (choose .result)
     (choose .ensures) (decided .result)
     (decided .ensures (deciding (key-of .result) (args .value) (args .session) (args .working .now) (l .working) (p .zero) (slice-known .given) (omega (arith, good)) (omega (arith, key-of .ok)) (way-of .last .0) (way-of .result .way) way-is (l .most) (omega (arith, way-of .kept .0, l .working)) (slice-known2 .given) (choose .result) (choose .ensures)))
-    (enum-told2 .given .1) (args .stable .now) (apply .result) (apply .last .0)
-    (apply .ensures (args .stable .now)
-    ∙ ap (λ (z : Session). insertDone (key-of .result) (args .value) z (stepsOf (way-of .last .0) (way-of .result .way)) (way-of .last .0) (args .stable .now)) (count .ensures))
+    (enum-told2 .given .1) (args .stable .now) (marked .result) (apply .last .0)
+    (ap (λ (z : Session). done z (apply .last .0) (args .stable .now)) (marked .ensures ∙ ap (marksBy (way-of .result .way) (choose .result .pages) (splitsBy (headsOf (way-of .result .way)))) (count .ensures))
+    ∙ apply .ensures (record { session = counted (args .session); counter = refl; ready = ready }) (args .stable .now))
     ∙
     (ap (λ (k : ℕ). insertKey k (args .value) (args .session) (args .working .now) (args .stable .now)) (key-of .ensures) ∙ sym (p .keyed)))
     (ap (λ (y : Reported Walking). y .report) (way-of .ensures)
@@ -212,7 +247,8 @@ insert-spec =
     enum-told-2
     same-length-2
     returns-2
-    count-requires
     apply-requires
+    count-requires
+    marked-requires
     same-length-3
     returns-3)

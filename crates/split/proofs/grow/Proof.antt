@@ -1,4 +1,4 @@
--- `split::grow`: the root built, named in page 0 and taken are what the rules grow. Assumes nothing.
+-- `split::grow`: the root built, and named in page 0 are what the rules grow. Assumes nothing.
 use Rattle.split.proofs.Grown.{grown}
 use native.Mathlib.Omega.{arith}
 use borrow.Author.Needs.{needs}
@@ -19,23 +19,19 @@ root-previous-requires c κs = search needs
 set-root-requires : tie.Need-set-root-requires
 set-root-requires c κs = search needs
 
-take-requires : tie.Need-take-requires
-take-requires c κs = search needs
-
 same-length : tie.Need-same-length
 same-length c = search needs
 
 returns : tie.Need-returns
 returns c =
-    let args = c .before .before .before .before .before .before .before .before .before .before .before .before .args in
-    let pre = c .before .before .before .before .before .before .before .before .before .before .before .before .pre in
-    let build-root = c .before .before .before .before .before .before .before .before .build-root in
-    let root-previous = c .before .before .before .before .root-previous in
-    let set-root = c .before .before .before .set-root in
-    let take = c .take in
-    grown (args .c) (args .table .now) (args .e) (args .head) (args .new) (root-previous .result) (args .session)
-    (build-root .last .0) (set-root .last .0) (take .result) (pre .head) (build-root .ensures)
-    (root-previous .ensures) (set-root .ensures) (take .ensures)
+    let args = c .before .before .before .before .before .before .before .before .before .before .before .args in
+    let pre = c .before .before .before .before .before .before .before .before .before .before .before .pre in
+    let build-root = c .before .before .before .before .before .before .before .build-root in
+    let root-previous = c .before .before .before .root-previous in
+    let set-root = c .before .before .set-root in
+    λ s. grown (args .c) (args .table .now) (args .e) (args .head) (args .new) (root-previous .result) s
+    (build-root .last .0) (set-root .last .0) (pre .head) (build-root .ensures)
+    (root-previous .ensures) (set-root .ensures)
 
 pub grow-spec : {M : Type 1} → statement M
 grow-spec =
@@ -45,6 +41,5 @@ grow-spec =
     build-root-requires
     root-previous-requires
     set-root-requires
-    take-requires
     same-length
     returns)

@@ -39,14 +39,6 @@ put-twins-requires c κs =
           (build-upper .last .0) (build-upper .ensures) (middle-at .result) (middle-at .ensures),
     )
 
-mark-requires : tie.Need-mark-requires
-mark-requires c κs =
-    let pre = c .before .before .before .before .before .before .before .before .before .before .before .before .before .before .before .before .before .pre in (
-      omega (arith, pre .child-in, pre .few),
-      omega (arith, pre .lower-in, pre .few),
-      omega (arith, pre .upper-in, pre .few),
-    )
-
 side-requires : tie.Need-side-requires
 side-requires c κs = search needs
 
@@ -55,19 +47,18 @@ same-length c = search needs
 
 returns : tie.Need-returns
 returns c =
-    let args = c .before .before .before .before .before .before .before .before .before .before .before .before .before .before .before .before .before .before .before .args in
-    let pre = c .before .before .before .before .before .before .before .before .before .before .before .before .before .before .before .before .before .before .before .pre in
-    let middle-at = c .before .before .before .before .before .before .before .before .before .before .before .before .before .before .before .middle-at in
-    let build-lower = c .before .before .before .before .before .before .before .before .before .before .before .before .before .build-lower in
-    let build-upper = c .before .before .before .before .before .before .before .before .before .build-upper in
-    let previous-of = c .before .before .before .before .before .previous-of in
-    let put-twins = c .before .before .before .before .put-twins in
-    let mark = c .before .mark in
+    let args = c .before .before .before .before .before .before .before .before .before .before .before .before .before .before .before .before .before .before .args in
+    let pre = c .before .before .before .before .before .before .before .before .before .before .before .before .before .before .before .before .before .before .pre in
+    let middle-at = c .before .before .before .before .before .before .before .before .before .before .before .before .before .before .middle-at in
+    let build-lower = c .before .before .before .before .before .before .before .before .before .before .before .before .build-lower in
+    let build-upper = c .before .before .before .before .before .before .before .before .build-upper in
+    let previous-of = c .before .before .before .before .previous-of in
+    let put-twins = c .before .before .before .put-twins in
     let side = c .side in
-    halved pre (args .c) (build-lower .last .0) (build-lower .ensures) (omega (arith, build-lower .kept .0))
-    (build-upper .last .0) (build-upper .ensures) (args .key) (args .session) (middle-at .result)
-    (previous-of .result) (put-twins .last .0) (mark .result) (side .result) (middle-at .ensures)
-    (previous-of .ensures) (put-twins .ensures) (mark .ensures) (side .ensures)
+    λ s. halved pre (args .c) (build-lower .last .0) (build-lower .ensures) (omega (arith, build-lower .kept .0))
+    (build-upper .last .0) (build-upper .ensures) (args .key) s (middle-at .result)
+    (previous-of .result) (put-twins .last .0) (side .result) (middle-at .ensures)
+    (previous-of .ensures) (put-twins .ensures) (side .ensures)
 
 pub halve-spec : {M : Type 1} → statement M
 halve-spec =
@@ -79,7 +70,6 @@ halve-spec =
     build-upper-requires
     previous-of-requires
     put-twins-requires
-    mark-requires
     side-requires
     same-length
     returns)
