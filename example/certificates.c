@@ -40,6 +40,13 @@ static uint32_t insert(uint32_t serial, uint32_t record)
     return inserted.answer;
 }
 
+static uint32_t withdraw(uint32_t serial)
+{
+    KhChanged withdrawn = kh_withdraw(working, BYTES, stable, BYTES, session, 7, serial, 1);
+    session = withdrawn.session;
+    return withdrawn.answer;
+}
+
 static uint32_t sync_store(void)
 {
     KhAnswered synced = kh_sync(working, BYTES, stable, BYTES, session);
@@ -114,5 +121,10 @@ int main(void)
         return 1;
     printf("the start screen: %u certificates\n", (unsigned)session.total);
     list_all(session.total);
-    return session.total == 40 ? 0 : 1;
+    if (session.total != 40)
+        return 1;
+    expect("a recalled certificate withdrawn", withdraw(40), KH_DONE);
+    expect("the sync without which a crash may bring it back", sync_store(), KH_DONE);
+    expect("lookup of the recalled one", lookup(40).answer, KH_NONE);
+    return session.total == 39 ? 0 : 1;
 }

@@ -1,14 +1,15 @@
 /* Certificates in a file, from the command line.
  *
  *     shelf FILE put MODEL SERIAL ISSUE RECORD
+ *     shelf FILE recall MODEL SERIAL ISSUE
  *     shelf FILE find MODEL SERIAL ISSUE
  *     shelf FILE newest MODEL SERIAL
  *     shelf FILE any MODEL SERIAL
  *     shelf FILE total
  *     shelf FILE list
  *
- * The file is created at its first use. `put` returns only when the certificate is on the disc. Prints the answer's
- * word, and ends with status 0 only if that is `done`.
+ * The file is created at its first use. `put` and `recall` return only when what they did is on the disc. Prints the
+ * answer's word, and ends with status 0 only if that is `done`.
  *
  *     ./build
  *     cc -std=c11 -Idist example/shelf.c dist/khstore.c -Ldist -lkhirpando -o shelf */
@@ -59,6 +60,16 @@ static KhTold put(char **words, char *beside)
         if (told.answer == KH_DONE)
             told = khs_insert(&store, model, serial, issue, record);
     }
+    return told.answer == KH_DONE ? khs_sync(&store) : told;
+}
+
+/* A recall is safe only after a sync: until then a crash may bring the certificate back. */
+static KhTold recall(char **words, char *beside)
+{
+    beside[0] = '\0';
+    uint16_t model = short_number(words[0]);
+    uint32_t serial = number(words[1], UINT32_MAX);
+    KhTold told = khs_withdraw(&store, model, serial, short_number(words[2]));
     return told.answer == KH_DONE ? khs_sync(&store) : told;
 }
 
@@ -116,10 +127,12 @@ int main(int argc, char **argv)
     const char *call = argc > 2 ? argv[2] : "";
     char **words = argv + 3;
     bool known = (argc == 7 && strcmp(call, "put") == 0) || (argc == 6 && strcmp(call, "find") == 0) ||
+                 (argc == 6 && strcmp(call, "recall") == 0) ||
                  (argc == 5 && strcmp(call, "newest") == 0) || (argc == 5 && strcmp(call, "any") == 0) ||
                  (argc == 3 && strcmp(call, "total") == 0) || (argc == 3 && strcmp(call, "list") == 0);
     if (!known) {
-        fprintf(stderr, "usage: shelf FILE put MODEL SERIAL ISSUE RECORD\n       shelf FILE find MODEL SERIAL ISSUE\n"
+        fprintf(stderr, "usage: shelf FILE put MODEL SERIAL ISSUE RECORD\n       shelf FILE recall MODEL SERIAL ISSUE\n"
+                        "       shelf FILE find MODEL SERIAL ISSUE\n"
                         "       shelf FILE newest MODEL SERIAL\n       shelf FILE any MODEL SERIAL\n"
                         "       shelf FILE total\n       shelf FILE list\n");
         return 2;
@@ -128,6 +141,7 @@ int main(int argc, char **argv)
     snprintf(beside, sizeof beside, ": %u certificates", (unsigned)khs_total(&store));
     if (told.answer == KH_DONE && call[0] != 't')
         told = call[0] == 'p'   ? put(words, beside)
+               : call[0] == 'r' ? recall(words, beside)
                : call[0] == 'f' ? find(words, beside, sizeof beside)
                : call[0] == 'n' ? newest(words, beside, sizeof beside)
                : call[0] == 'a' ? any(words, beside, sizeof beside)

@@ -299,6 +299,15 @@ KhTold khs_insert(KhStore *store, uint16_t model, uint32_t serial, uint16_t issu
     return walked(inserted.answer, inserted.mended, inserted.reason);
 }
 
+KhTold khs_withdraw(KhStore *store, uint16_t model, uint32_t serial, uint16_t issue)
+{
+    if (!store->open)
+        return in_trouble(KHS_CLOSED);
+    KhChanged withdrawn = kh_withdraw(TABLES(store), store->session, model, serial, issue);
+    store->session = withdrawn.session;
+    return walked(withdrawn.answer, withdrawn.mended, withdrawn.reason);
+}
+
 KhTold khs_lookup(KhStore *store, uint16_t model, uint32_t serial, uint16_t issue, uint32_t *record)
 {
     *record = 0;

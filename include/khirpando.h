@@ -44,7 +44,8 @@ extern "C" {
  *                                                                                                twice
  *   kh_insert, kh_lookup,  working: any page, and    nothing                                     01: "pages reach the
  *   kh_newest, kh_list,    mended ones even if the                                               stable table only" in
- *   kh_has_any, any        call is refused                                                       sync, open, at a crash
+ *   kh_has_any,            call is refused                                                       sync, open, at a crash
+ *   kh_withdraw, any
  *   answer
  *   kh_sync, answer 0      stable: page 0 and each   all of these, in any order, before anyone   01: a crash may fall
  *                          that differed from        is told that the sync is done, and before   inside a sync; demand
@@ -73,10 +74,10 @@ extern "C" {
 
 /* ---- Versions and limits ----------------------------------------------------------------------------------------- */
 
-#define KH_VERSION_MAJOR 6
+#define KH_VERSION_MAJOR 7
 #define KH_VERSION_MINOR 0
 #define KH_VERSION_PATCH 0
-#define KH_VERSION "6.0.0"
+#define KH_VERSION "7.0.0"
 
 #define KH_LAYOUT 9       /* the kind of page 0: a table with another one is refused with KH_DAMAGED */
 #define KH_PAGE_BYTES 512 /* bytes of a page */
@@ -105,7 +106,7 @@ enum {
      * No call and no crash does this, but bad flash, or a driver that breaks its rules. Put what other calls still find
      * into a new store; after a refused opening there is none to ask. */
     KH_DAMAGED = 3,
-    /* No such certificate. It was never put in, or not synced before a crash: put it in. */
+    /* No such certificate. It was never put in, or not synced before a crash: put it in. Or it was withdrawn. */
     KH_NONE = 4,
     /* The certificate is there already, with whatever record, which stays. A correction gets the next issue. */
     KH_PRESENT = 5,
@@ -241,6 +242,11 @@ KH_KEEP KhAnswered kh_open(uint8_t *working, size_t working_len, uint8_t *stable
 /* Puts a certificate in. It outlasts a crash for certain from the next sync on. Answers 0, 1, 2, 3, 5, 6, 7. */
 KH_KEEP KhChanged kh_insert(uint8_t *working, size_t working_len, const uint8_t *stable, size_t stable_len,
                             KhSession session, uint16_t model, uint32_t serial, uint16_t issue, uint32_t record);
+
+/* Takes a certificate out. It is gone for certain from the next sync on: a crash before that may bring it back. No page
+ * becomes free. Answers 0, 1, 2, 3, 4. */
+KH_KEEP KhChanged kh_withdraw(uint8_t *working, size_t working_len, const uint8_t *stable, size_t stable_len,
+                              KhSession session, uint16_t model, uint32_t serial, uint16_t issue);
 
 /* The record of a certificate. Answers 0, 1, 2, 3, 4. */
 KH_KEEP KhLooked kh_lookup(uint8_t *working, size_t working_len, const uint8_t *stable, size_t stable_len,

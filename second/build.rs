@@ -7,10 +7,11 @@ use std::process::{Command, Stdio};
 use std::{env, fs};
 
 /// What the store's library must have in it; an older one is passed over.
-const NAMES: [&str; 8] = [
+const NAMES: [&str; 9] = [
     "kh_format",
     "kh_open",
     "kh_insert",
+    "kh_withdraw",
     "kh_lookup",
     "kh_newest",
     "kh_has_any",

@@ -123,6 +123,7 @@ static void closed(void)
     size_t count;
     bool any;
     troubled(khs_insert(&store, 7, 1, 1, 1), KHS_CLOSED, "insert after close");
+    troubled(khs_withdraw(&store, 7, 1, 1), KHS_CLOSED, "withdraw after close");
     troubled(khs_lookup(&store, 7, 1, 1, &record), KHS_CLOSED, "lookup after close");
     troubled(khs_newest(&store, 7, 1, &issue, &record), KHS_CLOSED, "newest after close");
     troubled(khs_has_any(&store, 7, 1, &any), KHS_CLOSED, "has-any after close");

@@ -24,10 +24,11 @@ pub const WORDS: [&str; 9] = [
 ];
 
 /// Each call with the answers that the papers have for it.
-pub const ANSWERS: [(&str, &[usize]); 8] = [
+pub const ANSWERS: [(&str, &[usize]); 9] = [
     ("format", &[0, 1]),
     ("open", &[0, 1, 3, 8]),
     ("insert", &[0, 1, 2, 3, 5, 6, 7]),
+    ("withdraw", &[0, 1, 2, 3, 4]),
     ("lookup", &[0, 1, 2, 3, 4]),
     ("newest", &[0, 1, 2, 3, 4]),
     ("has_any", &[0, 1, 2, 3]),
@@ -36,4 +37,4 @@ pub const ANSWERS: [(&str, &[usize]); 8] = [
 ];
 
 /// Those that walk, and so tell of their mends.
-pub const WALKING: [&str; 5] = ["insert", "lookup", "newest", "has_any", "list"];
+pub const WALKING: [&str; 6] = ["insert", "withdraw", "lookup", "newest", "has_any", "list"];

@@ -42,6 +42,14 @@ pub enum Rule {
     InsertCounts,
     /// A refused insert leaves it.
     RefusalCountsNot,
+    /// A withdrawal takes one off the total.
+    WithdrawCounts,
+    /// A withdrawal touches its leaf.
+    WithdrawTouches,
+    /// A withdrawal leaves zeros where the last entry was.
+    LastPlaceZeroed,
+    /// A leaf without entries stays in the tree.
+    EmptyLeafStays,
 }
 
 /// Those on which demand 3 rests.
@@ -63,12 +71,16 @@ pub const RULES: [Rule; 14] = [
 ];
 
 /// Those that came with document 02.
-pub const LATER: [Rule; 5] = [
+pub const LATER: [Rule; 9] = [
     Rule::FinalIssues,
     Rule::ReasonOrder,
     Rule::RefusedReports,
     Rule::InsertCounts,
     Rule::RefusalCountsNot,
+    Rule::WithdrawCounts,
+    Rule::WithdrawTouches,
+    Rule::LastPlaceZeroed,
+    Rule::EmptyLeafStays,
 ];
 
 /// Whether this run breaks the rule.

@@ -64,13 +64,16 @@ pub struct View<'a> {
     pub s: Side<'a>,
     pub w: Side<'a>,
     pub session: &'a Session,
-    /// The entries of W, in key order.
-    pub entries: Vec<LeafEntry>,
+    /// Whether a key has had a record, or has been absent, since the last sync or opening.
+    pub had: Had<'a>,
 }
 
+/// Of a key and its state.
+type Had<'a> = &'a dyn Fn(u64, Option<u32>) -> bool;
+
 /// Reads both trees and checks A to F.
-pub fn check(store: &Store) -> Result<View<'_>, String> {
-    let view = View::new(store)?;
+pub fn check<'a>(store: &'a Store, had: Had<'a>) -> Result<View<'a>, String> {
+    let view = View::new(store, had)?;
     view.a()?;
     view.b()?;
     view.c()?;
@@ -86,18 +89,6 @@ fn must(holds: bool, part: &str, place: &Place) -> Check {
     } else {
         Err(format!("{part} at {place:?}"))
     }
-}
-
-/// Whether every entry of the first list stands in the second; both in key order.
-fn among(some: impl IntoIterator<Item = LeafEntry>, all: &[LeafEntry]) -> bool {
-    some.into_iter().all(|entry| {
-        all.binary_search_by_key(&entry.key, |other| other.key)
-            .is_ok_and(|found| all[found] == entry)
-    })
-}
-
-fn entries(leaf: &Page) -> Vec<LeafEntry> {
-    page::leaf_entries(leaf).collect()
 }
 
 /// An inner page's entries with a key in low to high, each with the high of its child.
@@ -129,13 +120,13 @@ fn refines(new: &[(InnerEntry, u64)], old: &[(InnerEntry, u64)], c: u32) -> bool
 }
 
 impl<'a> View<'a> {
-    fn new(store: &'a Store) -> Result<View<'a>, String> {
+    fn new(store: &'a Store, had: Had<'a>) -> Result<View<'a>, String> {
         let n = store.session.n;
         let w = Side::new(&store.working, n, "W")?;
         Ok(View {
             s: Side::new(&store.stable, n, "S")?,
             session: &store.session,
-            entries: w.tree.entries().collect(),
+            had,
             w,
         })
     }
@@ -229,7 +220,7 @@ impl<'a> View<'a> {
             && (old == new || is.touched == self.session.c && self.grown(node))
     }
 
-    /// E2: W's page fits, with the same built, and has S's entries.
+    /// E2: W's page fits, with the same built, and shows states that its keys have had.
     fn e2(&self, node: &Node) -> bool {
         let (old, new) = (&node.shown, self.w.page(node.place.child));
         let (was, is) = (Header::of(old), Header::of(new));
@@ -238,7 +229,7 @@ impl<'a> View<'a> {
             && (old == new || is.touched == self.session.c && self.grown(node))
     }
 
-    /// E3: W's page is S's, or was mended in this epoch and has at least what S shows.
+    /// E3: W's page is S's, or was mended in this epoch and shows what has come of what S shows.
     fn e3(&self, node: &Node) -> bool {
         let child = node.place.child;
         let new = self.w.page(child);
@@ -252,29 +243,37 @@ impl<'a> View<'a> {
                 && self.grown(node)
     }
 
-    /// Whether W's page has what S shows, and what more it has came by inserts: a leaf has
-    /// further entries, an inner page is still in W's tree and refines.
+    /// Whether W's page has what has come of what S shows: a leaf has a state of each key, an inner
+    /// page is still in W's tree and refines.
     fn grown(&self, node: &Node) -> bool {
         let Place {
             child, low, high, ..
         } = node.place;
         let new = self.w.page(child);
         if page::kind(&node.shown) == KIND_LEAF {
-            return page::kind(new) == KIND_LEAF && among(entries(&node.shown), &entries(new));
+            let old = page::leaf_entries(&node.shown);
+            return page::kind(new) == KIND_LEAF && self.states(old, new);
         }
         let (new, old) = (ranges(new, low, high), ranges(&node.shown, low, high));
         self.w.is_child(child) && refines(&new, &old, self.session.c)
     }
 
-    /// E5: a leaf of W that fits a place of S has only entries of W. What W's tree shows it
-    /// has anyway: this is about waiting leaves.
+    /// Whether a leaf shows only states that its keys have had: in what it has, and in what it
+    /// lacks of these old entries.
+    fn states(&self, mut old: impl Iterator<Item = LeafEntry>, leaf: &Page) -> bool {
+        page::leaf_entries(leaf).all(|new| (self.had)(new.key, Some(new.record)))
+            && old.all(|old| page::find(leaf, old.key).is_some() || (self.had)(old.key, None))
+    }
+
+    /// E5: a leaf of W that fits a place of S shows only states that its keys have had. What W's
+    /// tree shows they have: this is about waiting leaves.
     fn e5(&self, node: &Node) -> bool {
         let child = node.place.child;
         let new = self.w.page(child);
         page::kind(new) != KIND_LEAF
             || self.w.node(child).is_some_and(|shown| !shown.lost)
             || !node.place.fits(new, self.session.n)
-            || among(entries(new), &self.entries)
+            || self.states(std::iter::empty(), new)
     }
 
     /// F: what W's tree has.
@@ -342,9 +341,9 @@ impl<'a> View<'a> {
             && refines(&new, &cut, self.session.c)
     }
 
-    /// F5: a new leaf has what S shows in its range.
+    /// F5: a new leaf has what has come of what S shows in its range.
     fn f5(&self, node: &Node, old: &Node) -> bool {
         let within = page::leaf_entries(&old.shown).filter(|entry| node.place.holds(entry.key));
-        among(within, &entries(&node.shown))
+        self.states(within, &node.shown)
     }
 }

@@ -22,6 +22,7 @@ mod open;
 mod read;
 mod split;
 mod sync;
+mod withdraw;
 
 pub mod bench;
 pub mod broken;
@@ -37,6 +38,7 @@ pub mod proved;
 pub mod reasons;
 pub mod rng;
 pub mod store;
+pub mod without;
 
 pub use crash::crash;
 pub use format::format;
@@ -45,3 +47,4 @@ pub use open::open;
 pub use read::{has_any, list, lookup, newest, HasAny, Listed, Looked, Newest};
 pub use session::Session;
 pub use sync::{number_ahead, sync};
+pub use withdraw::withdraw;

@@ -1,5 +1,6 @@
 //! Pages: header, entries, soundness, and the few ways a page is changed.
 
+use crate::broken::{broken, Rule};
 use crate::field::{get16, get32, get64, put16, put32, put64};
 use crate::key;
 use crate::layout::{
@@ -237,6 +238,20 @@ pub fn put_leaf(page: &mut Page, new: LeafEntry) {
     let at = LEAF_HEADER + index * LEAF_ENTRY;
     put64(page, at + entry::KEY, new.key);
     put32(page, at + entry::RECORD, new.record);
+}
+
+/// Takes an entry out of a leaf: later ones move down, and the last place is zero.
+pub fn take_leaf(page: &mut Page, index: usize) {
+    let count = count(page);
+    let (at, end) = (
+        LEAF_HEADER + index * LEAF_ENTRY,
+        LEAF_HEADER + count * LEAF_ENTRY,
+    );
+    page.copy_within(at + LEAF_ENTRY..end, at);
+    if !broken(Rule::LastPlaceZeroed) {
+        page[end - LEAF_ENTRY..end].fill(0);
+    }
+    put16(page, header::COUNT, (count - 1) as u16);
 }
 
 /// One entry of an inner page becomes two. The page has room.

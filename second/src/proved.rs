@@ -58,6 +58,8 @@ extern "C" {
     fn kh_open(working: *mut u8, w: usize, stable: *mut u8, s: usize) -> Answered;
     fn kh_insert(working: *mut u8, w: usize, stable: *const u8, s: usize, session: Session,
                  model: u16, serial: u32, issue: u16, record: u32) -> Changed;
+    fn kh_withdraw(working: *mut u8, w: usize, stable: *const u8, s: usize, session: Session,
+                   model: u16, serial: u32, issue: u16) -> Changed;
     fn kh_lookup(working: *mut u8, w: usize, stable: *const u8, s: usize, session: Session,
                  model: u16, serial: u32, issue: u16) -> Looked;
     fn kh_newest(working: *mut u8, w: usize, stable: *const u8, s: usize, session: Session,
@@ -108,6 +110,17 @@ impl Proved {
         self.0.session = inserted.session;
         self.0.report = inserted.report;
         inserted.answer
+    }
+
+    pub fn withdraw(&mut self, key: u64) -> u32 {
+        let (model, serial, issue) = parts(key);
+        let (working, w) = lend!(mut self.0.working);
+        let (stable, s) = lend!(self.0.stable);
+        let session = self.0.session;
+        let left = unsafe { kh_withdraw(working, w, stable, s, session, model, serial, issue) };
+        self.0.session = left.session;
+        self.0.report = left.report;
+        left.answer
     }
 
     pub fn lookup(&mut self, key: u64) -> (u32, u32) {

@@ -61,6 +61,11 @@ impl Session {
         self.total = self.total.wrapping_add(1);
     }
 
+    /// A certificate was taken out.
+    pub fn one_less(&mut self) {
+        self.total = self.total.wrapping_sub(1);
+    }
+
     /// A sync has reached the stable table: the counter rises, what waited is free.
     pub fn raise(&mut self) {
         for p in 1..usize::from(self.n) {

@@ -4,7 +4,7 @@ use crate::key::parts;
 use crate::layout::PAGE;
 use crate::report::Report;
 use crate::session::Session;
-use crate::{crash, format, has_any, insert, list, lookup, newest, open, sync};
+use crate::{crash, format, has_any, insert, list, lookup, newest, open, sync, withdraw};
 
 #[derive(Clone, Debug)]
 pub struct Store {
@@ -65,6 +65,15 @@ impl Store {
         self.session = inserted.session;
         self.report = inserted.report;
         inserted.answer
+    }
+
+    pub fn withdraw(&mut self, key: u64) -> u32 {
+        let (model, serial, issue) = parts(key);
+        let working = &mut self.working;
+        let left = withdraw(working, &self.stable, self.session, model, serial, issue);
+        self.session = left.session;
+        self.report = left.report;
+        left.answer
     }
 
     pub fn lookup(&mut self, key: u64) -> (u32, u32) {

@@ -10,7 +10,7 @@ use second::layout::{zero, LAST_NUMBER, LEAF_CAP, PAGE};
 use second::page::{page_mut, Page};
 use second::session::Session;
 use second::store::Store;
-use second::{format, has_any, insert, list, lookup, newest, open, sync};
+use second::{format, has_any, insert, list, lookup, newest, open, sync, withdraw};
 
 /// Lengths of working and stable that no call takes, in bytes.
 const LENGTHS: [(usize, usize); 10] = [
@@ -43,6 +43,8 @@ fn all_refuse(working: &[u8], stable: &[u8], session: Session) {
     let (mut keys, mut records) = ([11; 3], [12; 3]);
     let inserted = insert(&mut w, &s, session, 0, 2, 1, 1);
     assert_eq!((inserted.answer, inserted.session), (LENGTH, session));
+    let taken = withdraw(&mut w, &s, session, 7, 1, 0);
+    assert_eq!((taken.answer, taken.session), (LENGTH, session));
     let looked = lookup(&mut w, &s, session, 7, 1, 0);
     assert_eq!((looked.answer, looked.record), (LENGTH, 0));
     assert_eq!(looked.session, session);
@@ -94,6 +96,7 @@ fn bad_keys() {
     let mut store = loaded(5, 2);
     for bad in [key(0, 1, 1), key(7, 0, 1), key(7, 1, 0), 0] {
         unchanged(&mut store, BADKEY, |store| store.insert(bad, 1));
+        unchanged(&mut store, BADKEY, |store| store.withdraw(bad));
         unchanged(&mut store, BADKEY, |store| store.lookup(bad).0);
     }
     unchanged(&mut store, BADKEY, |store| store.newest(0, 1).0);
@@ -180,6 +183,7 @@ fn unfit_page_zero() {
         put16(&mut store.working, field, value);
         put16(&mut store.stable, field, value);
         unchanged(&mut store, DAMAGED, |store| store.insert(serial(3), 3));
+        unchanged(&mut store, DAMAGED, |store| store.withdraw(serial(1)));
         unchanged(&mut store, DAMAGED, |store| store.lookup(serial(1)).0);
         unchanged(&mut store, DAMAGED, |store| store.newest(7, 1).0);
         unchanged(&mut store, DAMAGED, |store| store.has_any(7, 1).0);

@@ -1,10 +1,11 @@
 -- Demand 1. Assumes nothing.
 use mathlib.Core.Path.{_≡_, refl, ap}
 use mathlib.Core.Bool.{false}
-use Rattle.rules.specs.Call.{formattedNo, openedNo, insertedNo, lookedNo, lookedRecord, newestNo, newestIssue, newestRecord, anyNo, anyYes, listedNo, listedCount, syncedNo}
+use Rattle.rules.specs.Call.{formattedNo, openedNo, insertedNo, withdrawnNo, lookedNo, lookedRecord, newestNo, newestIssue, newestRecord, anyNo, anyYes, listedNo, listedCount, syncedNo}
 use Rattle.rules.specs.Format.{format}
 use Rattle.rules.specs.Open.{opening}
 use Rattle.rules.specs.Insert.{insert}
+use Rattle.rules.specs.Withdraw.{withdraw}
 use Rattle.rules.specs.Lookup.{lookup}
 use Rattle.rules.specs.Newest.{newest}
 use Rattle.rules.specs.HasAny.{hasAny}
@@ -18,7 +19,8 @@ use Rattle.rules.specs.declared.Any.{Any}
 use Rattle.rules.specs.declared.Listed.{Listed}
 use Rattle.rules.specs.declared.Synced.{Synced}
 use Rattle.rules.proofs.demand1.Refusals as rules
-use Rattle.answers.specs.Causes.{formatCauses, openCauses, insertCauses, lookupCauses, newestCauses, anyCauses, listCauses, syncCauses}
+use Rattle.rules.proofs.demand1.Withdrawals.{withdraw-stable}
+use Rattle.answers.specs.Causes.{formatCauses, openCauses, insertCauses, withdrawCauses, lookupCauses, newestCauses, anyCauses, listCauses, syncCauses}
 use Rattle.answers.specs.Demand1.{Refused, Demand1}
 use Rattle.answers.proofs.Exactly.{given-number}
 use Rattle.answers.proofs.Ends.{format-given, open-given, sync-given}
@@ -26,6 +28,7 @@ use Rattle.answers.proofs.Looks.{lookup-given}
 use Rattle.answers.proofs.Inserts.{insert-given}
 use Rattle.answers.proofs.Ranges.{newest-given, any-given, list-given}
 use Rattle.answers.proofs.Refused.{insert-mended, insert-unwalked, insert-stands, lookup-mended, lookup-stands}
+use Rattle.answers.proofs.Withdraws.{withdraw-given, withdraw-mended, withdraw-unwalked, withdraw-stands}
 use Rattle.answers.proofs.Lefts.{newest-mended, newest-stands, any-mended, any-stands, list-mended, list-stands}
 
 -- ── The numbers beside a refusal ────────────────────────────────────────────────────────────────────────────────
@@ -98,6 +101,9 @@ demand1 = record {
   insert-answers = λ w t s model serial issue x.
       given-number (insertCauses w t s model serial issue) (insertedNo (insert w t s model serial issue x .answer))
       (insert-given w t s model serial issue x);
+  withdraw-answers = λ w t s model serial issue.
+      given-number (withdrawCauses w t s model serial issue) (withdrawnNo (withdraw w t s model serial issue .answer))
+      (withdraw-given w t s model serial issue);
   lookup-answers = λ w t s model serial issue.
       given-number (lookupCauses w t s model serial issue) (lookedNo (lookup w t s model serial issue .answer))
       (lookup-given w t s model serial issue);
@@ -112,12 +118,15 @@ demand1 = record {
       (list-given w t s start ks xs);
   sync-answers = λ w t s. given-number (syncCauses w t s) (syncedNo (sync w t s .answer)) (sync-given w t s);
   insert-refused = insert-mended;
+  withdraw-refused = withdraw-mended;
   insert-unwalked = insert-unwalked;
+  withdraw-unwalked = withdraw-unwalked;
   lookup-mends = lookup-mended;
   newest-mends = newest-mended;
   any-mends = any-mended;
   list-mends = list-mended;
   insert-stands = insert-stands;
+  withdraw-stands = withdraw-stands;
   lookup-stands = lookup-stands;
   newest-stands = newest-stands;
   any-stands = any-stands;
@@ -135,4 +144,5 @@ demand1 = record {
   count-zero = listed-zero;
   format-stable = λ w s h. rules.format-refused w s (not-formatted (format w s .answer) h);
   insert-stable = rules.insert-stable;
+  withdraw-stable = withdraw-stable;
 }

@@ -12,8 +12,9 @@ pub mod Ends
 pub mod Looks
 pub mod Inserts
 pub mod Ranges
-pub mod Whens
 pub mod Walks
 pub mod Refused
+pub mod Withdraws
+pub mod Whens
 pub mod Lefts
 pub mod Demands

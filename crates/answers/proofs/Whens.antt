@@ -9,10 +9,11 @@ use Rattle.rules.specs.Test.{every}
 use Rattle.rules.specs.Key.{keyOf}
 use Rattle.rules.specs.Entry.{rising, risesFrom}
 use Rattle.rules.specs.Walk.{walkOf}
-use Rattle.rules.specs.Call.{formattedNo, openedNo, insertedNo, lookedNo, newestNo, anyNo, listedNo, listedCount, syncedNo}
+use Rattle.rules.specs.Call.{formattedNo, openedNo, insertedNo, withdrawnNo, lookedNo, newestNo, anyNo, listedNo, listedCount, syncedNo}
 use Rattle.rules.specs.Format.{format}
 use Rattle.rules.specs.Open.{opening}
 use Rattle.rules.specs.Insert.{insert}
+use Rattle.rules.specs.Withdraw.{withdraw}
 use Rattle.rules.specs.Lookup.{lookup}
 use Rattle.rules.specs.Newest.{newest, newestIn, meter}
 use Rattle.rules.specs.HasAny.{hasAny, anyIn, firstOf}
@@ -24,12 +25,13 @@ use Rattle.rules.specs.declared.Newest.{Newest}
 use Rattle.rules.specs.declared.Any.{Any}
 use Rattle.rules.specs.declared.Listed.{Listed}
 use Rattle.answers.specs.Given.{Given}
-use Rattle.answers.specs.Causes.{under, formatCauses, openCauses, insertCauses, lookupCauses, newestCauses, anyCauses, listCauses, syncCauses}
+use Rattle.answers.specs.Causes.{under, formatCauses, openCauses, insertCauses, withdrawCauses, lookupCauses, newestCauses, anyCauses, listCauses, syncCauses}
 use Rattle.answers.specs.When.{When}
 use Rattle.answers.proofs.Exactly.{exactly}
 use Rattle.answers.proofs.Ends.{format-given, open-given, sync-given}
 use Rattle.answers.proofs.Looks.{lookup-given, lookup-done}
 use Rattle.answers.proofs.Inserts.{insert-given}
+use Rattle.answers.proofs.Withdraws.{withdraw-given}
 use Rattle.answers.proofs.Ranges.{newest-given, newest-done, any-given, any-done, list-given, list-done}
 
 -- ── What is answered beside 0 ───────────────────────────────────────────────────────────────────────────────────
@@ -103,6 +105,9 @@ whens = record {
   insert-when = λ w t s model serial issue x k.
       exactly (insertCauses w t s model serial issue) (insertedNo (insert w t s model serial issue x .answer)) k
       (insert-given w t s model serial issue x);
+  withdraw-when = λ w t s model serial issue k.
+      exactly (withdrawCauses w t s model serial issue) (withdrawnNo (withdraw w t s model serial issue .answer)) k
+      (withdraw-given w t s model serial issue);
   lookup-when = λ w t s model serial issue k.
       exactly (lookupCauses w t s model serial issue) (lookedNo (lookup w t s model serial issue .answer)) k
       (lookup-given w t s model serial issue);

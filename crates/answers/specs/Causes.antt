@@ -118,6 +118,10 @@ lookupCauses w t s model serial issue =
     ∷ (4 when (under s k w ≡ none))
     ∷ []
 
+-- a withdrawal is refused where a lookup is
+abbrev pub withdrawCauses : List ℕ → List ℕ → Session → ℕ → ℕ → ℕ → List Cause
+withdrawCauses w t s model serial issue = lookupCauses w t s model serial issue
+
 abbrev pub newestCauses : List ℕ → List ℕ → Session → ℕ → ℕ → List Cause
 newestCauses w t s model serial =
     (1 when BadLengths s w t)

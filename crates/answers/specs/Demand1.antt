@@ -8,10 +8,11 @@ use Rattle.rules.specs.Test.{mem}
 use Rattle.rules.specs.Key.{keyOf}
 use Rattle.rules.specs.Table.{fit0}
 use Rattle.rules.specs.Marks.{nobody}
-use Rattle.rules.specs.Call.{Left, formattedNo, openedNo, insertedNo, lookedNo, lookedRecord, newestNo, newestIssue, newestRecord, anyNo, anyYes, listedNo, listedCount, syncedNo, Unchanged}
+use Rattle.rules.specs.Call.{Left, formattedNo, openedNo, insertedNo, withdrawnNo, lookedNo, lookedRecord, newestNo, newestIssue, newestRecord, anyNo, anyYes, listedNo, listedCount, syncedNo, Unchanged}
 use Rattle.rules.specs.Format.{format}
 use Rattle.rules.specs.Open.{opening}
 use Rattle.rules.specs.Insert.{insert}
+use Rattle.rules.specs.Withdraw.{withdraw}
 use Rattle.rules.specs.Lookup.{lookup}
 use Rattle.rules.specs.Newest.{newest, meter}
 use Rattle.rules.specs.HasAny.{hasAny, firstOf}
@@ -57,6 +58,8 @@ pub record Demand1 : Type 0 where
   pub open-answers : (w s : List ℕ) → Among (openedNo (opening w s .answer)) (0 ∷ 1 ∷ 3 ∷ 8 ∷ [])
   pub insert-answers : (w t : List ℕ) (s : Session) (model serial issue x : ℕ)
       → Among (insertedNo (insert w t s model serial issue x .answer)) (0 ∷ 1 ∷ 2 ∷ 3 ∷ 5 ∷ 6 ∷ 7 ∷ [])
+  pub withdraw-answers : (w t : List ℕ) (s : Session) (model serial issue : ℕ)
+      → Among (withdrawnNo (withdraw w t s model serial issue .answer)) (0 ∷ 1 ∷ 2 ∷ 3 ∷ 4 ∷ [])
   pub lookup-answers : (w t : List ℕ) (s : Session) (model serial issue : ℕ)
       → Among (lookedNo (lookup w t s model serial issue .answer)) (0 ∷ 1 ∷ 2 ∷ 3 ∷ 4 ∷ [])
   pub newest-answers : (w t : List ℕ) (s : Session) (model serial : ℕ)
@@ -66,13 +69,18 @@ pub record Demand1 : Type 0 where
   pub list-answers : (w t : List ℕ) (s : Session) (start : ℕ) (ks xs : List ℕ)
       → Among (listedNo (list w t s start ks xs .answer)) (0 ∷ 1 ∷ 3 ∷ [])
   pub sync-answers : (w t : List ℕ) (s : Session) → Among (syncedNo (sync w t s .answer)) (0 ∷ 1 ∷ 8 ∷ [])
-  -- a refused insert changes nothing but the pages its walk had to mend, each by the mending rule
+  -- a refused insert or withdrawal changes nothing but the pages its walk had to mend, each by the mending rule
   pub insert-refused : (w t : List ℕ) (s : Session) (model serial issue x : ℕ)
       → Refused (insertedNo (insert w t s model serial issue x .answer))
       → WalkMended (keyOf model serial issue) w t s (insert w t s model serial issue x)
+  pub withdraw-refused : (w t : List ℕ) (s : Session) (model serial issue : ℕ)
+      → Refused (withdrawnNo (withdraw w t s model serial issue .answer))
+      → WalkMended (keyOf model serial issue) w t s (withdraw w t s model serial issue)
   -- and nothing at all where it is refused before its walk
   pub insert-unwalked : (w t : List ℕ) (s : Session) (model serial issue x : ℕ) → BeforeWalk w t s model serial issue
       → Unchanged w t s (insert w t s model serial issue x)
+  pub withdraw-unwalked : (w t : List ℕ) (s : Session) (model serial issue : ℕ) → BeforeWalk w t s model serial issue
+      → Unchanged w t s (withdraw w t s model serial issue)
   -- a call that reads changes no more, whatever it answers
   pub lookup-mends : (w t : List ℕ) (s : Session) (model serial issue : ℕ)
       → WalkMended (keyOf model serial issue) w t s (lookup w t s model serial issue)
@@ -89,6 +97,9 @@ pub record Demand1 : Type 0 where
   pub insert-stands : (w t : List ℕ) (s : Session) (model serial issue x : ℕ) → (BeforeWalk w t s model serial issue → ⊥)
       → Refused (insertedNo (insert w t s model serial issue x .answer))
       → EndsIn (s .n) (s .c) (keyOf model serial issue) w (insert w t s model serial issue x .working)
+  pub withdraw-stands : (w t : List ℕ) (s : Session) (model serial issue : ℕ) → (BeforeWalk w t s model serial issue → ⊥)
+      → Refused (withdrawnNo (withdraw w t s model serial issue .answer))
+      → EndsIn (s .n) (s .c) (keyOf model serial issue) w (withdraw w t s model serial issue .working)
   pub lookup-stands : (w t : List ℕ) (s : Session) (model serial issue : ℕ) → (BeforeWalk w t s model serial issue → ⊥)
       → EndsIn (s .n) (s .c) (keyOf model serial issue) w (lookup w t s model serial issue .working)
   pub newest-stands : (w t : List ℕ) (s : Session) (model serial : ℕ) → fit0 (s .n) w ≡ true
@@ -118,3 +129,5 @@ pub record Demand1 : Type 0 where
   pub format-stable : (w s : List ℕ) → Refused (formattedNo (format w s .answer)) → format w s .stable ≡ s
   pub insert-stable : (w t : List ℕ) (s : Session) (model serial issue x : ℕ)
       → insert w t s model serial issue x .stable ≡ t
+  pub withdraw-stable : (w t : List ℕ) (s : Session) (model serial issue : ℕ)
+      → withdraw w t s model serial issue .stable ≡ t

@@ -10,10 +10,11 @@ use Rattle.rules.specs.Test.{every}
 use Rattle.rules.specs.Key.{keyOf}
 use Rattle.rules.specs.Entry.{rising}
 use Rattle.rules.specs.Walk.{walkOf}
-use Rattle.rules.specs.Call.{formattedNo, openedNo, insertedNo, lookedNo, newestNo, anyNo, listedNo, syncedNo}
+use Rattle.rules.specs.Call.{formattedNo, openedNo, insertedNo, withdrawnNo, lookedNo, newestNo, anyNo, listedNo, syncedNo}
 use Rattle.rules.specs.Format.{format}
 use Rattle.rules.specs.Open.{opening}
 use Rattle.rules.specs.Insert.{insert}
+use Rattle.rules.specs.Withdraw.{withdraw}
 use Rattle.rules.specs.Lookup.{lookup}
 use Rattle.rules.specs.Newest.{newest, newestIn, meter}
 use Rattle.rules.specs.HasAny.{hasAny, anyIn, firstOf}
@@ -25,7 +26,7 @@ use Rattle.rules.specs.declared.Newest.{Newest}
 use Rattle.rules.specs.declared.Any.{Any}
 use Rattle.rules.specs.declared.Listed.{Listed}
 use Rattle.answers.specs.Given.{Given, numbersIn}
-use Rattle.answers.specs.Causes.{under, formatCauses, openCauses, insertCauses, lookupCauses, newestCauses, anyCauses, listCauses, syncCauses}
+use Rattle.answers.specs.Causes.{under, formatCauses, openCauses, insertCauses, withdrawCauses, lookupCauses, newestCauses, anyCauses, listCauses, syncCauses}
 
 -- for any page bytes, length, session and key
 pub record When : Type 0 where
@@ -35,6 +36,7 @@ pub record When : Type 0 where
       (rising (numbersIn (formatCauses w t))
       ∷ rising (numbersIn (openCauses w t))
       ∷ rising (numbersIn (insertCauses w t s model serial issue))
+      ∷ rising (numbersIn (withdrawCauses w t s model serial issue))
       ∷ rising (numbersIn (lookupCauses w t s model serial issue))
       ∷ rising (numbersIn (newestCauses w t s model serial))
       ∷ rising (numbersIn (anyCauses w t s model serial))
@@ -47,6 +49,8 @@ pub record When : Type 0 where
   pub open-when : (w s : List ℕ) (k : ℕ) → (openedNo (opening w s .answer) ≡ k) ↔ Given (openCauses w s) k
   pub insert-when : (w t : List ℕ) (s : Session) (model serial issue x k : ℕ)
       → (insertedNo (insert w t s model serial issue x .answer) ≡ k) ↔ Given (insertCauses w t s model serial issue) k
+  pub withdraw-when : (w t : List ℕ) (s : Session) (model serial issue k : ℕ)
+      → (withdrawnNo (withdraw w t s model serial issue .answer) ≡ k) ↔ Given (withdrawCauses w t s model serial issue) k
   pub lookup-when : (w t : List ℕ) (s : Session) (model serial issue k : ℕ)
       → (lookedNo (lookup w t s model serial issue .answer) ≡ k) ↔ Given (lookupCauses w t s model serial issue) k
   pub newest-when : (w t : List ℕ) (s : Session) (model serial k : ℕ)

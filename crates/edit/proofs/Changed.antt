@@ -1,20 +1,21 @@
 -- What the bytes of a page changed where it stands are: its entries put over the old ones, its count and touched set.
 -- Assumes nothing.
 use mathlib.Core.Path.{_≡_, refl, sym, ap, _∙_}
-use mathlib.Core.List.{List, _∷_, _++_}
+use mathlib.Core.List.{List, _∷_, _++_, append-assoc}
 use Prim.Native.Nat.{ℕ, _+_, _-_, _*_, _≤_, _<_}
 use native.Mathlib.Nat.{add-zero, zero-add, mul-zero, mul-suc}
 use native.Mathlib.Numerals.{add-one}
 use native.Mathlib.Omega.{arith}
-use lib.ListN.{length, take, drop, length-append, length-drop}
+use lib.ListN.{length, take, drop, replicate, length-append, length-drop}
 use lib.Seq.{sets, length-sets, take-all}
 use Rattle.fields.specs.Field.{Bytes, number, leAt, putAt}
-use Rattle.fields.proofs.Bytes.{bytes-sets}
+use Rattle.fields.proofs.Bytes.{bytes-append, bytes-sets}
 use Rattle.fields.proofs.Field.{get-put-other, bytes-put, length-put}
 use Rattle.fields.proofs.Run.{sets-append, part-sets-below, length-part}
-use Rattle.rules.specs.Layout.{commonHeader}
-use Rattle.rules.specs.Page.{View, Page, pageIn, count, touch, headerBytes, pageBytes, changeBytes, over, readEach, writeEach, certBytes, childBytes}
+use Rattle.rules.specs.Layout.{commonHeader, certSize}
+use Rattle.rules.specs.Page.{View, Page, pageIn, count, touch, headerBytes, pageBytes, changeBytes, shrinkBytes, over, readEach, writeEach, certBytes, childBytes}
 use Rattle.rules.proofs.bytes.Each.{length-readEach, writeEach-append}
+use Rattle.rules.proofs.bytes.Pages.{bytes-replicate}
 use Rattle.entries.proofs.Header.{header-puts}
 use Rattle.entries.proofs.Ranges.{range-within, write-range}
 use Rattle.entries.proofs.Sets.{sets-comm, sets-same, put-same, over-sets}
@@ -43,19 +44,34 @@ module _ (header : ℕ) (b es : List ℕ) (v : View) (c : ℕ) (n : commonHeader
       let high = put-same touched 24 8 (leAt b 24 8) ht (omega arith) (header-part 24 8 (omega arith) ∙ sym (get-put-other q 2 2 (count v) 24 8 refl) ∙ sym (get-put-other counted 12 4 c 24 8 refl)) in
       header-puts q (v .kind) (count v) (leAt b 4 4) (leAt b 8 4) c (leAt b 16 8) (leAt b 24 8) ∙ rw (kind, birth, built, low, high)
 
-pub change-bytes : (header : ℕ) (b es : List ℕ) (v : View) (c : ℕ) → commonHeader ≤ header → length (headerBytes (touch c v (pageIn b))) ≡ header
-    → Bytes b → Bytes es → header + length es ≤ length b → v .kind ≡ leAt b 0 2
-    → writeEach certBytes (v .certs) ++ writeEach childBytes (v .children) ≡ es
-    → changeBytes (touch c v (pageIn b)) b ≡ putAt (putAt (sets b header es) 2 2 (count v)) 12 4 c
-unfolding changeBytes pageBytes touch
-change-bytes header b es v c n m h k l e f =
-    let p : Page = touch c v (pageIn b) in
-    let long : length (headerBytes p ++ es) ≡ header + length es = length-append (headerBytes p) es ∙ ap (λ (n : ℕ). n + length es) m in
-    ap (λ (r : List ℕ). over (headerBytes p ++ r) b) f
-    ∙ over-sets (headerBytes p ++ es) b (rw long l)
-    ∙ sets-append (headerBytes p) es b 0
-    ∙ rw (m, zero-add) (sets-comm (headerBytes p) es b 0 header (rw m (omega arith)))
-    ∙ stamp-header header b es v c n (bytes-sets es b header h k) (omega arith) e
+-- the header and what follows it, put over the page
+module _ (header : ℕ) (b es : List ℕ) (v : View) (c : ℕ) (n : commonHeader ≤ header) (m : length (headerBytes (touch c v (pageIn b))) ≡ header) (h : Bytes b) (e : v .kind ≡ leAt b 0 2) where
+  over-bytes : (rest : List ℕ) → Bytes rest → header + length rest ≤ length b
+      → over (headerBytes (touch c v (pageIn b)) ++ rest) b ≡ putAt (putAt (sets b header rest) 2 2 (count v)) 12 4 c
+  over-bytes rest k l =
+      let hs = headerBytes (touch c v (pageIn b)) in
+      let long : length (hs ++ rest) ≡ header + length rest = length-append hs rest ∙ ap (λ (n : ℕ). n + length rest) m in
+      over-sets (hs ++ rest) b (rw long l)
+      ∙ sets-append hs rest b 0
+      ∙ rw (m, zero-add) (sets-comm hs rest b 0 header (rw m (omega arith)))
+      ∙ stamp-header header b rest v c n (bytes-sets rest b header h k) (omega arith) e
+
+  module _ (k : Bytes es) (f : writeEach certBytes (v .certs) ++ writeEach childBytes (v .children) ≡ es) where
+    pub change-bytes : header + length es ≤ length b
+        → changeBytes (touch c v (pageIn b)) b ≡ putAt (putAt (sets b header es) 2 2 (count v)) 12 4 c
+    unfolding changeBytes pageBytes touch
+    change-bytes l = ap (λ (r : List ℕ). over (headerBytes (touch c v (pageIn b)) ++ r) b) f ∙ over-bytes es k l
+
+    -- with zeros in the place that was the last one's
+    pub shrink-bytes : header + length (es ++ replicate certSize 0) ≤ length b
+        → shrinkBytes (touch c v (pageIn b)) b ≡ putAt (putAt (sets b header (es ++ replicate certSize 0)) 2 2 (count v)) 12 4 c
+    unfolding shrinkBytes pageBytes touch
+    shrink-bytes l =
+        let hs = headerBytes (touch c v (pageIn b)) in
+        let zeros : List ℕ = replicate certSize 0 in
+        ap (λ (r : List ℕ). over ((hs ++ r) ++ zeros) b) f
+        ∙ ap (λ (r : List ℕ). over r b) (append-assoc hs es zeros)
+        ∙ over-bytes (es ++ zeros) (bytes-append es zeros k (bytes-replicate certSize)) l
 
 -- ── Entries written over a page's old ones ──────────────────────────────────────────────────────────────────────
 
@@ -106,3 +122,14 @@ module _ {A : Type 0} (read : List ℕ → A) (write : A → List ℕ) (size : �
       rw at (sets-same b (off + size * j + size) (size * (k - (j + 1))) (omega arith)) in
       write-around b off (take j xs) (drop (j + 1) xs) x j (omega arith) (write-before b off k j h l (omega arith))
       ∙ rw (write-behind b off k (j + 1) h l (omega arith), same)
+
+  -- the entry at j taken out, and bytes put behind the last: those behind it move down
+  pub write-less : (b : List ℕ) (off k j : ℕ) (z : List ℕ) → Bytes b → off + size * k ≤ length b → j < k
+      → sets b off (writeEach write (take j (readEach read size k (drop off b)) ++ drop (j + 1) (readEach read size k (drop off b))) ++ z)
+      ≡ sets (sets b (off + size * j) (take (size * (k - (j + 1))) (drop (off + size * (j + 1)) b))) (off + size * j + size * (k - (j + 1))) z
+  write-less b off k j z h l m =
+      let w = range-within size (j + 1) (k - (j + 1)) k (omega arith) in
+      let v = range-within size j 1 (j + 1) (omega arith) in
+      let before = length-part (size * j) off b (omega arith) in
+      let behind = length-part (size * (k - (j + 1))) (off + size * (j + 1)) b (omega arith) in
+      rw (writeEach-append, write-before b off k j h l (omega arith), write-behind b off k (j + 1) h l (omega arith), append-assoc, sets-append, before, sets-same b off (size * j) (omega arith), sets-append, behind)

@@ -49,7 +49,7 @@ module _ {B : Type 0} (read : List ℕ → Entry B) (write : Entry B → List �
 
   module _ (present : mem (x .key) (keys old) ≡ true) (rises : rising (keys old) ≡ true) where
     spot-other : 0 < j
-    spot-other = rw (keyed k b, ← e) at (spot-present x old present rises)
+    spot-other = rw (keyed k b, ← e) at (spot-present (x .key) (keys old) present rises)
 
     other-at : put x old ≡ take (j - 1) old ++ (x ∷ drop (j - 1 + 1) old)
     other-at =
@@ -90,7 +90,7 @@ cert-bytes b x c j h l t e =
     let w : writeEach certBytes (v .certs) ++ writeEach childBytes (v .children) ≡ writeEach certBytes xs = rw (leaf, append-nil) in
     let counted : count v ≡ k + 1 = rw (leaf, n) (omega arith) in
     let d : certSize * (k - j) ≡ leafHeader + certSize * k - (leafHeader + certSize * j) = omega (arith, spot-below leafHeader certSize k (x .key) j b e) in
-    change-bytes leafHeader b (writeEach certBytes xs) v c (omega arith) (leaf-header b x c (t .leaf)) h (bytes-writeCerts xs) (rw (length-writeCerts xs, n) (omega arith)) (rw leaf) w
+    change-bytes leafHeader b (writeEach certBytes xs) v c (omega arith) (leaf-header b x c (t .leaf)) h (rw leaf) (bytes-writeCerts xs) w (rw (length-writeCerts xs, n) (omega arith))
     ∙ rw (counted, bytes-more certIn certBytes leafHeader certSize length-certBytes certBytes-certIn keys-certs b k h x j e absent (omega arith), d)
 
 -- ── An inner page ───────────────────────────────────────────────────────────────────────────────────────────────
@@ -118,7 +118,7 @@ module _ (b : List ℕ) (x : Child) (c j : ℕ) (h : Bytes b) (l : length b ≡ 
       let w : writeEach certBytes (v .certs) ++ writeEach childBytes (v .children) ≡ writeEach childBytes xs = rw inner in
       let counted : count v ≡ k + 1 = rw (inner, n) (omega arith) in
       let d : childSize * (k - j) ≡ innerHeader + childSize * k - (innerHeader + childSize * j) = omega (arith, spot-below innerHeader childSize k (x .key) j b e) in
-      change-bytes innerHeader b (writeEach childBytes xs) v c (omega arith) (inner-header b x c (t .inner)) h (bytes-writeChildren xs) (rw (length-writeChildren xs, n) (omega arith)) (rw inner) w
+      change-bytes innerHeader b (writeEach childBytes xs) v c (omega arith) (inner-header b x c (t .inner)) h (rw inner) (bytes-writeChildren xs) w (rw (length-writeChildren xs, n) (omega arith))
       ∙ rw (counted, bytes-more childIn childBytes innerHeader childSize length-childBytes childBytes-childIn keys-children b k h x j e absent (omega arith), d)
 
   module _ (t : HasChild (x .key) (viewIn b)) where
@@ -142,5 +142,5 @@ module _ (b : List ℕ) (x : Child) (c j : ℕ) (h : Bytes b) (l : length b ≡ 
         let n = length-other childIn childBytes innerHeader childSize length-childBytes childBytes-childIn keys-children b k h x j e present rises in
         let w : writeEach certBytes (v .certs) ++ writeEach childBytes (v .children) ≡ writeEach childBytes xs = rw inner-has in
         let counted : count v ≡ k = rw (inner-has, n) (omega arith) in
-        change-bytes innerHeader b (writeEach childBytes xs) v c (omega arith) (inner-header b x c (t .inner)) h (bytes-writeChildren xs) (rw (length-writeChildren xs, n) (omega arith)) (rw inner-has) w
+        change-bytes innerHeader b (writeEach childBytes xs) v c (omega arith) (inner-header b x c (t .inner)) h (rw inner-has) (bytes-writeChildren xs) w (rw (length-writeChildren xs, n) (omega arith))
         ∙ rw (counted, bytes-other childIn childBytes innerHeader childSize length-childBytes childBytes-childIn keys-children b k h x j e present rises (omega arith))

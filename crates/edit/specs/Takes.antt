@@ -1,5 +1,5 @@
 -- What a page must be to be changed where it stands, and the two entries that one becomes.
-use Prim.Native.Nat.{ℕ, _<_}
+use Prim.Native.Nat.{ℕ, _≤_, _<_}
 use mathlib.Core.Path.{_≡_}
 use mathlib.Core.Bool.{true, false}
 use lib.ListN.{length}
@@ -14,6 +14,13 @@ pub record TakesCert (key : ℕ) (v : View) : Type 0 where
   pub leaf : isLeaf v ≡ true
   pub room : length (v .certs) < leafRoom
   pub absent : mem key (keys (v .certs)) ≡ false
+
+-- a leaf with a certificate under a key
+pub record HasCert (key : ℕ) (v : View) : Type 0 where
+  pub leaf : isLeaf v ≡ true
+  pub room : length (v .certs) ≤ leafRoom
+  pub rises : rising (keys (v .certs)) ≡ true
+  pub present : mem key (keys (v .certs)) ≡ true
 
 -- an inner page with room for a key that it doesn't have
 pub record TakesChild (key : ℕ) (v : View) : Type 0 where

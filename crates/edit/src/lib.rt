@@ -1,10 +1,11 @@
-// Pages changed where they stand: a certificate put into a leaf, one entry of an inner page made two.
+// Pages changed where they stand: a certificate put into a leaf or taken out, one entry of an inner page made two.
 //
-// Entries behind the new one move up, the entry is written, count and touched are set. Every other byte stays, those
-// behind the last entry too, and so does every other page of the table.
+// Entries behind the new one move up, the entry is written, count and touched are set. Behind one that is taken out they
+// move down, and the place that was the last one's becomes zero. Every other byte stays, those behind the last entry
+// too, and so does every other page of the table.
 //
-// Below stand `fields`, numbers in bytes; `entries`, entries as runs of bytes; and `rules`, whose `changed` every
-// contract here is an equation with.
+// Below stand `fields`, numbers in bytes; `entries`, entries as runs of bytes; and `rules`, whose `changed` or `removed`
+// every contract here is an equation with.
 
 use rules::AT_COUNT;
 use rules::AT_TOUCHED;
@@ -18,11 +19,12 @@ ghost use Prim.Native.Nat.{_+_, _*_, _≤_};
 ghost use lib.ListN.{length};
 ghost use Rattle.fields.specs.Field.{putAt};
 ghost use Rattle.rules.specs.Layout.{pageSize, commonHeader};
-ghost use Rattle.rules.specs.Page.{viewIn, pageIn, changeBytes, touch};
+ghost use Rattle.rules.specs.Page.{viewIn, pageIn, changeBytes, shrinkBytes, touch};
 ghost use Rattle.rules.specs.Table.{read};
 ghost use Rattle.rules.specs.Insert.{newChild, putCert, putChild, changed};
+ghost use Rattle.rules.specs.Withdraw.{withoutCert, removed};
 ghost use Rattle.entries.specs.Spot.{newCert};
-ghost use Rattle.edit.specs.Takes.{TakesCert, TakesChild, HasChild, TakesTwins, twinsOf};
+ghost use Rattle.edit.specs.Takes.{TakesCert, HasCert, TakesChild, HasChild, TakesTwins, twinsOf};
 
 // A page that is changed now, with so many entries.
 fn stamp(page: &mut [u8], count: u16, c: u32)
@@ -43,6 +45,20 @@ fn put_cert_in(page: &mut [u8], key: u64, value: u32, c: u32)
     entries::move_up(page, at, LEAF_HEADER + CERT * (count as usize), CERT);
     entries::write_cert(page, at, key, value);
     stamp(page, count + 1, c);
+}
+
+// The certificate under a key gives up its place: it is the one before the key's spot.
+fn remove_cert_in(page: &mut [u8], key: u64, c: u32)
+    requires { ⌜ length (now page) ≡ pageSize ⌝ }
+    requires { ⌜ HasCert key (viewIn (now page)) ⌝ }
+    ensures { λ r. ⌜ now (page .exit) ≡ shrinkBytes (touch c (withoutCert key (viewIn (now (page .entry)))) (pageIn (now (page .entry)))) (now (page .entry)) ⌝ }
+{
+    let count = fields::get16(page, AT_COUNT);
+    let at = LEAF_HEADER + CERT * entries::spot(page, LEAF_HEADER, CERT, count as usize, key);
+    let end = LEAF_HEADER + CERT * (count as usize);
+    entries::copy(page, at - CERT, at, end - at);
+    entries::clear(page, end - CERT, end);
+    stamp(page, count - 1, c);
 }
 
 fn put_child_in(page: &mut [u8], key: u64, child: u16, previous: u16, c: u32)
@@ -102,6 +118,17 @@ pub fn put_cert(table: &mut [u8], i: usize, key: u64, value: u32, c: u32)
     let a = i * PAGE;
     let end = a + PAGE;
     put_cert_in(&mut table[a..end], key, value, c);
+}
+
+// A certificate is taken out of a leaf.
+pub fn remove_cert(table: &mut [u8], i: usize, key: u64, c: u32)
+    requires { ⌜ (i + 1) * pageSize ≤ length (now table) ⌝ }
+    requires { ⌜ HasCert key (read (now table) i .view) ⌝ }
+    ensures { λ r. ⌜ now (table .exit) ≡ removed c key (now (table .entry)) i ⌝ }
+{
+    let a = i * PAGE;
+    let end = a + PAGE;
+    remove_cert_in(&mut table[a..end], key, c);
 }
 
 // The entry of a split page becomes two, for its halves.

@@ -18,6 +18,11 @@ kh-insert-tight κs a pre z z′ l l′ p q =
     let e = p ∙ sym q in
     ((λ i. e i .back), (λ i. (e i .working, l .1)))
 
+pub kh-withdraw-tight : Tight this.kh_withdraw.Kinds.ps this.kh_withdraw.Kinds.r this.kh_withdraw.Reads.Pre this.kh_withdraw.Reads.Post
+kh-withdraw-tight κs a pre z z′ l l′ p q =
+    let e = p ∙ sym q in
+    ((λ i. e i .back), (λ i. (e i .working, l .1)))
+
 pub kh-lookup-tight : Tight this.kh_lookup.Kinds.ps this.kh_lookup.Kinds.r this.kh_lookup.Reads.Pre this.kh_lookup.Reads.Post
 kh-lookup-tight κs a pre z z′ l l′ p q =
     let e = p ∙ sym q in

@@ -3,12 +3,13 @@
 use Prim.Native.Nat.{ℕ}
 use mathlib.Core.List.{List}
 use Rattle.rules.specs.Report.{Reported, reasonNo}
-use Rattle.rules.specs.Call.{Left, formattedNo, insertedNo, lookedNo, lookedRecord, newestNo, newestIssue, newestRecord, anyNo, anyYes, listedNo, listedCount}
+use Rattle.rules.specs.Call.{Left, formattedNo, insertedNo, withdrawnNo, lookedNo, lookedRecord, newestNo, newestIssue, newestRecord, anyNo, anyYes, listedNo, listedCount}
 use Rattle.rules.specs.Format.{Formatting}
 use Rattle.rules.specs.List.{ListLeft}
 use Rattle.rules.specs.declared.Session.{Session}
 use Rattle.rules.specs.declared.Report.{Report}
 use Rattle.rules.specs.declared.Inserted.{Inserted}
+use Rattle.rules.specs.declared.Withdrawn.{Withdrawn}
 use Rattle.rules.specs.declared.Looked.{Looked}
 use Rattle.rules.specs.declared.Newest.{Newest}
 use Rattle.rules.specs.declared.Any.{Any}
@@ -58,9 +59,9 @@ listing back working stable keys records = record {
 abbrev pub answeredBack : ℕ → Session → KhAnswered
 answeredBack answer session = record { answer = answer; session = session }
 
-abbrev pub insertedBack : Inserted → Report → Session → KhChanged
-insertedBack a x session = record {
-  answer = insertedNo a;
+abbrev pub changedBack : ℕ → Report → Session → KhChanged
+changedBack answer x session = record {
+  answer = answer;
   mended = x .mended;
   reason = reasonNo (x .reason);
   session = session;
@@ -112,7 +113,10 @@ abbrev pub answered : {A : Type 0} → (A → ℕ) → Left A → Leaves KhAnswe
 answered number l = leaves (answeredBack (number (l .answer)) (l .session)) (l .working) (l .stable)
 
 abbrev pub inserted : Reported (Left Inserted) → Leaves KhChanged
-inserted r = leaves (insertedBack (r .left .answer) (r .report) (r .left .session)) (r .left .working) (r .left .stable)
+inserted r = leaves (changedBack (insertedNo (r .left .answer)) (r .report) (r .left .session)) (r .left .working) (r .left .stable)
+
+abbrev pub withdrawn : Reported (Left Withdrawn) → Leaves KhChanged
+withdrawn r = leaves (changedBack (withdrawnNo (r .left .answer)) (r .report) (r .left .session)) (r .left .working) (r .left .stable)
 
 abbrev pub looked : Reported (Left Looked) → Leaves KhLooked
 looked r = leaves (lookedBack (r .left .answer) (r .report) (r .left .session)) (r .left .working) (r .left .stable)

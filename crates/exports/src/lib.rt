@@ -1,4 +1,4 @@
-// The store for callers in C: its eight calls under C names, with numbers for answers.
+// The store for callers in C: its calls under C names, with numbers for answers.
 //
 // Each call is that of `store`, of which every word holds here too: nothing is required but what C asks of any caller.
 // Slices are a pointer and a length; a session goes in and comes back by value, laid out as C lays it out. An answer is
@@ -13,7 +13,7 @@ ghost use mathlib.Core.Path.{_≡_};
 ghost use Rattle.rules.specs.Call.{openedNo, insertedNo, syncedNo};
 ghost use Rattle.rules.specs.Format;
 ghost use Rattle.rules.specs.Open;
-ghost use Rattle.rules.specs.Reports.{insertReported, lookupReported, newestReported, hasAnyReported, listReported};
+ghost use Rattle.rules.specs.Reports.{insertReported, withdrawReported, lookupReported, newestReported, hasAnyReported, listReported};
 ghost use Rattle.rules.specs.Sync;
 ghost use Rattle.exports.specs.Leaves as C;
 use rules::Session;
@@ -111,6 +111,31 @@ pub extern "C" fn kh_insert(
     let session = left.session;
     KhChanged {
         answer: numbers::inserted(answer),
+        mended: report.mended,
+        reason: numbers::reason(reason),
+        session,
+    }
+}
+
+#[no_mangle]
+pub extern "C" fn kh_withdraw(
+    working: &mut [u8],
+    stable: &[u8],
+    session: Session,
+    model: u16,
+    serial: u32,
+    issue: u16,
+) -> KhChanged
+    ensures { λ r. ⌜ C.leaves r (now (working .exit)) (now (stable .entry))
+        ≡ C.withdrawn (withdrawReported (now (working .entry)) (now (stable .entry)) session model serial issue) ⌝ }
+{
+    let left = store::withdraw(working, stable, session, model, serial, issue);
+    let answer = left.answer;
+    let report = left.report;
+    let reason = report.reason;
+    let session = left.session;
+    KhChanged {
+        answer: numbers::withdrawn(answer),
         mended: report.mended,
         reason: numbers::reason(reason),
         session,

@@ -10,3 +10,6 @@ lookup-tight κs a pre z z′ l l′ p q =
 
 pub find-at-tight : Tight this.find_at.Kinds.ps this.find_at.Kinds.r this.find_at.Reads.Pre this.find_at.Reads.Post
 find-at-tight κs a pre z z′ l l′ p q = (p ∙ sym q, refl)
+
+pub find-on-tight : Tight this.find_on.Kinds.ps this.find_on.Kinds.r this.find_on.Reads.Pre this.find_on.Reads.Post
+find-on-tight κs a pre z z′ l l′ p q = (p ∙ sym q, refl)

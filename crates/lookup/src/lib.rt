@@ -45,7 +45,7 @@ fn find_in(page: &[u8], spot: usize, key: u64) -> Looked
 }
 
 // The same on page i of a table.
-fn find_on(table: &[u8], i: u16, spot: usize, key: u64) -> Looked
+pub fn find_on(table: &[u8], i: u16, spot: usize, key: u64) -> Looked
     requires { ⌜ ((i + 1) * pageSize ≤ length (now table)) × (spot ≤ leafRoom) ⌝ }
     ensures { λ r. ⌜ r ≡ foundBefore key spot (pageAt (now (table .entry)) i) ⌝ }
 {

@@ -12,6 +12,9 @@ opened-tight κs a pre z z′ l l′ p q = (p ∙ sym q, refl)
 pub inserted-tight : Tight this.inserted.Kinds.ps this.inserted.Kinds.r this.inserted.Reads.Pre this.inserted.Reads.Post
 inserted-tight κs a pre z z′ l l′ p q = (p ∙ sym q, refl)
 
+pub withdrawn-tight : Tight this.withdrawn.Kinds.ps this.withdrawn.Kinds.r this.withdrawn.Reads.Pre this.withdrawn.Reads.Post
+withdrawn-tight κs a pre z z′ l l′ p q = (p ∙ sym q, refl)
+
 pub looked-tight : Tight this.looked.Kinds.ps this.looked.Kinds.r this.looked.Reads.Pre this.looked.Reads.Post
 looked-tight κs a pre z z′ l l′ p q = (p ∙ sym q, refl)
 

@@ -5,7 +5,7 @@
 // Below stands `rules`.
 ghost use mathlib.Core.Path.{_≡_};
 ghost use Rattle.rules.specs.Report.{reasonNo};
-ghost use Rattle.rules.specs.Call.{formattedNo, openedNo, insertedNo, lookedNo, lookedRecord, newestNo, newestIssue, newestRecord, anyNo, anyYes, listedNo, listedCount, syncedNo};
+ghost use Rattle.rules.specs.Call.{formattedNo, openedNo, insertedNo, withdrawnNo, lookedNo, lookedRecord, newestNo, newestIssue, newestRecord, anyNo, anyYes, listedNo, listedCount, syncedNo};
 use rules::Any;
 use rules::Formatted;
 use rules::Inserted;
@@ -15,6 +15,7 @@ use rules::Newest;
 use rules::Opened;
 use rules::Reason;
 use rules::Synced;
+use rules::Withdrawn;
 
 pub fn formatted(answer: Formatted) -> u32
     ensures { λ r. ⌜ r ≡ formattedNo answer ⌝ }
@@ -47,6 +48,18 @@ pub fn inserted(answer: Inserted) -> u32
         Inserted::Present => 5,
         Inserted::SyncFirst => 6,
         Inserted::Full => 7,
+    }
+}
+
+pub fn withdrawn(answer: Withdrawn) -> u32
+    ensures { λ r. ⌜ r ≡ withdrawnNo answer ⌝ }
+{
+    match answer {
+        Withdrawn::Done => 0,
+        Withdrawn::Length => 1,
+        Withdrawn::BadKey => 2,
+        Withdrawn::Damaged => 3,
+        Withdrawn::Missing => 4,
     }
 }
 

@@ -17,7 +17,7 @@ use Rattle.rules.specs.Marks.{counted}
 use Rattle.rules.specs.Call.{Left, lengthsFor, lookedNo}
 use Rattle.rules.specs.Lookup.{foundIn, lookupLeft, lookupKey, lookup}
 use Rattle.rules.specs.History.{Event, inserts, State, latest, recordIn, content, gains, afterInsert, step, run, start, Proper, AllProper}
-use Rattle.rules.specs.Demand.{Serves, Demand3, OpenedTold}
+use Rattle.rules.specs.Demand.{lookupNow, Serves, Demand3, OpenedTold}
 use Rattle.rules.specs.declared.Session.{Session}
 use Rattle.rules.specs.declared.Inserted.{Inserted}
 use Rattle.rules.specs.declared.Looked.{Looked}
@@ -49,7 +49,7 @@ key-for k s w t h = go (wayOf (s .n) (s .c) k w .steps) refl
     go (some steps) o = rw (lookupKey, o) (found-for k steps)
 
 module _ (w t : List ℕ) (s : Session) (model serial issue : ℕ) (l : lengthsFor s w t ≡ true) where
-  lookup-for : goodParts model serial issue ≡ true → (lookup w t s model serial issue .answer ≡ Looked.Damaged → ⊥)
+  pub lookup-for : goodParts model serial issue ≡ true → (lookup w t s model serial issue .answer ≡ Looked.Damaged → ⊥)
       → lookup w t s model serial issue .answer ≡ answerFor (recordIn (lookup w t s model serial issue .answer))
   unfolding lookup lookupLeft
   lookup-for g h = go (fit0 (s .n) w) refl
@@ -82,10 +82,13 @@ some-found Looked.Damaged x h = absurd (Option·none-ne-some x h)
 some-found Looked.Missing x h = absurd (Option·none-ne-some x h)
 
 -- what a lookup of a key finds, by its parts
-content-of : (s : Session) (w t : List ℕ) (model serial issue : ℕ) → serial < 2 ^ 32 → issue < 2 ^ 16
+pub content-of : (s : Session) (w t : List ℕ) (model serial issue : ℕ) → serial < 2 ^ 32 → issue < 2 ^ 16
     → content s w t (keyOf model serial issue) ≡ recordIn (lookup w t s model serial issue .answer)
 unfolding content
 content-of s w t model serial issue a b = rw (modelOf-keyOf model serial issue a b, serialOf-keyOf model serial issue a b, issueOf-keyOf model serial issue a b)
+
+pub key-within : (model serial issue : ℕ) → model < 65536 → serial < 4294967296 → issue < 65536 → keyOf model serial issue ≤ lastKey
+key-within model serial issue a b c = omega (arith, keyOf-bound model serial issue (omega arith) (omega arith) (omega arith))
 
 -- ── One event more ──────────────────────────────────────────────────────────────────────────────────────────────
 
@@ -99,17 +102,49 @@ unfolding AllProper
 proper-then n [] e t y = (y, tt)
 proper-then n (x ∷ h) e t y = (t .0, proper-then n h e (t .1) y)
 
-past-done : (k x : ℕ) (m : State) (r : Left Inserted) → r .answer ≡ Inserted.Done → afterInsert k x m r .past ≡ gains k x (m .past)
+past-done : (k x : ℕ) (m : State) (r : Left Inserted) → r .answer ≡ Inserted.Done → afterInsert k x m r .past ≡ gains k (some x) (m .past)
 unfolding afterInsert
 past-done k x m r h = rw (h, afterInsert)
 
-gains-own : (k x : ℕ) (past : ℕ → List (Option ℕ)) → latest (gains k x past k) ≡ some x
+pub gains-own : (k : ℕ) (state : Option ℕ) (past : ℕ → List (Option ℕ)) → latest (gains k state past k) ≡ state
 unfolding gains latest
-gains-own k x past = rw (eq-eqb k k refl, gains)
+gains-own k state past = rw (eq-eqb k k refl, gains)
 
-gains-other : (k x j : ℕ) (past : ℕ → List (Option ℕ)) → j ≢ k → latest (gains k x past j) ≡ latest (past j)
+pub gains-other : (k : ℕ) (state : Option ℕ) (j : ℕ) (past : ℕ → List (Option ℕ)) → j ≢ k → latest (gains k state past j) ≡ latest (past j)
 unfolding gains latest
-gains-other k x j past d = rw (ne-eqb j k d, gains)
+gains-other k state j past d = rw (ne-eqb j k d, gains)
+
+-- a key whose last state is the same answers the same
+module _ (m r : State) (before : Serves m) (after : Serves r) (lengths : lengthsFor (m .session) (m .working) (m .stable) ≡ true)
+    (lengths′ : lengthsFor (r .session) (r .working) (r .stable) ≡ true) (model serial issue : ℕ)
+    (wide-model : model < 65536) (wide-serial : serial < 4294967296) (wide-issue : issue < 65536)
+    (same : latest (r .past (keyOf model serial issue)) ≡ latest (m .past (keyOf model serial issue))) where
+  abbrev here : Looked
+  here = lookupNow m model serial issue .answer
+
+  abbrev there : Looked
+  there = lookupNow r model serial issue .answer
+
+  same-record : recordIn there ≡ recordIn here
+  same-record =
+      let j-bound = key-within model serial issue wide-model wide-serial wide-issue in
+      sym (content-of (r .session) (r .working) (r .stable) model serial issue (omega arith) (omega arith))
+      ∙ (after .looks-up (keyOf model serial issue) j-bound
+      ∙ (same
+      ∙ (sym (before .looks-up (keyOf model serial issue) j-bound)
+      ∙ content-of (m .session) (m .working) (m .stable) model serial issue (omega arith) (omega arith))))
+
+  pub answer-stays : there ≡ here
+  answer-stays = go (goodParts model serial issue) refl
+    where
+      go : (g : Bool) → goodParts model serial issue ≡ g → there ≡ here
+      go true g =
+          lookup-for (r .working) (r .stable) (r .session) model serial issue lengths′ g (after .lookup-whole model serial issue)
+          ∙ (ap answerFor same-record
+          ∙ sym (lookup-for (m .working) (m .stable) (m .session) model serial issue lengths g (before .lookup-whole model serial issue)))
+      go false g =
+          lookup-bad (r .working) (r .stable) (r .session) model serial issue lengths′ g
+          ∙ sym (lookup-bad (m .working) (m .stable) (m .session) model serial issue lengths g)
 
 -- ── The theorem ─────────────────────────────────────────────────────────────────────────────────────────────────
 
@@ -121,53 +156,28 @@ module _ (m : State) (model serial issue x : ℕ) (wide-model : model < 65536) (
   abbrev r : Left Inserted
   r = inserted m model serial issue x
 
-  -- what is found of a key afterwards
-  now : (j : ℕ) → j ≤ lastKey → content (r .session) (r .working) (r .stable) j ≡ latest (gains k x (m .past) j)
-  unfolding step afterInsert
-  now j h =
-      after .looks-up j h
-      ∙ ap (λ (p : ℕ → List (Option ℕ)). latest (p j)) (past-done k x m r done)
+  abbrev next : State
+  next = step (inserts model serial issue x) m
+
+  past-now : (j : ℕ) → latest (next .past j) ≡ latest (gains k (some x) (m .past) j)
+  unfolding step
+  past-now j = ap (λ (p : ℕ → List (Option ℕ)). latest (p j)) (past-done k x m r done)
 
   own : lookup (r .working) (r .stable) (r .session) model serial issue .answer ≡ Looked.Found x
+  unfolding step afterInsert
   own =
       some-found (lookup (r .working) (r .stable) (r .session) model serial issue .answer) x
       (sym (content-of (r .session) (r .working) (r .stable) model serial issue (omega arith) (omega arith))
-      ∙ (now k (omega (arith, keyOf-bound model serial issue (omega arith) (omega arith) (omega arith))) ∙ gains-own k x (m .past)))
+      ∙ (after .looks-up k (key-within model serial issue wide-model wide-serial wide-issue) ∙ (past-now k ∙ gains-own k (some x) (m .past))))
 
   others : (model′ serial′ issue′ : ℕ) → model′ < 65536 → serial′ < 4294967296 → issue′ < 65536 → keyOf model′ serial′ issue′ ≢ k
       → lookup (r .working) (r .stable) (r .session) model′ serial′ issue′ .answer
       ≡ lookup (m .working) (m .stable) (m .session) model′ serial′ issue′ .answer
   unfolding step afterInsert
-  others model′ serial′ issue′ a b c d = go (goodParts model′ serial′ issue′) refl
-    where
-      j-bound : keyOf model′ serial′ issue′ ≤ lastKey
-      j-bound = omega (arith, keyOf-bound model′ serial′ issue′ (omega arith) (omega arith) (omega arith))
-
-      lengths-after : lengthsFor (r .session) (r .working) (r .stable) ≡ true
-      lengths-after = found-lengths (r .working) (r .stable) (r .session) model serial issue x own
-
-      lengths-before : lengthsFor (m .session) (m .working) (m .stable) ≡ true
-      lengths-before = insert-done (m .working) (m .stable) (m .session) model serial issue x done .lengths
-
-      same : recordIn (lookup (r .working) (r .stable) (r .session) model′ serial′ issue′ .answer)
-          ≡ recordIn (lookup (m .working) (m .stable) (m .session) model′ serial′ issue′ .answer)
-      same =
-          sym (content-of (r .session) (r .working) (r .stable) model′ serial′ issue′ (omega arith) (omega arith))
-          ∙ (now (keyOf model′ serial′ issue′) j-bound
-          ∙ (gains-other k x (keyOf model′ serial′ issue′) (m .past) d
-          ∙ (sym (before .looks-up (keyOf model′ serial′ issue′) j-bound)
-          ∙ content-of (m .session) (m .working) (m .stable) model′ serial′ issue′ (omega arith) (omega arith))))
-
-      go : (g : Bool) → goodParts model′ serial′ issue′ ≡ g
-          → lookup (r .working) (r .stable) (r .session) model′ serial′ issue′ .answer
-          ≡ lookup (m .working) (m .stable) (m .session) model′ serial′ issue′ .answer
-      go true g =
-          lookup-for (r .working) (r .stable) (r .session) model′ serial′ issue′ lengths-after g (after .lookup-whole model′ serial′ issue′)
-          ∙ (ap answerFor same
-          ∙ sym (lookup-for (m .working) (m .stable) (m .session) model′ serial′ issue′ lengths-before g (before .lookup-whole model′ serial′ issue′)))
-      go false g =
-          lookup-bad (r .working) (r .stable) (r .session) model′ serial′ issue′ lengths-after g
-          ∙ sym (lookup-bad (m .working) (m .stable) (m .session) model′ serial′ issue′ lengths-before g)
+  others model′ serial′ issue′ a b c d =
+      answer-stays m next before after (insert-done (m .working) (m .stable) (m .session) model serial issue x done .lengths)
+      (found-lengths (r .working) (r .stable) (r .session) model serial issue x own) model′ serial′ issue′ a b c
+      (past-now (keyOf model′ serial′ issue′) ∙ gains-other k (some x) (keyOf model′ serial′ issue′) (m .past) d)
 
   adds : Adds m model serial issue x r
   adds = record { own = own; others = others }

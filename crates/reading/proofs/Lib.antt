@@ -41,6 +41,9 @@ pub mod Agrees
 pub mod Provisionals
 pub mod HistoriesAgree
 pub mod Puts
+-- What a withdrawal changes, in tables of any bytes and in every history
+pub mod TakenOut
+pub mod Takes
 -- Opening, as the table stands and by entering
 pub mod OpeningEnters
 pub mod Joins

@@ -144,52 +144,52 @@ module _ (m r : State) (A : AgreeIn m) (B : AgreeIn r) (j : ℕ)
 
 -- ── The theorem ─────────────────────────────────────────────────────────────────────────────────────────────────
 
-module _ (m r : State) (model serial issue x : ℕ) (wide-model : model < 65536) (wide-serial : serial < 4294967296) (wide-issue : issue < 65536)
-    (good : goodParts model serial issue ≡ true) (A : AgreeIn m) (B : AgreeIn r)
-    (own : lookup (r .working) (r .stable) (r .session) model serial issue .answer ≡ Looked.Found x)
+-- the tree holds a list that rises, if lookups after a call answer by it for one key and as before for the others
+module _ (m r : State) (model serial issue : ℕ) (wide-model : model < 65536) (wide-serial : serial < 4294967296) (wide-issue : issue < 65536)
+    (good : goodParts model serial issue ≡ true) (A : AgreeIn m) (B : AgreeIn r) (certs : List Cert) (rise : rising (keys certs) ≡ true)
+    (own : lookup (r .working) (r .stable) (r .session) model serial issue .answer ≡ answerFor (find (keyOf model serial issue) certs))
     (others : (model′ serial′ issue′ : ℕ) → model′ < 65536 → serial′ < 4294967296 → issue′ < 65536
-    → (keyOf model′ serial′ issue′ ≡ keyOf model serial issue → ⊥)
+    → keyOf model′ serial′ issue′ ≢ keyOf model serial issue
     → lookup (r .working) (r .stable) (r .session) model′ serial′ issue′ .answer
-    ≡ lookup (m .working) (m .stable) (m .session) model′ serial′ issue′ .answer) where
+    ≡ lookup (m .working) (m .stable) (m .session) model′ serial′ issue′ .answer)
+    (rest : (j : ℕ) → j ≢ keyOf model serial issue → find j certs ≡ find j (held (m .session) (m .working))) where
   abbrev k : ℕ
   k = keyOf model serial issue
-
-  abbrev before : List Cert
-  before = held (m .session) (m .working)
 
   abbrev after : List Cert
   after = held (r .session) (r .working)
 
-  found-own : find k after ≡ some x
-  unfolding answerFor
+  found-own : find k after ≡ find k certs
   found-own =
-      answer-same (find k after) (some x)
+      answer-same (find k after) (find k certs)
       (sym (B .agree .lookup-agrees model serial issue (omega (arith, wide-model)) (omega (arith, wide-serial)) (omega (arith, wide-issue)) good) ∙ own)
 
-  finds : Finds after (put (certOf k x) before)
+  finds : Finds after certs
   finds j = go (eqb j k) refl
     where
-      go : (b : Bool) → eqb j k ≡ b → find j after ≡ find j (put (certOf k x) before)
+      go : (b : Bool) → eqb j k ≡ b → find j after ≡ find j certs
       go true h =
           let e = eqb-true j k h in
-          ap (λ (i : ℕ). find i after) e
-          ∙ (found-own ∙ (sym (find-put-same (certOf k x) before) ∙ ap (λ (i : ℕ). find i (put (certOf k x) before)) (sym e)))
+          ap (λ (i : ℕ). find i after) e ∙ (found-own ∙ ap (λ (i : ℕ). find i certs) (sym e))
       go false h =
           let d : j ≢ k = eqb-false j k h in
-          held-same m r A B j (λ a b c p q o e. others a b c p q o (λ z. d (sym e ∙ z)))
-          ∙ sym (find-put-other j (certOf k x) before d)
+          held-same m r A B j (λ a b c p q o e. others a b c p q o (λ z. d (sym e ∙ z))) ∙ sym (rest j d)
 
-  puts : after ≡ put (certOf k x) before
-  puts = ext-find after (put (certOf k x) before) (B .agree .rises) (put-rising (certOf k x) before (A .agree .rises)) finds
+  pub held-is : after ≡ certs
+  held-is = ext-find after certs (B .agree .rises) rise finds
 
 pub insert-puts : InsertPuts
-unfolding InsertPuts InsertAdds HistoriesAgree Proper step afterInsert
+unfolding InsertPuts InsertAdds HistoriesAgree Proper step afterInsert answerFor
 insert-puts n w s l h t z model serial issue x a b c d done =
     let e = inserts model serial issue x in
     let m = run h (start w s) in
     let y = insert-adds n w s l h t z model serial issue x a b c d done in
+    let A = histories-agree n w s l h t z in
     let B : AgreeIn (step e m) =
     subst AgreeIn (run-then h e (start w s))
     (histories-agree n w s l (h ++ (e ∷ [])) (proper-then n h e t (a, b, c, d)) (done-pages w s h model serial issue x done ∙ z)) in
-    puts m (step e m) model serial issue x a b c (done-good (m .working) (m .stable) (m .session) model serial issue x done)
-    (histories-agree n w s l h t z) B (y .own) (y .others)
+    let new = certOf (keyOf model serial issue) x in
+    let before = held (m .session) (m .working) in
+    held-is m (step e m) model serial issue a b c (done-good (m .working) (m .stable) (m .session) model serial issue x done) A B
+    (put new before) (put-rising new before (A .agree .rises)) (y .own ∙ ap answerFor (sym (find-put-same new before))) (y .others)
+    (λ j q. find-put-other j new before q)

@@ -1,4 +1,4 @@
--- A refused insert, and every lookup, leaves each page as it was or mended for a place of the key's way.
+-- A refused insert or withdrawal, and every lookup, leaves each page as it was or mended for a place of the key's way.
 use Prim.Native.Nat.{ℕ, _≤_}
 use native.Mathlib.Omega.{arith}
 use mathlib.Core.Path.{_≡_, refl, sym, ap, _∙_}
@@ -9,7 +9,7 @@ use lib.ListN.{length}
 use Rattle.rules.specs.Layout.{lastKey}
 use Rattle.rules.specs.Key.{keyOf, goodParts}
 use Rattle.rules.specs.Entry.{find}
-use Rattle.rules.specs.Table.{fit0}
+use Rattle.rules.specs.Table.{pageAt, fit0}
 use Rattle.rules.specs.Walk.{Step, numbers, certsAt, wayOf}
 use Rattle.rules.specs.Marks.{freePages}
 use Rattle.rules.specs.Call.{Left, lengthsFor}
@@ -20,7 +20,9 @@ use Rattle.rules.specs.declared.Inserted.{Inserted}
 use Rattle.rules.specs.declared.Looked.{Looked}
 use Rattle.rules.proofs.bytes.Keys.{keyOf-bound}
 use Rattle.rules.proofs.bytes.Lengths.{lengthsFor-true}
-use Rattle.reading.specs.Leaving.{as-it-was, OnlyWay, Typed, InsertRefused, LookupLeaves}
+use Rattle.rules.proofs.demand1.Withdrawals as withdrawals
+use Rattle.reading.specs.Leaving.{as-it-was, OnlyWay, Typed, InsertRefused, LookupLeaves, WithdrawRefused}
+use Rattle.reading.proofs.Turns.{left-same}
 use Rattle.reading.proofs.WayLeft.{way-left}
 
 -- ── A call that writes what its walk leaves, or nothing ─────────────────────────────────────────────────────────
@@ -121,3 +123,18 @@ lookup-leaves w t s model serial issue y =
     go true p false q c o = nothing-written (rw (lookup, p, q) (record { working = refl; stable = refl; session = refl }))
     go true p true q false o = nothing-written (rw (lookup, p, q, o) (record { working = refl; stable = refl; session = refl }))
     go true p true q true o = way-written y p o (rw (lookup, p, q, o) (key-leaves (keyOf model serial issue) s w t))
+
+-- ── Withdraw ────────────────────────────────────────────────────────────────────────────────────────────────────
+
+-- refused, it leaves what a lookup leaves
+pub withdraw-refused : WithdrawRefused
+unfolding WithdrawRefused LookupLeaves
+withdraw-refused w t s model serial issue y h =
+    let e = withdrawals.withdraw-leaves w t s model serial issue h in
+    let x = lookup-leaves w t s model serial issue y in
+    record {
+      length-stays = ap length e ∙ x .length-stays;
+      page = λ i. left-same (ap (λ (u : List ℕ). pageAt u i) e) (x .page i);
+      stable = withdrawals.withdraw-stable w t s model serial issue;
+      session = withdrawals.withdraw-refused w t s model serial issue h .session;
+    }

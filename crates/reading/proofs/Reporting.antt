@@ -19,7 +19,7 @@ use Rattle.rules.specs.Walk.{Step, Way, numbers, descend, descendReport, wayOf,
 use Rattle.rules.specs.Call.{lengthsFor}
 use Rattle.rules.specs.Insert.{insert}
 use Rattle.rules.specs.Lookup.{lookup}
-use Rattle.rules.specs.Reports.{keyReport, insertReported, lookupReported}
+use Rattle.rules.specs.Reports.{keyReport, insertReported, withdrawReported, lookupReported}
 use Rattle.rules.specs.declared.Session.{Session}
 use Rattle.rules.specs.declared.Place.{Place}
 use Rattle.rules.specs.declared.Reason.{Reason}
@@ -31,9 +31,10 @@ use Rattle.rules.proofs.bytes.Lengths.{lengthsFor-true}
 use Rattle.rules.proofs.demand1.WalkSteps.{enter-fits, report-damaged, report-ends, report-below, descend-ends, descend-below}
 use Rattle.rules.proofs.demand1.Tested.{tested-length, tested-key, tested-zero, tested-done}
 use Rattle.rules.proofs.demand1.Reports.{lookup-walked, lookup-quiet, insert-walked, insert-quiet}
+use Rattle.rules.proofs.demand1.Withdrawals.{withdraw-leaves}
 use Rattle.way.proofs.Stood.{Ready, ready-root, ready-stays, ready-next, stood-here}
 use Rattle.reading.specs.Leaving.{Typed}
-use Rattle.reading.specs.Reporting.{LookupTells, InsertTells}
+use Rattle.reading.specs.Reporting.{LookupTells, InsertTells, WithdrawTells}
 use Rattle.reading.proofs.Refused.{key-bound}
 
 abbrev reasonOf : Report → Reason
@@ -131,7 +132,7 @@ way-untold : (n c k : ℕ) (w : List ℕ) → length w ≡ n * pageSize → fit0
 unfolding wayOf wayReport
 way-untold n c k w l f b m h = descend-untold topKind n c k [] w (rootPlace w) (ready-root n c k w l f b m h)
 
--- ── Lookup and insert ───────────────────────────────────────────────────────────────────────────────────────────
+-- ── Lookup, insert and withdraw ─────────────────────────────────────────────────────────────────────────────────
 
 -- a call that leaves the table of its way, once its tests are passed
 key-untold : (w t : List ℕ) (s : Session) (model serial issue : ℕ) → Typed w s model serial issue
@@ -177,3 +178,10 @@ insert-tells w t s model serial issue x y r = record {
       sym (insert-walked (keyOf model serial issue) x s w t (λ e. r (rw (insert, l, g, f) e)))
       ∙ (rw (insert, l, g, f) at same));
 }
+
+pub withdraw-tells : WithdrawTells
+unfolding WithdrawTells withdrawReported LookupTells lookupReported
+withdraw-tells w t s model serial issue y r =
+    let e = withdraw-leaves w t s model serial issue r in
+    let x = lookup-tells w t s model serial issue y in
+    record { unchanged = λ h. e ∙ x .unchanged h; untold = λ same. x .untold (sym e ∙ same) }

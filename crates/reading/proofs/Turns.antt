@@ -46,7 +46,7 @@ turn n c above t e = go (mem (e .child) above) refl (fits n e (read t (e .child)
 
 -- ── A page's fate goes with its bytes ───────────────────────────────────────────────────────────────────────────
 
-left-same : {n c : ℕ} {places : List Place} {w t u : List ℕ} {i : ℕ} → pageAt u i ≡ pageAt t i → PageLeft n c places w t i → PageLeft n c places w u i
+pub left-same : {n c : ℕ} {places : List Place} {w t u : List ℕ} {i : ℕ} → pageAt u i ≡ pageAt t i → PageLeft n c places w t i → PageLeft n c places w u i
 left-same q (as-it-was h) = as-it-was (q ∙ h)
 left-same q (mended-for e m d f g h) = mended-for e m d f g (q ∙ h)
 

@@ -15,11 +15,13 @@ use Rattle.rules.specs.Enter.{enter}
 use Rattle.rules.specs.Walk.{Step, numbers}
 use Rattle.rules.specs.Call.{Left}
 use Rattle.rules.specs.Insert.{insert}
+use Rattle.rules.specs.Withdraw.{withdraw}
 use Rattle.rules.specs.Lookup.{lookup}
 use Rattle.rules.specs.List.{ListLeft, list}
 use Rattle.rules.specs.declared.Place.{Place}
 use Rattle.rules.specs.declared.Session.{Session}
 use Rattle.rules.specs.declared.Inserted.{Inserted}
+use Rattle.rules.specs.declared.Withdrawn.{Withdrawn}
 
 -- ── The places that a walk asks for ─────────────────────────────────────────────────────────────────────────────
 
@@ -72,6 +74,12 @@ InsertRefused =
     (w t : List ℕ) (s : Session) (model serial issue x : ℕ) → Typed w s model serial issue
     → (insert w t s model serial issue x .answer ≡ Inserted.Done → ⊥)
     → OnlyWay (keyOf model serial issue) w t s (insert w t s model serial issue x)
+
+unfoldable pub WithdrawRefused : Type 0
+WithdrawRefused =
+    (w t : List ℕ) (s : Session) (model serial issue : ℕ) → Typed w s model serial issue
+    → (withdraw w t s model serial issue .answer ≡ Withdrawn.Done → ⊥)
+    → OnlyWay (keyOf model serial issue) w t s (withdraw w t s model serial issue)
 
 -- done or refused
 unfoldable pub LookupLeaves : Type 0

@@ -5,6 +5,7 @@ pub mod Reporting
 pub mod Building
 pub mod Inserting
 pub mod Agreeing
+pub mod Withdrawing
 pub mod Provisional
 pub mod Entering
 pub mod ByEntering

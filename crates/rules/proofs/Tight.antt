@@ -18,6 +18,9 @@ session-raise-tight κs a pre z z′ l l′ p q = (p ∙ sym q, refl)
 pub session-count-tight : Tight this.Session.count.Kinds.ps this.Session.count.Kinds.r this.Session.count.Reads.Pre this.Session.count.Reads.Post
 session-count-tight κs a pre z z′ l l′ p q = (p ∙ sym q, refl)
 
+pub session-uncount-tight : Tight this.Session.uncount.Kinds.ps this.Session.uncount.Kinds.r this.Session.uncount.Reads.Pre this.Session.uncount.Reads.Post
+session-uncount-tight κs a pre z z′ l l′ p q = (p ∙ sym q, refl)
+
 pub reason-is-none-tight : Tight this.Reason.is_none.Kinds.ps this.Reason.is_none.Kinds.r this.Reason.is_none.Reads.Pre this.Reason.is_none.Reads.Post
 reason-is-none-tight κs a pre z z′ l l′ p q = (p ∙ sym q, refl)
 

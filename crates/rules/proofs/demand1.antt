@@ -2,6 +2,7 @@
 pub mod WalkSteps
 pub mod Mending
 pub mod Refusals
+pub mod Withdrawals
 pub mod Tested
 pub mod Reports
 pub mod FirstLost

@@ -3,6 +3,7 @@ pub mod Tests
 pub mod Rises
 pub mod Entries
 pub mod Puts
+pub mod Withouts
 pub mod Views
 pub mod Sounds
 pub mod Places

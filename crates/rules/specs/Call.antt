@@ -10,6 +10,7 @@ use Rattle.rules.specs.declared.Session.{Session}
 use Rattle.rules.specs.declared.Formatted.{Formatted}
 use Rattle.rules.specs.declared.Opened.{Opened}
 use Rattle.rules.specs.declared.Inserted.{Inserted}
+use Rattle.rules.specs.declared.Withdrawn.{Withdrawn}
 use Rattle.rules.specs.declared.Looked.{Looked}
 use Rattle.rules.specs.declared.Newest.{Newest}
 use Rattle.rules.specs.declared.Any.{Any}
@@ -52,6 +53,13 @@ insertedNo Inserted.Damaged = 3
 insertedNo Inserted.Present = 5
 insertedNo Inserted.SyncFirst = 6
 insertedNo Inserted.Full = 7
+
+unfoldable pub withdrawnNo : Withdrawn → ℕ
+withdrawnNo Withdrawn.Done = 0
+withdrawnNo Withdrawn.Length = 1
+withdrawnNo Withdrawn.BadKey = 2
+withdrawnNo Withdrawn.Damaged = 3
+withdrawnNo Withdrawn.Missing = 4
 
 unfoldable pub lookedNo : Looked → ℕ
 lookedNo (Looked.Found x) = 0

@@ -16,16 +16,18 @@ use Rattle.rules.specs.Page.{count}
 use Rattle.rules.specs.Table.{read, number0, root0, setNumber}
 use Rattle.rules.specs.Marks.{opened, freePages, marks}
 use Rattle.rules.specs.Walk.{Step, numbers, wayOf}
-use Rattle.rules.specs.Call.{Left, formattedNo, openedNo, insertedNo, lookedNo, syncedNo}
+use Rattle.rules.specs.Call.{Left, formattedNo, openedNo, insertedNo, withdrawnNo, lookedNo, syncedNo}
 use Rattle.rules.specs.Format.{format}
 use Rattle.rules.specs.Open.{opening}
 use Rattle.rules.specs.Insert.{insert, newPages}
+use Rattle.rules.specs.Withdraw.{withdraw}
 use Rattle.rules.specs.Lookup.{lookup}
 use Rattle.rules.specs.Sync.{sync}
 use Rattle.rules.specs.Crash.{mix}
 use Rattle.rules.specs.declared.Session.{Session}
 use Rattle.rules.specs.declared.Opened.{Opened}
 use Rattle.rules.specs.declared.Inserted.{Inserted}
+use Rattle.rules.specs.declared.Withdrawn.{Withdrawn}
 use Rattle.rules.specs.declared.Looked.{Looked}
 use Rattle.rules.specs.declared.Synced.{Synced}
 
@@ -130,11 +132,21 @@ pages04 = true ∷ (false ∷ (false ∷ (false ∷ (true ∷ []))))
 unfoldable pub page0 : List Bool
 page0 = true ∷ []
 
+unfoldable pub page1 : List Bool
+page1 = false ∷ (true ∷ [])
+
 unfoldable pub pages23 : List Bool
 pages23 = false ∷ (false ∷ (true ∷ (true ∷ [])))
 
 unfoldable pub allPages : List Bool
 allPages = replicate 5 true
+
+-- serial 1 withdrawn after the 41st insert, and then a crash that writes page 1 alone, the page that was split, and an opening
+unfoldable pub recalled : Left Withdrawn
+recalled = withdraw (split41 .working) (split41 .stable) (split41 .session) 7 1 1
+
+unfoldable pub restored : Left Opened
+restored = opening (recalled .working) (mix page1 (recalled .working) (recalled .stable))
 
 -- a stable table of 4 pages, fresh but for its number
 unfoldable pub numbered : ℕ → List ℕ
@@ -218,6 +230,16 @@ pub record Case11 : Type 0 where
   pub opens : openedNo (opening (table 4) (numbered 4294967293) .answer) ≡ 0
   pub spent : openedNo (opening (table 4) (numbered 4294967294) .answer) ≡ 8
 
+-- beside document 01's cases: a withdrawal is done, and the lower half has 19 entries; after the crash serial 1 is found with
+-- its record, though it was there neither at the opening nor at the crash
+pub record Recall : Type 0 where
+  pub answer : withdrawnNo (recalled .answer) ≡ 0
+  pub lower : entriesAt (left recalled) 2 ≡ 19
+  pub total : recalled .session .total ≡ 40
+  pub missing : lookedNo (finding (left recalled) 1 .answer) ≡ 4
+  pub opened : openedNo (restored .answer) ≡ 0
+  pub found : isFound 901 (finding (left restored) 1 .answer) ≡ true
+
 pub record Cases : Type 0 where
   pub case1 : (n : ℕ) → fewestPages ≤ n → n ≤ mostPages → Case1 n
   pub case2 : Case2
@@ -230,3 +252,4 @@ pub record Cases : Type 0 where
   pub case8 : Case8
   pub case9 : Case9
   pub case11 : Case11
+  pub recall : Recall

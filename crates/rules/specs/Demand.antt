@@ -3,14 +3,14 @@
 use Prim.Native.Nat.{ℕ, _*_, _≤_, _<_, min}
 use mathlib.Core.Path.{_≡_}
 use mathlib.Core.Logic.{_⊎_}
-use mathlib.Core.Bool.{Bool, true, false}
-use mathlib.Core.List.{List, _∷_}
+use mathlib.Core.Bool.{Bool, true, false, not}
+use mathlib.Core.List.{List, [], _∷_}
 use mathlib.Core.Option.{Option, some, none}
 use lib.ListN.{length, replicate}
 use lib.Dec.{leb}
 use Rattle.fields.specs.Field.{Bytes}
 use Rattle.rules.specs.Layout.{pageSize, fewestPages, mostPages, lastKey, lastNumber, lastFinal, largestIssue}
-use Rattle.rules.specs.Test.{mem}
+use Rattle.rules.specs.Test.{all, mem}
 use Rattle.rules.specs.Key.{keyOf, goodKey}
 use Rattle.rules.specs.Entry.{Cert, keys, find, rising}
 use Rattle.rules.specs.Page.{over}
@@ -18,13 +18,15 @@ use Rattle.rules.specs.Table.{number0}
 use Rattle.rules.specs.Call.{Left}
 use Rattle.rules.specs.Open.{opening}
 use Rattle.rules.specs.Insert.{insert}
+use Rattle.rules.specs.Withdraw.{withdraw}
 use Rattle.rules.specs.Lookup.{lookup}
 use Rattle.rules.specs.Newest.{newest}
 use Rattle.rules.specs.HasAny.{hasAny}
 use Rattle.rules.specs.List.{ListLeft, recordsOf, list}
-use Rattle.rules.specs.History.{Event, State, looks, asksNewest, asksAny, lists, step, run, start, AllProper, crashNow, crashInSyncNow, content, latest, earliest}
+use Rattle.rules.specs.History.{Event, State, inserts, withdraws, looks, asksNewest, asksAny, lists, syncs, opens, crashes, crashesInSync, step, run, start, AllProper, crashNow, crashInSyncNow, content, latest, earliest}
 use Rattle.rules.specs.declared.Opened.{Opened}
 use Rattle.rules.specs.declared.Inserted.{Inserted}
+use Rattle.rules.specs.declared.Withdrawn.{Withdrawn}
 use Rattle.rules.specs.declared.Looked.{Looked}
 use Rattle.rules.specs.declared.Newest.{Newest}
 use Rattle.rules.specs.declared.Any.{Any}
@@ -57,6 +59,9 @@ listNow m from ks xs = list (m .working) (m .stable) (m .session) from ks xs
 
 abbrev pub insertNow : State → ℕ → ℕ → ℕ → ℕ → Left Inserted
 insertNow m model serial issue x = insert (m .working) (m .stable) (m .session) model serial issue x
+
+abbrev pub withdrawNow : State → ℕ → ℕ → ℕ → Left Withdrawn
+withdrawNow m model serial issue = withdraw (m .working) (m .stable) (m .session) model serial issue
 
 -- the events that only read
 pub data Reads : Event → Type 0 where
@@ -115,11 +120,16 @@ after w s k =
 -- of a crash now, and of the opening after it, which is lent the working table w
 pub record Survives (m : State) (w : List ℕ) : Type 0 where
   pub opens : (s : List ℕ) → CrashOf m s → opening w s .answer ≡ openAnswer s
-  -- every key shows one of the states it has had; one that was there at the last sync or opening is there
+  -- every key shows one of the states it has had
   pub shows : (s : List ℕ) → CrashOf m s → opening w s .answer ≡ Opened.Done
       → (k : ℕ) → k ≤ lastKey → OneOf (after w s k) (m .past k)
+  -- one that was neither inserted nor withdrawn since the last sync or opening has had one state, and is found, or not, as it
+  -- was then
+  pub stays : (s : List ℕ) → CrashOf m s → opening w s .answer ≡ Opened.Done
+      → (k : ℕ) (state : Option ℕ) → k ≤ lastKey → m .past k ≡ state ∷ [] → after w s k ≡ state
+  -- one that was there then and was not withdrawn since is there
   pub keeps : (s : List ℕ) → CrashOf m s → opening w s .answer ≡ Opened.Done
-      → (k x : ℕ) → k ≤ lastKey → earliest (m .past k) ≡ some x → after w s k ≡ some x
+      → (k x : ℕ) → k ≤ lastKey → earliest (m .past k) ≡ some x → (OneOf none (m .past k) → ⊥) → after w s k ≡ some x
   -- no page written: the set of the sync or opening; all written: that of the crash
   pub nothing-written : opening w (m .stable) .answer ≡ Opened.Done
       → (k : ℕ) → k ≤ lastKey → after w (m .stable) k ≡ earliest (m .past k)
@@ -130,7 +140,7 @@ pub record Survives (m : State) (w : List ℕ) : Type 0 where
 
 -- between crashes, while the last opening was done
 pub record Serves (m : State) : Type 0 where
-  -- the store is a map: a lookup answers by what was inserted
+  -- the store is a map: a lookup answers by what was inserted and withdrawn
   pub looks-up : (k : ℕ) → k ≤ lastKey → content (m .session) (m .working) (m .stable) k ≡ latest (m .past k)
   -- list, newest and has-any tell of the same entries, so what is said of lookups after a crash is said of them
   pub list-tells : (from : ℕ) (ks xs : List ℕ) → ListTells (λ k. latest (m .past k)) from ks xs (listNow m from ks xs)
@@ -145,7 +155,8 @@ pub record Serves (m : State) : Type 0 where
   pub newest-whole : (model serial : ℕ) → newestNow m model serial .answer ≡ Newest.Damaged → ⊥
   pub any-whole : (model serial : ℕ) → hasAnyNow m model serial .answer ≡ Any.Damaged → ⊥
   pub list-whole : (from : ℕ) (ks xs : List ℕ) → listNow m from ks xs .answer ≡ Listed.Damaged → ⊥
-  -- none changes what a call answers after it: so the order of reading calls changes no answer of theirs, nor of an insert
+  -- none changes what a call answers after it: so the order of reading calls changes no answer of theirs, nor of an
+  -- insert or a withdrawal
   pub lookup-stays : (e : Event) → Reads e → (model serial issue : ℕ)
       → lookupNow (step e m) model serial issue .answer ≡ lookupNow m model serial issue .answer
   pub newest-stays : (e : Event) → Reads e → (model serial : ℕ)
@@ -156,6 +167,8 @@ pub record Serves (m : State) : Type 0 where
       → SameListing (listNow (step e m) from ks xs) (listNow m from ks xs)
   pub insert-stays : (e : Event) → Reads e → (model serial issue x : ℕ)
       → insertNow (step e m) model serial issue x .answer ≡ insertNow m model serial issue x .answer
+  pub withdraw-stays : (e : Event) → Reads e → (model serial issue : ℕ)
+      → withdrawNow (step e m) model serial issue .answer ≡ withdrawNow m model serial issue .answer
 
 -- ── The demand ──────────────────────────────────────────────────────────────────────────────────────────────────
 
@@ -174,6 +187,28 @@ Demand3 =
     (n : ℕ) (w s : List ℕ) → Lent n w s → (h : List Event) → AllProper n h
     → ((u : List ℕ) → length u ≡ n * pageSize → Survives (run h (start w s)) u)
     × (run h (start w s) .opened ≡ Opened.Done → Serves (run h (start w s)))
+
+-- ── Without withdrawals ─────────────────────────────────────────────────────────────────────────────────────────
+
+unfoldable pub isWithdrawal : Event → Bool
+isWithdrawal (inserts model serial issue x) = false
+isWithdrawal (withdraws model serial issue) = true
+isWithdrawal (looks model serial issue) = false
+isWithdrawal (asksNewest model serial) = false
+isWithdrawal (asksAny model serial) = false
+isWithdrawal (lists from ks xs) = false
+isWithdrawal syncs = false
+isWithdrawal opens = false
+isWithdrawal (crashes written w) = false
+isWithdrawal (crashesInSync written w) = false
+
+-- in a history without them, every entry present at the last successful sync or opening before a crash is found with its
+-- record
+unfoldable pub AllKept : Type 0
+AllKept =
+    (n : ℕ) (w s : List ℕ) → Lent n w s → (h : List Event) → AllProper n h → all (λ e. not (isWithdrawal e)) h ≡ true
+    → (u : List ℕ) → length u ≡ n * pageSize → (t : List ℕ) → CrashOf (run h (start w s)) t → opening u t .answer ≡ Opened.Done
+    → (k x : ℕ) → k ≤ lastKey → earliest (run h (start w s) .past k) ≡ some x → after u t k ≡ some x
 
 -- ── The last opening ────────────────────────────────────────────────────────────────────────────────────────────
 

@@ -48,6 +48,11 @@ put x (y ∷ ys) =
       | false ↦ elim (eqb (x .key) (y .key)) [ true ↦ x ∷ ys | false ↦ y ∷ put x ys ]
     ]
 
+-- the entries but the one under a key
+unfoldable pub without : {B : Type 0} → ℕ → List (Entry B) → List (Entry B)
+without k [] = []
+without k (x ∷ xs) = elim (eqb k (x .key)) [ true ↦ xs | false ↦ x ∷ without k xs ]
+
 -- numbers that rise strictly, from one below them and by themselves
 unfoldable pub risesFrom : ℕ → List ℕ → Bool
 risesFrom k [] = true

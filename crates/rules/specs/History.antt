@@ -16,6 +16,7 @@ use Rattle.rules.specs.Call.{Left}
 use Rattle.rules.specs.Format.{format}
 use Rattle.rules.specs.Open.{opening}
 use Rattle.rules.specs.Insert.{insert}
+use Rattle.rules.specs.Withdraw.{withdraw}
 use Rattle.rules.specs.Lookup.{lookup}
 use Rattle.rules.specs.Newest.{newest}
 use Rattle.rules.specs.HasAny.{hasAny}
@@ -25,6 +26,7 @@ use Rattle.rules.specs.Crash.{crashed, insideSync}
 use Rattle.rules.specs.declared.Session.{Session}
 use Rattle.rules.specs.declared.Opened.{Opened}
 use Rattle.rules.specs.declared.Inserted.{Inserted}
+use Rattle.rules.specs.declared.Withdrawn.{Withdrawn}
 use Rattle.rules.specs.declared.Looked.{Looked}
 use Rattle.rules.specs.declared.Synced.{Synced}
 
@@ -34,6 +36,7 @@ use Rattle.rules.specs.declared.Synced.{Synced}
 -- lent, which has nothing to do with the one before
 pub data Event : Type 0 where
   inserts : ℕ → ℕ → ℕ → ℕ → Event
+  withdraws : ℕ → ℕ → ℕ → Event
   looks : ℕ → ℕ → ℕ → Event
   asksNewest : ℕ → ℕ → Event
   asksAny : ℕ → ℕ → Event
@@ -75,9 +78,9 @@ recordIn Looked.Missing = none
 unfoldable pub content : Session → List ℕ → List ℕ → ℕ → Option ℕ
 content s w t k = recordIn (lookup w t s (modelOf k) (serialOf k) (issueOf k) .answer)
 
--- a key got a record: a state more for that key
-unfoldable pub gains : ℕ → ℕ → (ℕ → List (Option ℕ)) → ℕ → List (Option ℕ)
-gains k x past j = elim (eqb j k) [ true ↦ some x ∷ past j | false ↦ past j ]
+-- a key got a record or lost it: a state more for that key
+unfoldable pub gains : ℕ → Option ℕ → (ℕ → List (Option ℕ)) → ℕ → List (Option ℕ)
+gains k state past j = elim (eqb j k) [ true ↦ state ∷ past j | false ↦ past j ]
 
 -- ── One step ────────────────────────────────────────────────────────────────────────────────────────────────────
 
@@ -89,13 +92,29 @@ afterInsert k x m r = record {
   opened = m .opened;
   past =
       elim (r .answer) [
-        | Inserted.Done ↦ gains k x (m .past)
+        | Inserted.Done ↦ gains k (some x) (m .past)
         | Inserted.Length ↦ m .past
         | Inserted.BadKey ↦ m .past
         | Inserted.Damaged ↦ m .past
         | Inserted.Present ↦ m .past
         | Inserted.SyncFirst ↦ m .past
         | Inserted.Full ↦ m .past
+      ];
+}
+
+unfoldable pub afterWithdraw : ℕ → State → Left Withdrawn → State
+afterWithdraw k m r = record {
+  session = r .session;
+  working = r .working;
+  stable = r .stable;
+  opened = m .opened;
+  past =
+      elim (r .answer) [
+        | Withdrawn.Done ↦ gains k none (m .past)
+        | Withdrawn.Length ↦ m .past
+        | Withdrawn.BadKey ↦ m .past
+        | Withdrawn.Damaged ↦ m .past
+        | Withdrawn.Missing ↦ m .past
       ];
 }
 
@@ -145,6 +164,8 @@ crashInSyncNow written m = crashed written (m .session .n) (insideSync (m .sessi
 unfoldable pub step : Event → State → State
 step (inserts model serial issue x) m =
     afterInsert (keyOf model serial issue) x m (insert (m .working) (m .stable) (m .session) model serial issue x)
+step (withdraws model serial issue) m =
+    afterWithdraw (keyOf model serial issue) m (withdraw (m .working) (m .stable) (m .session) model serial issue)
 step (looks model serial issue) m =
     let r = lookup (m .working) (m .stable) (m .session) model serial issue in
     afterReading m (r .session) (r .working) (r .stable)
@@ -177,6 +198,7 @@ run (e ∷ es) m = run es (step e m)
 unfoldable pub Proper : ℕ → Event → Type 0
 Proper n (inserts model serial issue x) =
     (model < 65536) × (serial < 4294967296) × (issue < 65536) × (x < 4294967296)
+Proper n (withdraws model serial issue) = (model < 65536) × (serial < 4294967296) × (issue < 65536)
 Proper n (looks model serial issue) = (model < 65536) × (serial < 4294967296) × (issue < 65536)
 Proper n (asksNewest model serial) = (model < 65536) × (serial < 4294967296)
 Proper n (asksAny model serial) = (model < 65536) × (serial < 4294967296)

@@ -20,6 +20,7 @@ pub mod Call
 pub mod Format
 pub mod Open
 pub mod Insert
+pub mod Withdraw
 pub mod Lookup
 pub mod Newest
 pub mod HasAny

@@ -26,9 +26,17 @@ raised s = record { n = s .n; c = s .c + 1; total = s .total; free = s .free; wa
 abbrev pub wraps : ℕ → ℕ
 wraps k = k % 4294967296
 
+-- with another total
+abbrev pub totalling : ℕ → Session → Session
+totalling total s = record { n = s .n; c = s .c; total = total; free = s .free; waiting = s .waiting }
+
 -- there is one certificate more
 abbrev pub counted : Session → Session
-counted s = record { n = s .n; c = s .c; total = wraps (s .total + 1); free = s .free; waiting = s .waiting }
+counted s = totalling (wraps (s .total + 1)) s
+
+-- there is one less
+abbrev pub uncounted : Session → Session
+uncounted s = totalling (wraps (s .total + 4294967295)) s
 
 -- ── One page ────────────────────────────────────────────────────────────────────────────────────────────────────
 

@@ -115,6 +115,10 @@ buildBytes p = over (pageBytes p) blank
 unfoldable pub changeBytes : Page → List ℕ → List ℕ
 changeBytes p old = over (pageBytes p) old
 
+-- a leaf changed where it stands that has one certificate less: the place that was the last one's is zero
+unfoldable pub shrinkBytes : Page → List ℕ → List ℕ
+shrinkBytes p old = over (pageBytes p ++ replicate certSize 0) old
+
 -- a page that a call builds: built and touched now
 unfoldable pub fresh : ℕ → ℕ → ℕ → ℕ → View → Page
 fresh c birth low high v = record { view = v; birth = birth; built = c; touched = c; low = low; high = high }

@@ -10,6 +10,7 @@ use Rattle.rules.specs.Report.{Reported, nothing}
 use Rattle.rules.specs.Walk.{wayReport, walkOf}
 use Rattle.rules.specs.Call.{Left, lengthsFor}
 use Rattle.rules.specs.Insert.{insert}
+use Rattle.rules.specs.Withdraw.{withdraw}
 use Rattle.rules.specs.Lookup.{lookup}
 use Rattle.rules.specs.Newest.{meter, newest}
 use Rattle.rules.specs.HasAny.{firstOf, hasAny}
@@ -17,6 +18,7 @@ use Rattle.rules.specs.List.{ListLeft, upFrom, list}
 use Rattle.rules.specs.declared.Session.{Session}
 use Rattle.rules.specs.declared.Report.{Report}
 use Rattle.rules.specs.declared.Inserted.{Inserted}
+use Rattle.rules.specs.declared.Withdrawn.{Withdrawn}
 use Rattle.rules.specs.declared.Looked.{Looked}
 use Rattle.rules.specs.declared.Newest.{Newest}
 use Rattle.rules.specs.declared.Any.{Any}
@@ -26,7 +28,7 @@ unfoldable pub onceTested : Session → List ℕ → List ℕ → Bool → Repor
 onceTested s w t good x =
     elim (every (lengthsFor s w t ∷ good ∷ fit0 (s .n) w ∷ [])) [ true ↦ x | false ↦ nothing ]
 
--- insert and lookup go the way of one key
+-- insert, withdraw and lookup go the way of one key
 unfoldable pub keyReport : List ℕ → List ℕ → Session → ℕ → ℕ → ℕ → Report
 keyReport w t s model serial issue =
     onceTested s w t (goodParts model serial issue) (wayReport (s .n) (s .c) (keyOf model serial issue) w nothing)
@@ -34,6 +36,12 @@ keyReport w t s model serial issue =
 unfoldable pub insertReported : List ℕ → List ℕ → Session → ℕ → ℕ → ℕ → ℕ → Reported (Left Inserted)
 insertReported w t s model serial issue x = record {
   left = insert w t s model serial issue x;
+  report = keyReport w t s model serial issue;
+}
+
+unfoldable pub withdrawReported : List ℕ → List ℕ → Session → ℕ → ℕ → ℕ → Reported (Left Withdrawn)
+withdrawReported w t s model serial issue = record {
+  left = withdraw w t s model serial issue;
   report = keyReport w t s model serial issue;
 }
 

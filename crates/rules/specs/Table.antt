@@ -10,7 +10,7 @@ use lib.Dec.{eqb, ltb}
 use Rattle.fields.specs.Field.{leAt, putAt}
 use Rattle.rules.specs.Layout.{pageSize, fewestPages, mostPages, zeroKind}
 use Rattle.rules.specs.Test.{between, every}
-use Rattle.rules.specs.Page.{Page, pageIn, buildBytes, changeBytes}
+use Rattle.rules.specs.Page.{Page, pageIn, buildBytes, changeBytes, shrinkBytes}
 
 -- ── Pages of a table ────────────────────────────────────────────────────────────────────────────────────────────
 
@@ -30,6 +30,10 @@ build t i p = setPage t i (buildBytes p)
 -- page i is changed where it stands
 unfoldable pub change : List ℕ → ℕ → Page → List ℕ
 change t i p = setPage t i (changeBytes p (pageAt t i))
+
+-- leaf i has one certificate less
+unfoldable pub shrink : List ℕ → ℕ → Page → List ℕ
+shrink t i p = setPage t i (shrinkBytes p (pageAt t i))
 
 -- ── Lengths ─────────────────────────────────────────────────────────────────────────────────────────────────────
 

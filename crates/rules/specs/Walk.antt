@@ -31,6 +31,11 @@ unfoldable pub certsAt : List Step → List Cert
 certsAt [] = []
 certsAt (s ∷ above) = s .page .view .certs
 
+-- the number of that leaf
+unfoldable pub leafAt : List Step → ℕ
+leafAt [] = 0
+leafAt (s ∷ above) = s .place .child
+
 -- the pages entered, leaf first, and the table with what was mended; none: a damaged place was met
 pub record Way : Type 0 where
   pub table : List ℕ

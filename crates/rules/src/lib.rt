@@ -12,7 +12,7 @@ ghost use mathlib.Core.Path.{_≡_};
 ghost use Prim.Native.Nat.{_<_};
 ghost use Rattle.rules.specs.Place.{isNone};
 ghost use Rattle.rules.specs.Report.{nothing, adds};
-ghost use Rattle.rules.specs.Marks.{taken, freed, waits, raised, counted};
+ghost use Rattle.rules.specs.Marks.{taken, freed, waits, raised, counted, uncounted};
 
 // The numbers of document 01 that code needs, named here once. specs/ has them too, for the rules: sizes in Layout, where
 // fields stand in Page and Table. A number that differs from its twin there breaks the proof of whoever uses it.
@@ -232,6 +232,14 @@ impl Session {
         self.total = wrapping_add_u32(self.total, 1);
         self
     }
+
+    // There is one less: 4,294,967,295 more, since the total wraps.
+    pub fn uncount(mut self) -> Self
+        ensures { λ r. ⌜ r ≡ uncounted self ⌝ }
+    {
+        self.total = wrapping_add_u32(self.total, 4294967295);
+        self
+    }
 }
 
 // One enum for each call: the answers that it can give, with the numbers beside them.
@@ -256,6 +264,14 @@ pub enum Inserted {
     Present,
     SyncFirst,
     Full,
+}
+
+pub enum Withdrawn {
+    Done,
+    Length,
+    BadKey,
+    Damaged,
+    Missing,
 }
 
 pub enum Looked {
@@ -304,6 +320,12 @@ pub struct Opening {
 
 pub struct Inserting {
     pub answer: Inserted,
+    pub report: Report,
+    pub session: Session,
+}
+
+pub struct Withdrawing {
+    pub answer: Withdrawn,
     pub report: Report,
     pub session: Session,
 }

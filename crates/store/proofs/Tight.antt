@@ -18,6 +18,11 @@ insert-tight κs a pre z z′ l l′ p q =
     let e = p ∙ sym q in
     ((λ i. record { answer = e i .left .answer; report = e i .report; session = e i .left .session }), (λ i. (e i .left .working, l .1)))
 
+pub withdraw-tight : Tight this.withdraw.Kinds.ps this.withdraw.Kinds.r this.withdraw.Reads.Pre this.withdraw.Reads.Post
+withdraw-tight κs a pre z z′ l l′ p q =
+    let e = p ∙ sym q in
+    ((λ i. record { answer = e i .left .answer; report = e i .report; session = e i .left .session }), (λ i. (e i .left .working, l .1)))
+
 pub lookup-tight : Tight this.lookup.Kinds.ps this.lookup.Kinds.r this.lookup.Reads.Pre this.lookup.Reads.Post
 lookup-tight κs a pre z z′ l l′ p q =
     let e = p ∙ sym q in

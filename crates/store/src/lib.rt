@@ -5,21 +5,22 @@
 // pages, 4 ≤ n ≤ 128. A session is handed in and handed back with each call but `format` and `open`; `open` hands out the
 // first. Nothing is required of a caller: any bytes, any lengths, any session and any key get an answer.
 //
-//     format  once: stable becomes an empty store
-//     open    at the start and after a crash: working becomes a copy of stable, and a session is handed out
-//     insert  puts a certificate in; from the next sync on it outlasts every crash
-//     lookup  the record of a certificate
-//     newest  the largest issue of a meter, and its record
-//     has_any whether a meter has a certificate
-//     list    the certificates from a start key upwards, into two lent lists, up to the shorter one
-//     sync    stable becomes a copy of working
+//     format    once: stable becomes an empty store
+//     open      at the start and after a crash: working becomes a copy of stable, and a session is handed out
+//     insert    puts a certificate in; from the next sync on it outlasts every crash
+//     withdraw  takes a certificate out; a crash before the next sync may bring it back
+//     lookup    the record of a certificate
+//     newest    the largest issue of a meter, and its record
+//     has_any   whether a meter has a certificate
+//     list      the certificates from a start key upwards, into two lent lists, up to the shorter one
+//     sync      stable becomes a copy of working
 //
 // What the answers mean; where more than one would do, the one named first is given:
 //
 //     Length     a table's length is wrong, the two differ, or the session is that of other tables
 //     BadKey     a zero model, serial or issue
 //     Damaged    a page that the call needs is spoilt and cannot be mended, or page 0 is
-//     Missing    lookup, newest: there is no such certificate
+//     Missing    withdraw, lookup, newest: there is no such certificate
 //     Present    insert: the certificate is there, with whatever record
 //     SyncFirst  insert: sync, and try again
 //     Full       insert: too few pages are free; sync, and try again
@@ -38,11 +39,12 @@
 ghost use mathlib.Core.Path.{_≡_};
 ghost use Rattle.rules.specs.Format;
 ghost use Rattle.rules.specs.Open;
-ghost use Rattle.rules.specs.Reports.{insertReported, lookupReported, newestReported, hasAnyReported, listReported};
+ghost use Rattle.rules.specs.Reports.{insertReported, withdrawReported, lookupReported, newestReported, hasAnyReported, listReported};
 ghost use Rattle.rules.specs.Sync;
 ghost use Rattle.format.specs.Formats;
 ghost use Rattle.opening.specs.Opens;
 ghost use Rattle.insert.specs.Inserts;
+ghost use Rattle.withdraw.specs.Withdraws;
 ghost use Rattle.lookup.specs.Looks;
 ghost use Rattle.newest.specs.Newests;
 ghost use Rattle.any.specs.Anys;
@@ -57,6 +59,7 @@ use rules::NewestOf;
 use rules::Opening;
 use rules::Session;
 use rules::Syncing;
+use rules::Withdrawing;
 
 // Answers Done or Length. The working table is only measured.
 pub fn format(working: &[u8], stable: &mut [u8]) -> Formatted
@@ -89,6 +92,21 @@ pub fn insert(
         ≡ insertReported (now (working .entry)) (now (stable .entry)) session model serial issue value ⌝ }
 {
     insert::insert(working, stable, session, model, serial, issue, value)
+}
+
+// Answers Done, Length, BadKey, Damaged or Missing.
+pub fn withdraw(
+    working: &mut [u8],
+    stable: &[u8],
+    session: Session,
+    model: u16,
+    serial: u32,
+    issue: u16,
+) -> Withdrawing
+    ensures { λ r. ⌜ Withdraws.leaving r (now (working .exit)) (now (stable .entry))
+        ≡ withdrawReported (now (working .entry)) (now (stable .entry)) session model serial issue ⌝ }
+{
+    withdraw::withdraw(working, stable, session, model, serial, issue)
 }
 
 // Answers Found with the record, Length, BadKey, Damaged or Missing.

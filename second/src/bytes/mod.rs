@@ -122,7 +122,7 @@ pub fn try_table(seed: u64, counters: &mut Counters) -> Kept {
 
 fn try_call(store: &mut Store, rng: &Rng, counters: &mut Counters) -> Kept {
     let key = some_key(store, rng);
-    match rng.below(22) {
+    match rng.below(25) {
         0 => promises::formats(&mut store.clone(), counters),
         1..=3 => {
             let session = store.session;
@@ -142,6 +142,7 @@ fn try_call(store: &mut Store, rng: &Rng, counters: &mut Counters) -> Kept {
             promises::list(store, start, [room, room + rng.below(2)], counters)
         }
         14..=15 => promises::has_any(store, some_meter(store, rng), counters),
+        16..=18 => promises::withdraw(store, key, counters),
         _ => promises::insert(store, key, rng.next() as u32, counters),
     }
 }

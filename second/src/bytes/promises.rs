@@ -15,6 +15,7 @@ use crate::session::Session;
 use crate::store::Store;
 use crate::tree::Tree;
 use crate::walk::{pages, zero_fits};
+use crate::without::taken_out;
 use std::ops::RangeInclusive;
 
 pub type Kept = Result<(), String>;
@@ -202,6 +203,26 @@ pub fn insert(store: &mut Store, key: u64, record: u32, counters: &mut Counters)
         looked == *store,
         "a refused insert changed more than its walk mends",
     )
+}
+
+pub fn withdraw(store: &mut Store, key: u64, counters: &mut Counters) -> Kept {
+    let mut looked = store.clone();
+    let answer = store.withdraw(key);
+    counters.answer("withdraw", answer);
+    let there = looked.lookup(key).0;
+    must(answer == there, "lookup answers otherwise")?;
+    let told = store.report == looked.report;
+    must(told, "withdraw tells of other mends than lookup")?;
+    if answer == DONE {
+        let session = &mut looked.session;
+        session.total = session.total.wrapping_sub(1);
+        let good = taken_out(&looked.working, &store.working, key, session.c);
+        must(good, "a withdrawal left other bytes")?;
+        looked.working.copy_from_slice(&store.working);
+    }
+    must(*store == looked, "a withdrawal changed more than its leaf")?;
+    let gone = answer != DONE || store.lookup(key) == (NONE, 0);
+    must(gone, "what was withdrawn is found")
 }
 
 pub fn open(store: &mut Store, counters: &mut Counters) -> Kept {

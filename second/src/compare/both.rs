@@ -113,6 +113,11 @@ impl Both {
         self.alike("insert", own, &own, &proved, counters)
     }
 
+    pub fn withdraw(&mut self, key: u64, counters: &mut Counters) -> Alike<u32> {
+        let (own, proved) = (self.own.withdraw(key), self.proved.withdraw(key));
+        self.alike("withdraw", own, &own, &proved, counters)
+    }
+
     pub fn lookup(&mut self, key: u64, counters: &mut Counters) -> Alike<u32> {
         let (own, proved) = (self.own.lookup(key), self.proved.lookup(key));
         self.alike("lookup", own.0, &own, &proved, counters)

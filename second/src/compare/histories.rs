@@ -3,7 +3,7 @@
 use super::{Alike, Both, Counters};
 use crate::answer::{DONE, SPENT};
 use crate::field::put32;
-use crate::histories::{Call, Generator, Mix, Player, Set, Watch};
+use crate::histories::{Call, Generator, Mix, Player, Set, States, Watch};
 use crate::key::parts;
 use crate::layout::{zero, LAST_NUMBER, PAGE, PAGES_MOST};
 use crate::tree::Tree;
@@ -57,13 +57,19 @@ fn step(both: &mut Both, player: &mut Player, call: &Call, counters: &mut Counte
         Call::Insert { key, record } => {
             player.answer = both.insert(key, record, counters)?;
             if player.answer == DONE {
-                player.now.add(key, record);
+                player.states.put(key, record);
             }
             let (model, serial, _) = parts(key);
             both.lookup(key, counters)?;
             both.lookup(key ^ 1, counters)?;
             both.newest(model, serial, counters)?;
             both.has_any(model, serial, counters)?;
+        }
+        Call::Withdraw { key } => {
+            if both.withdraw(key, counters)? == DONE {
+                player.states.take(key);
+            }
+            both.lookup(key, counters)?;
         }
         Call::Lookup { key } => _ = both.lookup(key, counters)?,
         Call::Newest { model, serial } => _ = both.newest(model, serial, counters)?,
@@ -75,7 +81,9 @@ fn step(both: &mut Both, player: &mut Player, call: &Call, counters: &mut Counte
         } => _ = both.list(start, keys, records, counters)?,
         Call::Sync => {
             player.answer = DONE;
-            both.sync(counters)?;
+            if both.sync(counters)? == DONE {
+                player.states.settle();
+            }
         }
         Call::SyncsUntil { left } => {
             both.sync(counters)?;
@@ -110,7 +118,7 @@ fn crash(both: &mut Both, player: &mut Player, mix: Mix, counters: &mut Counters
     let answer = both.crash(&written(mix), mix.inside_sync, counters)?;
     let tree = Tree::good(&both.own.stable, both.own.session.n);
     player.over = answer == SPENT || tree.is_none();
-    player.now = Set::of(tree.iter().flat_map(Tree::entries));
+    player.states = States::of(Set::of(tree.iter().flat_map(Tree::entries)));
     Ok(())
 }
 
@@ -119,12 +127,19 @@ fn look_around(mut both: Both, player: &Player, mix: Mix, counters: &mut Counter
     if both.crash(&written(mix), mix.inside_sync, counters)? != DONE {
         return Ok(());
     }
-    let step = player.now.len() / 8 + 1;
-    for key in player.now.keys().step_by(step) {
+    let step = player.states.now.len() / 8 + 1;
+    for key in player.states.now.keys().step_by(step) {
         both.lookup(key ^ 1, counters)?;
         both.insert(key + 1, key as u32, counters)?;
+        both.withdraw(key ^ 2, counters)?;
+        both.withdraw(key, counters)?;
     }
-    both.list(0, player.now.len() + 20, player.now.len() + 9, counters)?;
+    both.list(
+        0,
+        player.states.now.len() + 20,
+        player.states.now.len() + 9,
+        counters,
+    )?;
     Ok(())
 }
 
@@ -159,6 +174,7 @@ fn misfit(mut both: Both, pages: usize, counters: &mut Counters) -> Alike<()> {
         }
     }
     both.insert(1, 1, counters)?;
+    both.withdraw(1, counters)?;
     both.lookup(1, counters)?;
     both.newest(0, 1, counters)?;
     both.has_any(0, 1, counters)?;

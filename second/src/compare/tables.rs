@@ -19,7 +19,7 @@ pub fn table(seed: u64, counters: &mut Counters) -> Alike<()> {
 
 fn call(both: &mut Both, rng: &Rng, counters: &mut Counters) -> Alike<u32> {
     let key = some_key(&both.own, rng);
-    match rng.below(28) {
+    match rng.below(32) {
         0 => both.clone().format(counters),
         1..=2 => {
             let session = both.own.session;
@@ -46,6 +46,7 @@ fn call(both: &mut Both, rng: &Rng, counters: &mut Counters) -> Alike<u32> {
             let (model, serial) = some_meter(&both.own, rng);
             both.has_any(model, serial, counters)
         }
+        21..=24 => both.withdraw(key, counters),
         _ => both.insert(key, rng.next() as u32, counters),
     }
 }

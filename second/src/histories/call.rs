@@ -27,6 +27,9 @@ pub enum Call {
         key: u64,
         record: u32,
     },
+    Withdraw {
+        key: u64,
+    },
     Lookup {
         key: u64,
     },
@@ -68,6 +71,7 @@ impl Call {
         !matches!(
             self,
             Call::Insert { .. }
+                | Call::Withdraw { .. }
                 | Call::Sync
                 | Call::SyncsUntil { .. }
                 | Call::Open
@@ -102,6 +106,10 @@ impl fmt::Display for Call {
             Call::Insert { key, record } => {
                 let (model, serial, issue) = parts(key);
                 write!(out, "insert {model} {serial} {issue} record {record}")
+            }
+            Call::Withdraw { key } => {
+                let (model, serial, issue) = parts(key);
+                write!(out, "withdraw {model} {serial} {issue}")
             }
             Call::Lookup { key } => {
                 let (model, serial, issue) = parts(key);

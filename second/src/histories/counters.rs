@@ -11,6 +11,7 @@ use std::fmt;
 pub enum Counted {
     Open,
     Insert,
+    Withdraw,
     Lookup,
     Newest,
     HasAny,
@@ -20,9 +21,10 @@ pub enum Counted {
 
 /// Each call with the answers that a history can bring about: three comes only from bytes
 /// that no call wrote.
-const ANSWERS: [(&str, &[usize]); 7] = [
+const ANSWERS: [(&str, &[usize]); 8] = [
     ("open", &[0, 1, 8]),
     ("insert", &[0, 1, 2, 5, 6, 7]),
+    ("withdraw", &[0, 1, 2, 4]),
     ("lookup", &[0, 1, 2, 4]),
     ("newest", &[0, 1, 2, 4]),
     ("has_any", &[0, 1, 2]),
@@ -31,7 +33,7 @@ const ANSWERS: [(&str, &[usize]); 7] = [
 ];
 
 /// What else is counted and can be reached at any capacity.
-const NAMED: [&str; 50] = [
+const NAMED: [&str; 53] = [
     "histories",
     "histories ending with a leaf as root",
     "histories ending with a root of kind 2",
@@ -82,6 +84,9 @@ const NAMED: [&str; 50] = [
     "meters with a certificate",
     "meters without one",
     "has-any that leaves a lost page of its meter",
+    "mixes with a state of the middle",
+    "mixes with a withdrawn key back",
+    "mixes with an empty leaf",
 ];
 
 /// Reached only where a page that has just been split off, or a new root, has room: not where

@@ -13,6 +13,7 @@ use crate::rng::Rng;
 #[derive(Clone, Copy)]
 enum Choice {
     Insert,
+    Withdraw,
     Lookup,
     Newest,
     HasAny,
@@ -25,8 +26,9 @@ enum Choice {
     Misfit,
 }
 
-const CHOICES: [Choice; 11] = [
+const CHOICES: [Choice; 12] = [
     Choice::Insert,
+    Choice::Withdraw,
     Choice::Lookup,
     Choice::Newest,
     Choice::HasAny,
@@ -101,7 +103,7 @@ impl Generator {
     /// the store is as full as it gets.
     fn loading(&mut self, player: &Player) -> Option<Call> {
         let key = *self.load.last()?;
-        if player.now.get(key).is_some() {
+        if player.states.now.get(key).is_some() {
             self.load.pop();
             self.synced = false;
             if self.load.is_empty() {
@@ -158,6 +160,9 @@ impl Generator {
                 key: self.new_key(player),
                 record: self.rng.one_of(&[0, u32::MAX, self.rng.next() as u32]),
             },
+            Choice::Withdraw => Call::Withdraw {
+                key: self.old_key(player),
+            },
             Choice::Lookup => Call::Lookup {
                 key: self.any_key(player),
             },
@@ -188,7 +193,8 @@ impl Generator {
         let wanted = match self.rng.below(24) {
             0 => return 0,
             1 => return self.any_key(player),
-            2..=7 => None,
+            2 => return self.touched_key(player),
+            3..=7 => None,
             8..=9 => Some(Wanted::Any),
             10..=12 => Some(Wanted::Lost),
             13..=18 => Some(Wanted::Full),
@@ -198,9 +204,27 @@ impl Generator {
         key.unwrap_or_else(|| self.patterns.key(&self.rng))
     }
 
+    /// A key to withdraw: often one inserted since the last sync or opening.
+    fn old_key(&mut self, player: &Player) -> u64 {
+        if self.rng.once_in(2) {
+            self.any_key(player)
+        } else {
+            self.touched_key(player)
+        }
+    }
+
+    /// A key inserted or withdrawn since the last sync or opening, if there is one.
+    fn touched_key(&mut self, player: &Player) -> u64 {
+        let touched: Vec<u64> = player.states.touched().collect();
+        if touched.is_empty() {
+            return self.any_key(player);
+        }
+        self.rng.one_of(&touched)
+    }
+
     /// A key to look up: often one that is there.
     fn any_key(&mut self, player: &Player) -> u64 {
-        let present = player.now.len();
+        let present = player.states.now.len();
         match self.rng.below(8) {
             0 => self.rng.one_of(&[0, 1, 1 << 16, 1 << 48, u64::MAX]),
             1 => self.patterns.key(&self.rng),
@@ -208,7 +232,12 @@ impl Generator {
             _ if present == 0 => self.patterns.key(&self.rng),
             _ => {
                 let at = self.rng.below(present);
-                player.now.keys().nth(at).expect("as many as counted")
+                player
+                    .states
+                    .now
+                    .keys()
+                    .nth(at)
+                    .expect("as many as counted")
             }
         }
     }
@@ -225,7 +254,7 @@ impl Generator {
     }
 
     fn list(&mut self, player: &Player) -> Call {
-        let most = player.now.len() + 2;
+        let most = player.states.now.len() + 2;
         let start = match self.rng.below(4) {
             0 => 0,
             1 => self.rng.next(),

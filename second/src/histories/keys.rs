@@ -143,5 +143,5 @@ pub fn near(player: &Player, wanted: Wanted, rng: &Rng) -> Option<u64> {
     let steps = [1, 2, 3, 1 << 16, (1 << 16) + 1, 5 << 16];
     let keys = steps.into_iter().map(|step| beside.wrapping_add(step));
     keys.filter(|&key| whole(key) && leaf.place.holds(key))
-        .find(|&key| player.now.get(key).is_none())
+        .find(|&key| player.states.now.get(key).is_none())
 }

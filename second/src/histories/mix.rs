@@ -4,6 +4,7 @@ use super::call::{numbers, set, Mix, PageSet};
 use super::counters::{Counted, Counters};
 use super::player::{Player, Watch};
 use super::set::Set;
+use super::states::States;
 use crate::answer::{DONE, NONE, SPENT};
 use crate::field::get32;
 use crate::invariant;
@@ -86,26 +87,31 @@ impl Player {
         }
         self.between(&found, mix.pages, differ)?;
         if self.watch == Watch::Invariants {
-            invariant::check(&store)?;
+            invariant::check(&store, &|key, state| found.get(key) == state)?;
         }
         self.count_pages(mix, differ, counters);
         self.count_mix(&tree, &found, counters);
+        self.count_states(&tree, &found, counters);
         Ok(Some((store, found)))
     }
 
-    /// Demand 3: nothing of the last sync or opening is missing, nothing is there that wasn't
-    /// inserted, and both extremes are exact.
+    /// Demand 3: each key is as it was at the last sync or opening, or shows another state that it
+    /// has had since; and both extremes are exact.
     fn between(&self, found: &Set, pages: PageSet, differ: PageSet) -> Result<(), String> {
-        if !self.base.within(found) {
-            return Err("an entry of the last sync or opening is gone".to_string());
+        let States { base, now, .. } = &self.states;
+        let others = base.others(found);
+        let never = others
+            .iter()
+            .find(|(key, state)| !self.states.had(*key, *state));
+        match never {
+            Some((_, None)) => return Err("an entry of the last sync or opening is gone".into()),
+            Some(_) => return Err("an entry is there that wasn't inserted".into()),
+            None => {}
         }
-        if !found.within(&self.now) {
-            return Err("an entry is there that wasn't inserted".to_string());
-        }
-        if pages & differ == 0 && *found != self.base {
+        if pages & differ == 0 && found != base {
             return Err("no page was written, but the set has changed".to_string());
         }
-        if differ & !pages == 0 && *found != self.now {
+        if differ & !pages == 0 && found != now {
             return Err("all pages were written, but the set isn't that of the crash".to_string());
         }
         Ok(())
@@ -117,8 +123,9 @@ impl Player {
         let Some((mut store, found)) = self.open_mix(mix, counters)? else {
             return Ok(());
         };
-        let step = self.now.len() / SAMPLE + 1;
-        look(&mut store, &found, self.now.keys().step_by(step))
+        let keys = self.states.now.keys().chain(self.states.touched());
+        let step = self.states.now.len() / SAMPLE + 1;
+        look(&mut store, &found, keys.step_by(step))
     }
 
     /// Every mix on copies, if few pages differ.
@@ -161,13 +168,13 @@ impl Player {
             self.over = true;
             return Ok(());
         };
-        let keys: Vec<u64> = self.now.keys().collect();
+        let keys = self.states.now.keys().chain(self.states.touched());
+        let keys: Vec<u64> = keys.collect();
         let backwards = keys.iter().rev().step_by(keys.len() / SAMPLE + 1);
         look(&mut store.clone(), &found, keys.iter().copied())?;
         look(&mut store.clone(), &found, backwards.copied())?;
         self.store = store;
-        self.base = found.clone();
-        self.now = found;
+        self.states = States::of(found);
         self.tree = None;
         self.crashed = true;
         Ok(())

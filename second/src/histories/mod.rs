@@ -9,13 +9,16 @@ mod observe;
 mod player;
 mod set;
 mod shrink;
+mod states;
 mod told;
+mod withdrawal;
 
 pub use call::{Call, Mix, PageSet};
 pub use counters::Counters;
 pub use generator::Generator;
 pub use player::{Player, Watch};
 pub use set::Set;
+pub use states::States;
 
 use crate::rng::Rng;
 use std::fmt;

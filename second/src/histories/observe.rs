@@ -35,7 +35,7 @@ impl Player {
         let mut lost = self.tree.iter().flat_map(Tree::lost);
         let left = lost.any(|node| meets(&node.place, &beyond) && !meets(&node.place, &asked));
         counters.add_if(left, "newest that leaves a lost page of its meter");
-        if self.now.range(beyond).next().is_some() {
+        if self.states.now.range(beyond).next().is_some() {
             counters.add(match answer {
                 DONE => "newest below a provisional one",
                 _ => "newest of provisional ones only",
@@ -87,7 +87,7 @@ impl Player {
         let leaf_root = root.lost && !is_inner(root);
         let inner_root = root.lost && is_inner(root);
         let below = tree.lost().any(|node| lost_above(node.above));
-        let between = *found != self.base && *found != self.now;
+        let between = *found != self.states.base && *found != self.states.now;
         let before = self.tree.as_ref();
         let still = before.is_some_and(|tree| tree.lost().next().is_some());
         counters.add_if(tree.lost().next().is_some(), "mixes with a lost page");

@@ -3,7 +3,7 @@
 use super::call::{Call, Mix};
 use super::counters::{Counted, Counters};
 use super::observe::meets;
-use super::set::Set;
+use super::states::States;
 use super::Move;
 use crate::answer::{BADKEY, DONE, FULL, LENGTH, NONE, PRESENT, SPENT, SYNCFIRST};
 use crate::field::put32;
@@ -27,10 +27,8 @@ pub enum Watch {
 
 pub struct Player {
     pub store: Store,
-    /// The entries at the last successful sync or opening.
-    pub base: Set,
-    /// The entries now.
-    pub now: Set,
+    /// The entries now, at the last successful sync or opening, and between.
+    pub states: States,
     /// W's tree after the last checked move.
     pub tree: Option<Tree>,
     /// The last insert's answer.
@@ -55,8 +53,7 @@ impl Player {
     pub fn new(n: usize, watch: Watch) -> Player {
         Player {
             store: Store::fresh(n),
-            base: Set::new(),
-            now: Set::new(),
+            states: States::default(),
             tree: None,
             answer: DONE,
             over: false,
@@ -69,6 +66,7 @@ impl Player {
         let session = self.store.session;
         match next.call {
             Call::Insert { key, record } => self.insert(key, record, counters)?,
+            Call::Withdraw { key } => self.withdraw(key, counters)?,
             Call::Lookup { key } => self.lookup(key, counters)?,
             Call::Newest { model, serial } => self.newest(model, serial, counters)?,
             Call::HasAny { model, serial } => self.has_any(model, serial, counters)?,
@@ -92,8 +90,8 @@ impl Player {
             return Ok(());
         }
         let total = self.store.session.total as usize;
-        must(total == self.now.len(), || {
-            format!("the total is {total}, not {}", self.now.len())
+        must(total == self.states.now.len(), || {
+            format!("the total is {total}, not {}", self.states.now.len())
         })?;
         if next.quiet {
             self.tree = None;
@@ -106,8 +104,9 @@ impl Player {
     fn check(&mut self, counters: &mut Counters) -> Played {
         counters.add("states checked");
         let tree = if self.watch == Watch::Invariants {
-            let view = invariant::check(&self.store)?;
-            must(self.base.same(view.s.tree.entries()), || {
+            let had = |key, state| self.states.had(key, state);
+            let view = invariant::check(&self.store, &had)?;
+            must(self.states.base.same(view.s.tree.entries()), || {
                 "S shows another set than at the last sync or opening".to_string()
             })?;
             view.w.tree
@@ -115,8 +114,8 @@ impl Player {
             let n = self.store.session.n;
             Tree::good(&self.store.working, n).ok_or("W fails the opening tests")?
         };
-        must(self.now.same(tree.entries()), || {
-            "W shows another set than was inserted".to_string()
+        must(self.states.now.same(tree.entries()), || {
+            "W shows another set than was put in".to_string()
         })?;
         self.total_is_listed()?;
         if let Some(before) = self.tree.take() {
@@ -128,7 +127,7 @@ impl Player {
 
     /// The total is the length of a listing from key 0 with room enough.
     fn total_is_listed(&self) -> Played {
-        let room = self.now.len() + 1;
+        let room = self.states.now.len() + 1;
         let (mut keys, mut records) = (vec![0; room], vec![0; room]);
         let (_, count) = self.store.clone().list(0, &mut keys, &mut records);
         must(count == self.store.session.total as usize, || {
@@ -148,9 +147,9 @@ impl Player {
         self.answer = answer;
         counters.answer(Counted::Insert, answer);
         let good = match answer {
-            DONE => whole(key) && self.now.add(key, record),
+            DONE => whole(key) && self.states.put(key, record),
             BADKEY => !whole(key),
-            PRESENT => self.now.get(key).is_some(),
+            PRESENT => self.states.now.get(key).is_some(),
             SYNCFIRST => self.syncfirst_is_cured(key, record, counters),
             FULL => self.full_is_right(key, record, counters),
             _ => false,
@@ -175,7 +174,7 @@ impl Player {
         let touched = head.touched == self.store.session.c;
         counters.add_if(top && touched, "syncfirst at kind 3");
         whole(key)
-            && self.now.get(key).is_none()
+            && self.states.now.get(key).is_none()
             && (synced == SPENT || again == DONE || again == FULL)
     }
 
@@ -191,14 +190,14 @@ impl Player {
         let helped = copy.sync() == DONE && copy.insert(key, record) == DONE;
         counters.add_if(helped, "full, helped by a sync");
         counters.add_if(!helped, "full, not helped by a sync");
-        whole(key) && self.now.get(key).is_none() && (few || top)
+        whole(key) && self.states.now.get(key).is_none() && (few || top)
     }
 
     fn lookup(&mut self, key: u64, counters: &mut Counters) -> Played {
         let tells = self.walk_tells_of(key);
         let (answer, record) = self.store.lookup(key);
         counters.answer(Counted::Lookup, answer);
-        let expected = match self.now.get(key) {
+        let expected = match self.states.now.get(key) {
             _ if !whole(key) => (BADKEY, 0),
             Some(record) => (DONE, record),
             None => (NONE, 0),
@@ -217,7 +216,7 @@ impl Player {
         let tells = self.meter_tells((model, serial), LAST_FINAL, usize::MAX);
         let (answer, issue, record) = self.store.newest(model, serial);
         counters.answer(Counted::Newest, answer);
-        let expected = match self.now.range(asked.clone()).last() {
+        let expected = match self.states.now.range(asked.clone()).last() {
             _ if model == 0 || serial == 0 => (BADKEY, 0, 0),
             Some((key, record)) => (DONE, parts(key).2, record),
             None => (NONE, 0, 0),
@@ -249,7 +248,7 @@ impl Player {
         counters.add_if(left, "has-any that leaves a lost page of its meter");
         let (answer, any) = self.store.has_any(model, serial);
         counters.answer(Counted::HasAny, answer);
-        let mut all = self.now.range(issues(model, serial, u16::MAX));
+        let mut all = self.states.now.range(issues(model, serial, u16::MAX));
         let expected = match (model, serial) {
             (0, _) | (_, 0) => (BADKEY, false),
             _ => (DONE, all.next().is_some()),
@@ -272,7 +271,7 @@ impl Player {
         let (mut key_list, mut record_list) = (vec![u64::MAX; keys], vec![u32::MAX; records]);
         let (answer, count) = self.store.list(start, &mut key_list, &mut record_list);
         counters.answer(Counted::List, answer);
-        let all: Vec<_> = self.now.range(start..=u64::MAX).take(room).collect();
+        let all: Vec<_> = self.states.now.range(start..=u64::MAX).take(room).collect();
         let filled = key_list.iter().copied().zip(record_list.iter().copied());
         let good = answer == DONE
             && count == all.len()
@@ -299,7 +298,7 @@ impl Player {
         counters.answer(Counted::Sync, answer);
         let expected = if before > LAST_NUMBER { SPENT } else { DONE };
         if answer == DONE {
-            self.base = self.now.clone();
+            self.states.settle();
             self.crashed = false;
         }
         must(answer == expected, || format!("sync answers {answer}"))
@@ -332,6 +331,7 @@ impl Player {
         };
         let list = |store: &mut Store| store.list(0, &mut [0], &mut [0]).0;
         let refused = answered(Counted::Insert, other.insert(1, 1), other.report)
+            && answered(Counted::Withdraw, other.withdraw(1), other.report)
             && answered(Counted::Lookup, other.lookup(1).0, other.report)
             && answered(Counted::Newest, other.newest(0, 1).0, other.report)
             && answered(Counted::HasAny, other.has_any(0, 1).0, other.report)

@@ -22,6 +22,11 @@ impl Set {
         self.0.insert(key, record).is_none()
     }
 
+    /// Takes an entry out; none if the key wasn't there.
+    pub fn take(&mut self, key: u64) -> Option<u32> {
+        self.0.remove(&key)
+    }
+
     pub fn get(&self, key: u64) -> Option<u32> {
         self.0.get(&key).copied()
     }
@@ -54,9 +59,20 @@ impl Set {
         own.eq(entries)
     }
 
-    /// Whether all of these are in another set, with their records: both in key order.
-    pub fn within(&self, other: &Set) -> bool {
-        let mut others = other.0.iter();
-        self.0.iter().all(|own| others.any(|other| other == own))
+    /// The keys at which another set differs, with what they are there.
+    pub fn others(&self, other: &Set) -> Vec<(u64, Option<u32>)> {
+        let mut own = self.0.iter().peekable();
+        let mut others = Vec::new();
+        for (&key, &record) in &other.0 {
+            while let Some((&gone, _)) = own.next_if(|(&own, _)| own < key) {
+                others.push((gone, None));
+            }
+            let same = own.next_if(|(&own, _)| own == key);
+            if same.is_none_or(|(_, &own)| own != record) {
+                others.push((key, Some(record)));
+            }
+        }
+        others.extend(own.map(|(&gone, _)| (gone, None)));
+        others
     }
 }

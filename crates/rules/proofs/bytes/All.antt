@@ -7,7 +7,7 @@ use native.Mathlib.Omega.{arith}
 use lib.Dec.{ltb, eqb}
 use lib.ListN.{length, take, drop, getD}
 use Rattle.rules.specs.Test.{between}
-use Rattle.rules.specs.Entry.{Entry, cut, put}
+use Rattle.rules.specs.Entry.{Entry, cut, put, without}
 
 pub data All {A : Type 0} (P : A → Type 0) : List A → Type 0 where
   nil : All P []
@@ -44,7 +44,7 @@ pub all-map : {A : Type 0} {P Q : A → Type 0} {xs : List A} → ((x : A) → P
 all-map f nil = nil
 all-map f (cons {x = x} h k) = cons (f x h) (all-map f k)
 
--- ── Entries cut to a range, and an entry put among others ───────────────────────────────────────────────────────
+-- ── Entries cut to a range, an entry put among others, one taken out ───────────────────────────────────────────
 
 module _ {B : Type 0} {P : Entry B → Type 0} where
   pub all-cut : (low high : ℕ) {xs : List (Entry B)} → All P xs → All P (cut low high xs)
@@ -65,3 +65,12 @@ module _ {B : Type 0} {P : Entry B → Type 0} where
       go true u m = cons h (cons k ks)
       go false true m = cons h ks
       go false false m = cons k m
+
+  pub all-without : (k : ℕ) {xs : List (Entry B)} → All P xs → All P (without k xs)
+  unfolding without
+  all-without k nil = nil
+  all-without k (cons {x = x} {xs = xs} h m) = go (eqb k (x .key)) (all-without k m)
+    where
+      go : (t : Bool) → All P (without k xs) → All P (elim t [ true ↦ xs | false ↦ x ∷ without k xs ])
+      go true ih = m
+      go false ih = cons h ih

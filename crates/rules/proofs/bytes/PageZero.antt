@@ -13,10 +13,10 @@ use Rattle.fields.proofs.Number.{length-le}
 use Rattle.fields.proofs.Field.{leAt-take, length-put, bytes-put, drop-put, get-put, get-put-other, after-puts}
 use Rattle.rules.specs.Layout.{pageSize, lastKey}
 use Rattle.rules.specs.Page.{Page, pageIn}
-use Rattle.rules.specs.Table.{pageAt, read, build, change, kind0, n0, number0, root0, previous0, birth0, setNumber, setRoot, fit0}
+use Rattle.rules.specs.Table.{pageAt, read, build, change, shrink, kind0, n0, number0, root0, previous0, birth0, setNumber, setRoot, fit0}
 use Rattle.rules.specs.Place.{rootPlace}
 use Rattle.rules.proofs.entries.Tests.{every-true, between-low, between-high}
-use Rattle.rules.proofs.bytes.Tables.{Has, Room, pageAt-build-other, pageAt-change-other}
+use Rattle.rules.proofs.bytes.Tables.{Has, Room, Spare, pageAt-build-other, pageAt-change-other, pageAt-shrink-other}
 
 -- ── Two tables with the same page 0 ─────────────────────────────────────────────────────────────────────────────
 
@@ -62,6 +62,9 @@ module _ (t : List ℕ) (i : ℕ) (h : Has t i) (pos : 1 ≤ i) where
 
   pub same0-change : (p : Page) → Room p → Same0 (change t i p) t
   same0-change p r = same0 (change t i p) t (pageAt-change-other t i p h r 0 (λ z. omega arith))
+
+  pub same0-shrink : (p : Page) → Spare p → Same0 (shrink t i p) t
+  same0-shrink p r = same0 (shrink t i p) t (pageAt-shrink-other t i p h r 0 (λ z. omega arith))
 
 -- ── What a fit page 0 tells of the table ────────────────────────────────────────────────────────────────────────
 

@@ -16,7 +16,7 @@ use Rattle.fields.proofs.Number.{length-le}
 use Rattle.fields.proofs.Field.{leAt-bound, le-leAt, in-pieces}
 use Rattle.rules.specs.Layout.{pageSize, commonHeader, leafHeader, innerHeader, certSize, childSize, leafRoom, innerRoom, leafKind}
 use Rattle.rules.specs.Entry.{Cert, Child}
-use Rattle.rules.specs.Page.{View, Page, isLeaf, count, readEach, writeEach, certIn, certBytes, childIn, childBytes, viewIn, pageIn, headerBytes, pageBytes, over, blank, buildBytes, changeBytes, fresh, touch}
+use Rattle.rules.specs.Page.{View, Page, isLeaf, count, readEach, writeEach, certIn, certBytes, childIn, childBytes, viewIn, pageIn, headerBytes, pageBytes, over, blank, buildBytes, changeBytes, shrinkBytes, fresh, touch}
 pub use Rattle.rules.proofs.entries.Views.{Shaped, shaped-viewIn}
 use Rattle.rules.proofs.bytes.All.{All, nil}
 use Rattle.rules.proofs.bytes.Over.{length-over, bytes-over}
@@ -171,6 +171,17 @@ pub bytes-changeBytes : (p : Page) (old : List ℕ) → Bytes old → Bytes (cha
 unfolding changeBytes
 bytes-changeBytes p old h = bytes-over (pageBytes p) old (bytes-pageBytes p) h
 
+pub length-shrinkBytes : (p : Page) (old : List ℕ) → length (pageBytes p) + certSize ≤ length old → length (shrinkBytes p old) ≡ length old
+unfolding shrinkBytes
+length-shrinkBytes p old h =
+    length-over (pageBytes p ++ replicate certSize 0) old (rw length-append h)
+
+pub bytes-shrinkBytes : (p : Page) (old : List ℕ) → Bytes old → Bytes (shrinkBytes p old)
+unfolding shrinkBytes
+bytes-shrinkBytes p old h =
+    bytes-over (pageBytes p ++ replicate certSize 0) old
+    (bytes-append (pageBytes p) (replicate certSize 0) (bytes-pageBytes p) (bytes-replicate certSize)) h
+
 pub bytes-buildBytes : (p : Page) → Bytes (buildBytes p)
 unfolding buildBytes
 bytes-buildBytes p = bytes-over (pageBytes p) blank (bytes-pageBytes p) bytes-blank
@@ -256,6 +267,13 @@ pageIn-buildBytes w = pageIn-over w blank
 pub pageIn-changeBytes : {p : Page} → Wide p → (old : List ℕ) → pageIn (changeBytes p old) ≡ p
 unfolding changeBytes
 pageIn-changeBytes w old = pageIn-over w old
+
+pub pageIn-shrinkBytes : {p : Page} → Wide p → (old : List ℕ) → pageIn (shrinkBytes p old) ≡ p
+unfolding shrinkBytes over
+pageIn-shrinkBytes {p} w old =
+    let zeros : List ℕ = replicate certSize 0 in
+    let rest = drop (length (pageBytes p ++ zeros)) old in
+    ap pageIn (append-assoc (pageBytes p) zeros rest) ∙ pageIn-pageBytes w (zeros ++ rest)
 
 -- ── The header that was read is written ─────────────────────────────────────────────────────────────────────────
 

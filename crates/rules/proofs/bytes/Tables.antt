@@ -12,10 +12,10 @@ use lib.Seq.{sets, sets-eq, length-sets, drop-drop}
 use Rattle.fields.specs.Field.{Bytes}
 use Rattle.fields.proofs.Bytes.{bytes-append, bytes-take, bytes-drop}
 use Rattle.fields.proofs.Run.{length-part, part-sets, part-sets-below, drop-sets}
-use Rattle.rules.specs.Layout.{pageSize}
-use Rattle.rules.specs.Page.{Page, pageIn, pageBytes, buildBytes, changeBytes}
-use Rattle.rules.specs.Table.{pageAt, setPage, read, build, change}
-use Rattle.rules.proofs.bytes.Pages.{Wide, wide-pageIn, length-buildBytes, length-changeBytes, bytes-buildBytes, bytes-changeBytes, pageIn-buildBytes, pageIn-changeBytes}
+use Rattle.rules.specs.Layout.{pageSize, certSize}
+use Rattle.rules.specs.Page.{Page, pageIn, pageBytes, buildBytes, changeBytes, shrinkBytes}
+use Rattle.rules.specs.Table.{pageAt, setPage, read, build, change, shrink}
+use Rattle.rules.proofs.bytes.Pages.{Wide, wide-pageIn, length-buildBytes, length-changeBytes, length-shrinkBytes, bytes-buildBytes, bytes-changeBytes, bytes-shrinkBytes, pageIn-buildBytes, pageIn-changeBytes, pageIn-shrinkBytes}
 
 -- a table has page i; a page's bytes have room on a page
 abbrev pub Has : List ℕ → ℕ → Type 0
@@ -23,6 +23,10 @@ Has t i = i * pageSize + pageSize ≤ length t
 
 abbrev pub Room : Page → Type 0
 Room p = length (pageBytes p) ≤ pageSize
+
+-- with one certificate more too
+abbrev pub Spare : Page → Type 0
+Spare p = length (pageBytes p) + certSize ≤ pageSize
 
 pub has-page : (t : List ℕ) (n i : ℕ) → length t ≡ n * pageSize → i < n → Has t i
 has-page t n i e h = omega arith
@@ -134,6 +138,30 @@ module _ (t : List ℕ) (i : ℕ) (p : Page) (h : Has t i) (r : Room p) where
   unfolding read
   read-change-other j d = ap pageIn (pageAt-change-other j d)
 
+module _ (t : List ℕ) (i : ℕ) (p : Page) (h : Has t i) (r : Spare p) where
+  length-shrunk : length (shrinkBytes p (pageAt t i)) ≡ pageSize
+  length-shrunk = length-shrinkBytes p (pageAt t i) (rw (length-pageAt t i h) r) ∙ length-pageAt t i h
+
+  pub length-shrink : length (shrink t i p) ≡ length t
+  unfolding shrink
+  length-shrink = length-setPage t i (shrinkBytes p (pageAt t i)) h length-shrunk
+
+  pub pageAt-shrink-same : pageAt (shrink t i p) i ≡ shrinkBytes p (pageAt t i)
+  unfolding shrink
+  pageAt-shrink-same = pageAt-setPage-same t i (shrinkBytes p (pageAt t i)) h length-shrunk
+
+  pub pageAt-shrink-other : (j : ℕ) → j ≢ i → pageAt (shrink t i p) j ≡ pageAt t j
+  unfolding shrink
+  pageAt-shrink-other j d = pageAt-setPage-other t i (shrinkBytes p (pageAt t i)) h length-shrunk j d
+
+  pub read-shrink-same : Wide p → read (shrink t i p) i ≡ p
+  unfolding read
+  read-shrink-same w = ap pageIn pageAt-shrink-same ∙ pageIn-shrinkBytes w (pageAt t i)
+
+  pub read-shrink-other : (j : ℕ) → j ≢ i → read (shrink t i p) j ≡ read t j
+  unfolding read
+  read-shrink-other j d = ap pageIn (pageAt-shrink-other j d)
+
 pub bytes-build : (t : List ℕ) (i : ℕ) (p : Page) → Bytes t → Bytes (build t i p)
 unfolding build
 bytes-build t i p h = bytes-setPage t i (buildBytes p) h (bytes-buildBytes p)
@@ -141,6 +169,10 @@ bytes-build t i p h = bytes-setPage t i (buildBytes p) h (bytes-buildBytes p)
 pub bytes-change : (t : List ℕ) (i : ℕ) (p : Page) → Bytes t → Bytes (change t i p)
 unfolding change
 bytes-change t i p h = bytes-setPage t i (changeBytes p (pageAt t i)) h (bytes-changeBytes p (pageAt t i) (bytes-pageAt t i h))
+
+pub bytes-shrink : (t : List ℕ) (i : ℕ) (p : Page) → Bytes t → Bytes (shrink t i p)
+unfolding shrink
+bytes-shrink t i p h = bytes-setPage t i (shrinkBytes p (pageAt t i)) h (bytes-shrinkBytes p (pageAt t i) (bytes-pageAt t i h))
 
 -- what is read of a table of bytes fits
 pub wide-read : (t : List ℕ) (i : ℕ) → Bytes t → Wide (read t i)

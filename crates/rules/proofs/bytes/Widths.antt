@@ -12,11 +12,13 @@ use Rattle.rules.specs.Entry.{Entry, Cert, Child, keys, cut}
 use Rattle.rules.specs.Page.{View, Page, isLeaf, count}
 use Rattle.rules.specs.Place.{cutView, mended}
 use Rattle.rules.specs.Insert.{lowerHalf, upperHalf, divide, putCert, putChild, newChild, lowerPage, upperPage}
+use Rattle.rules.specs.Withdraw.{withoutCert}
 use Rattle.rules.specs.declared.Place.{Place}
 use Rattle.rules.proofs.entries.Entries.{length-cut}
 use Rattle.rules.proofs.entries.Puts.{length-put-le}
-use Rattle.rules.proofs.entries.Views.{shaped-cut, shaped-lower, shaped-upper, shaped-putCert, shaped-putChild}
-use Rattle.rules.proofs.bytes.All.{All, nil, cons, all-take, all-drop, all-cut, all-put, all-append}
+use Rattle.rules.proofs.entries.Withouts.{length-without-le}
+use Rattle.rules.proofs.entries.Views.{shaped-cut, shaped-lower, shaped-upper, shaped-putCert, shaped-withoutCert, shaped-putChild}
+use Rattle.rules.proofs.bytes.All.{All, nil, cons, all-take, all-drop, all-cut, all-put, all-without, all-append}
 use Rattle.rules.proofs.bytes.EntryBytes.{WideCert, WideChild}
 use Rattle.rules.proofs.bytes.Pages.{WideView, Wide, wide-fresh}
 
@@ -61,6 +63,17 @@ module _ {v : View} (w : WideView v) where
     kind = w .kind;
     count = omega (arith, length-put-le x (v .certs), ap length (w .shaped .leaf e));
     certs = all-put x h (w .certs);
+    children = w .children;
+  }
+
+  -- a certificate taken out of a leaf
+  pub wide-withoutCert : (k : ℕ) → isLeaf v ≡ true → WideView (withoutCert k v)
+  unfolding withoutCert count isLeaf
+  wide-withoutCert k e = record {
+    shaped = shaped-withoutCert k v e (w .shaped);
+    kind = w .kind;
+    count = omega (arith, w .count, length-without-le k (v .certs));
+    certs = all-without k (w .certs);
     children = w .children;
   }
 

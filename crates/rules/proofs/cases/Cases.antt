@@ -10,7 +10,7 @@ use Rattle.rules.specs.Layout.{pageSize, fewestPages, mostPages}
 use Rattle.rules.specs.Test.{between}
 use Rattle.rules.specs.Table.{number0, root0, setNumber}
 use Rattle.rules.specs.Marks.{opened, marks}
-use Rattle.rules.specs.Call.{Left, formattedNo, openedNo, insertedNo, lookedNo, syncedNo}
+use Rattle.rules.specs.Call.{Left, formattedNo, openedNo, insertedNo, withdrawnNo, lookedNo, syncedNo}
 use Rattle.rules.specs.Format.{formatted, format}
 use Rattle.rules.specs.Open.{openRefused, openDone, opening}
 use Rattle.rules.specs.declared.Formatted.{Formatted}
@@ -20,7 +20,7 @@ use Rattle.rules.proofs.bytes.Lengths.{lengths-bad}
 use Rattle.rules.proofs.bytes.PageZero.{number0-setNumber}
 use Rattle.rules.proofs.bytes.Fresh.{length-formatted, number0-formatted, format-done, opening-formatted}
 use Rattle.rules.proofs.cases.Computing.{rules}
-use Rattle.rules.specs.Cases.{left, table, store, inserting, loaded, finding, isFound, allFound, wayTo, entriesAt, kindAt, named, childrenAt, needed, unused, forty, synced40, synced41, reopened, split41, pages04, page0, pages23, allPages, numbered, Case1, Case2, Case3, Case4, Case5, Before6, Case6, Case7, Case8, Case9, Case11, Cases}
+use Rattle.rules.specs.Cases.{left, table, store, inserting, loaded, finding, isFound, allFound, wayTo, entriesAt, kindAt, named, childrenAt, needed, unused, forty, synced40, synced41, reopened, split41, pages04, page0, page1, pages23, allPages, recalled, restored, numbered, Case1, Case2, Case3, Case4, Case5, Before6, Case6, Case7, Case8, Case9, Case11, Recall, Cases}
 
 case2 : Case2
 unfolding rules
@@ -141,6 +141,12 @@ record Five : Type 0 where
   opened9 : ℕ
   held9 : Bool
   missing9 : ℕ
+  answerR : ℕ
+  lowerR : ℕ
+  totalR : ℕ
+  missingR : ℕ
+  openedR : ℕ
+  foundR : Bool
 
 five : _≡_ {A = Five} (record {
   answer5 = insertedNo (split41 .answer);
@@ -168,6 +174,12 @@ five : _≡_ {A = Five} (record {
   opened9 = openedNo (reopened allPages .answer);
   held9 = allFound (left (reopened allPages)) 1 41;
   missing9 = lookedNo (finding (left (reopened allPages)) 42 .answer);
+  answerR = withdrawnNo (recalled .answer);
+  lowerR = entriesAt (left recalled) 2;
+  totalR = recalled .session .total;
+  missingR = lookedNo (finding (left recalled) 1 .answer);
+  openedR = openedNo (restored .answer);
+  foundR = isFound 901 (finding (left restored) 1 .answer);
 }) (record {
   answer5 = 0;
   lower5 = 20;
@@ -194,8 +206,14 @@ five : _≡_ {A = Five} (record {
   opened9 = 0;
   held9 = true;
   missing9 = 4;
+  answerR = 0;
+  lowerR = 19;
+  totalR = 40;
+  missingR = 4;
+  openedR = 0;
+  foundR = true;
 })
-unfolding rules table store inserting loaded finding isFound allFound forty synced40 synced41 reopened split41 entriesAt kindAt named childrenAt pages04 page0 pages23 allPages
+unfolding rules table store inserting loaded finding isFound allFound forty synced40 synced41 reopened split41 entriesAt kindAt named childrenAt pages04 page0 page1 pages23 allPages recalled restored
 five = refl
 
 case5 : Case5
@@ -246,6 +264,16 @@ case9 = record {
   missing = ap (λ (r : Five). r .missing9) five;
 }
 
+recall : Recall
+recall = record {
+  answer = ap (λ (r : Five). r .answerR) five;
+  lower = ap (λ (r : Five). r .lowerR) five;
+  total = ap (λ (r : Five). r .totalR) five;
+  missing = ap (λ (r : Five). r .missingR) five;
+  opened = ap (λ (r : Five). r .openedR) five;
+  found = ap (λ (r : Five). r .foundR) five;
+}
+
 case11 : Case11
 unfolding rules table numbered
 case11 = record { opens = refl; spent = refl }
@@ -263,4 +291,5 @@ cases = record {
   case8 = case8;
   case9 = case9;
   case11 = case11;
+  recall = recall;
 }

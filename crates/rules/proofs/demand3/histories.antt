@@ -4,4 +4,7 @@ pub mod Fates
 pub mod Survivals
 pub mod Ended
 pub mod Servings
+pub mod Gained
+pub mod Changes
 pub mod Histories
+pub mod Kept

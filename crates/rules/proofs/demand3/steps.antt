@@ -18,6 +18,9 @@ pub mod HalveBytes
 pub mod GrowBytes
 pub mod Stands
 pub mod SplitWay
+pub mod Restate
 pub mod PutIn
+pub mod TakeOut
 pub mod Plans
 pub mod Inserts
+pub mod Withdraws

@@ -19,11 +19,12 @@ use Rattle.rules.specs.Table.{read}
 use Rattle.rules.specs.Sound.{sound}
 use Rattle.rules.specs.Place.{kindAsked, trial, firstFailed, unfit, isNone, fits, mendable, cutView, mended, show}
 use Rattle.rules.specs.Insert.{putCert}
+use Rattle.rules.specs.Withdraw.{withoutCert}
 use Rattle.rules.specs.declared.Place.{Place}
 use Rattle.rules.specs.declared.Reason.{Reason}
 use Rattle.rules.proofs.entries.Tests.{or-cases, or-left, or-right, fails, every-true, every-of, between-low, between-high, between-of, or-other, or-of}
 use Rattle.rules.proofs.entries.Views.{Shaped, shaped-read, shaped-cut}
-use Rattle.rules.proofs.entries.Sounds.{Sound, sound-true, sound-of, sound-same, sound-cut, sound-putCert}
+use Rattle.rules.proofs.entries.Sounds.{Sound, sound-true, sound-of, sound-same, sound-cut, sound-putCert, sound-withoutCert}
 
 -- ── The kind asked for ──────────────────────────────────────────────────────────────────────────────────────────
 
@@ -133,6 +134,10 @@ pub putCert-fits : {n : ℕ} {e : Place} {p : Page} (c : ℕ) (x : Cert) → len
     → e .low ≤ x .key → x .key ≤ e .high → Fits n e p → Fits n e (touch c (putCert x (p .view)) p)
 unfolding putCert
 putCert-fits {p = p} c x r g l h f = fits-touch c (putCert x (p .view)) refl (sound-putCert x r g l h (f .sound)) f
+
+pub withoutCert-fits : {n : ℕ} {e : Place} {p : Page} (c k : ℕ) → Fits n e p → Fits n e (touch c (withoutCert k (p .view)) p)
+unfolding withoutCert
+withoutCert-fits {p = p} c k f = fits-touch c (withoutCert k (p .view)) refl (sound-withoutCert k (f .sound)) f
 
 -- ── Mendable, and mended ────────────────────────────────────────────────────────────────────────────────────────
 

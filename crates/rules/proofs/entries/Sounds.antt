@@ -16,10 +16,12 @@ use Rattle.rules.specs.Page.{View, Page, isLeaf}
 use Rattle.rules.specs.Sound.{startsAt, namesPages, inOrder, sound}
 use Rattle.rules.specs.Place.{cutView}
 use Rattle.rules.specs.Insert.{putCert, putChild}
+use Rattle.rules.specs.Withdraw.{withoutCert}
 use Rattle.rules.proofs.entries.Tests.{and-left, and-right, and-of, not-both, every-true, every-of, between-low, between-high, between-of, mem-head, or-other, or-of}
 use Rattle.rules.proofs.entries.Entries.{all-cut, length-cut, cut-rising, cut-within, cut-first}
 use Rattle.rules.proofs.entries.Views.{cutView-all}
 use Rattle.rules.proofs.entries.Puts.{put-over, put-behind, put-rising, put-within, all-put, length-put-le}
+use Rattle.rules.proofs.entries.Withouts.{without-rising, without-within, all-without, length-without-le}
 
 pub record Sound (n low high : ℕ) (v : View) : Type 0 where
   pub kind-from : leafKind ≤ v .kind
@@ -189,6 +191,23 @@ sound-putCert {low = low} {high} {v} x r g p q s = record {
   children-rise = s .children-rise;
   children-within = s .children-within;
   good = all-put (λ x. goodKey (x .key)) x (v .certs) g (s .good);
+  starts = s .starts;
+  names = s .names;
+}
+
+pub sound-withoutCert : {n low high : ℕ} {v : View} (k : ℕ) → Sound n low high v → Sound n low high (withoutCert k v)
+unfolding withoutCert isLeaf
+sound-withoutCert {low = low} {high} {v} k s = record {
+  kind-from = s .kind-from;
+  kind-to = s .kind-to;
+  certs-room = omega (arith, length-without-le k (v .certs), s .certs-room);
+  children-room = s .children-room;
+  range = s .range;
+  certs-rise = without-rising k (v .certs) (s .certs-rise);
+  certs-within = without-within (between low high) k (v .certs) (s .certs-within);
+  children-rise = s .children-rise;
+  children-within = s .children-within;
+  good = all-without (λ x. goodKey (x .key)) k (v .certs) (s .good);
   starts = s .starts;
   names = s .names;
 }

@@ -15,6 +15,7 @@ use Rattle.rules.specs.Page.{View, isLeaf, viewIn, pageIn}
 use Rattle.rules.specs.Table.{read, pageAt}
 use Rattle.rules.specs.Place.{cutView}
 use Rattle.rules.specs.Insert.{putCert, putChild, lowerHalf, upperHalf}
+use Rattle.rules.specs.Withdraw.{withoutCert}
 use Rattle.rules.proofs.entries.Tests.{not-both}
 use Rattle.rules.proofs.entries.Entries.{cut-nil, cut-cut, cut-all}
 
@@ -89,6 +90,10 @@ shaped-upper v s = record {
 pub shaped-putCert : (x : Cert) (v : View) → isLeaf v ≡ true → Shaped v → Shaped (putCert x v)
 unfolding putCert isLeaf
 shaped-putCert x v l s = record { leaf = λ h. s .leaf h; inner = λ h. absurd (not-both l h) }
+
+pub shaped-withoutCert : (k : ℕ) (v : View) → isLeaf v ≡ true → Shaped v → Shaped (withoutCert k v)
+unfolding withoutCert isLeaf
+shaped-withoutCert k v l s = record { leaf = λ h. s .leaf h; inner = λ h. absurd (not-both l h) }
 
 pub shaped-putChild : (x : Child) (v : View) → isLeaf v ≡ false → Shaped v → Shaped (putChild x v)
 unfolding putChild isLeaf

@@ -15,16 +15,18 @@ use Rattle.rules.specs.Marks.{nobody}
 use Rattle.rules.specs.Call.{Left, lengthsFor, openedNo}
 use Rattle.rules.specs.Open.{opening, openRefused}
 use Rattle.rules.specs.Insert.{insert, insertRefused}
+use Rattle.rules.specs.Withdraw.{withdraw, withdrawRefused}
 use Rattle.rules.specs.Lookup.{lookup, lookupLeft}
 use Rattle.rules.specs.Newest.{newest, newestLeft}
 use Rattle.rules.specs.HasAny.{hasAny, anyLeft}
 use Rattle.rules.specs.List.{ListLeft, list, listRefused}
 use Rattle.rules.specs.Sync.{sync, syncRefused}
 use Rattle.rules.specs.Crash.{crashed, insideSync}
-use Rattle.rules.specs.History.{Event, inserts, looks, asksNewest, asksAny, lists, syncs, opens, crashes, crashesInSync, State, afterInsert, afterSync, afterOpen, afterReading, step, Proper}
+use Rattle.rules.specs.History.{Event, inserts, withdraws, looks, asksNewest, asksAny, lists, syncs, opens, crashes, crashesInSync, State, afterInsert, afterWithdraw, afterSync, afterOpen, afterReading, step, Proper}
 use Rattle.rules.specs.Demand.{CrashOf, betweenCalls, inSync, openAnswer, Survives}
 use Rattle.rules.specs.declared.Opened.{Opened}
 use Rattle.rules.specs.declared.Inserted.{Inserted}
+use Rattle.rules.specs.declared.Withdrawn.{Withdrawn}
 use Rattle.rules.specs.declared.Looked.{Looked}
 use Rattle.rules.specs.declared.Newest.{Newest}
 use Rattle.rules.specs.declared.Any.{Any}
@@ -65,6 +67,12 @@ module _ {n : ℕ} {m : State} (o : Over n m) where
       ≡ insertRefused Inserted.Length (m .session) (m .working) (m .stable)
   unfolding insert
   inserting model serial issue x = rw (refused, insert)
+
+  withdrawing : (model serial issue : ℕ)
+      → withdraw (m .working) (m .stable) (m .session) model serial issue
+      ≡ withdrawRefused Withdrawn.Length (m .session) (m .working) (m .stable)
+  unfolding withdraw
+  withdrawing model serial issue = rw (refused, withdraw)
 
   looking : (model serial issue : ℕ)
       → lookup (m .working) (m .stable) (m .session) model serial issue ≡ lookupLeft (m .session) (m .working) (m .stable) Looked.Length
@@ -126,7 +134,8 @@ module _ {n : ℕ} {m : State} (o : Over n m) where
     over-survives = record {
       opens = λ t c. subst (λ (u : List ℕ). opening w u .answer ≡ openAnswer u) (sym (crash-stays c)) answers;
       shows = λ t c d k b. absurd (not-done (crash-stays c) d);
-      keeps = λ t c d k y b e. absurd (not-done (crash-stays c) d);
+      stays = λ t c d k o b e. absurd (not-done (crash-stays c) d);
+      keeps = λ t c d k y b e q. absurd (not-done (crash-stays c) d);
       nothing-written = λ d k b. absurd (never-done d);
       all-written = λ t q d k b. absurd (not-done (q ∙ crashed-stays _ (m .working)) d);
       all-written-in-sync = λ t q d k b. absurd (not-done (q ∙ crashed-stays _ (insideSync (m .session) (m .working))) d);
@@ -135,9 +144,11 @@ module _ {n : ℕ} {m : State} (o : Over n m) where
   -- ── Any event ─────────────────────────────────────────────────────────────────────────────────────────────────
 
   pub over-step : (e : Event) → Proper n e → Over n (step e m)
-  unfolding Proper step afterReading afterInsert afterSync insertRefused lookupLeft newestLeft anyLeft listRefused syncRefused
+  unfolding Proper step afterReading afterInsert afterWithdraw afterSync insertRefused withdrawRefused lookupLeft newestLeft anyLeft listRefused syncRefused
   over-step (inserts model serial issue x) p =
       subst (λ (r : Left Inserted). Over n (afterInsert (keyOf model serial issue) x m r)) (sym (inserting model serial issue x)) o
+  over-step (withdraws model serial issue) p =
+      subst (λ (r : Left Withdrawn). Over n (afterWithdraw (keyOf model serial issue) m r)) (sym (withdrawing model serial issue)) o
   over-step (looks model serial issue) p =
       subst (λ (r : Left Looked). Over n (afterReading m (r .session) (r .working) (r .stable))) (sym (looking model serial issue)) o
   over-step (asksNewest model serial) p =

@@ -18,12 +18,12 @@ use Rattle.rules.specs.declared.Opened.{Opened}
 use Rattle.rules.specs.declared.Session.{Session}
 use Rattle.rules.proofs.demand3.ways.Ways.{Tells}
 use Rattle.rules.proofs.demand3.ways.Invariant.{Good, States}
-use Rattle.rules.proofs.demand3.ways.Nodes.{node-range, tells}
+use Rattle.rules.proofs.demand3.ways.Nodes.{tells}
 use Rattle.rules.proofs.demand3.epochs.Epochs.{widen, alike-tells, working-good}
 use Rattle.rules.proofs.demand3.epochs.Crashes.{alike-setNumber}
 use Rattle.rules.proofs.demand3.epochs.Store.{Whole, Safe}
 use Rattle.rules.proofs.demand3.epochs.Openings.{raise, done}
-use Rattle.rules.proofs.demand3.steps.Mended.{Steady, node-last, steady-tells}
+use Rattle.rules.proofs.demand3.steps.Mended.{Steady, tells-bound, steady-tells}
 use Rattle.rules.proofs.demand3.reads.Looks.{content-told}
 use Rattle.rules.proofs.demand3.reads.Totals.{certsIn, few-certs, same-certs}
 use Rattle.rules.proofs.demand3.histories.Pasts.{oneOf-only, Settled, one}
@@ -69,14 +69,15 @@ safe-widen {s} {W} {S} {Been} More f x = record {
   marks = x .marks;
 }
 
-pub tells-bound : {n : ℕ} {t : List ℕ} {k : ℕ} {o : Option ℕ} → Tells n t k o → k ≤ lastKey
-tells-bound x = omega (arith, node-range (x .node) .1, node-last (x .node))
-
 -- ── As many as the tree has ─────────────────────────────────────────────────────────────────────────────────────
 
 -- no store has so many certificates that their number wraps
 pub wraps-few : {i : ℕ} → i ≤ 37240 → wraps i ≡ i
 wraps-few h = mod-eq-of-lt (omega arith)
+
+-- one less than one more
+pub wraps-back : {i : ℕ} → i ≤ 37240 → wraps (i + 1 + 4294967295) ≡ i
+wraps-back h = omega arith
 
 -- ── A new epoch ─────────────────────────────────────────────────────────────────────────────────────────────────
 

@@ -5,15 +5,17 @@ use mathlib.Core.Path.{_≡_, refl, sym, ap, _∙_, subst}
 use mathlib.Core.List.{List}
 use lib.ListN.{length}
 use Rattle.rules.specs.Insert.{insert}
+use Rattle.rules.specs.Withdraw.{withdraw}
 use Rattle.rules.specs.Lookup.{lookup}
 use Rattle.rules.specs.Newest.{newest}
 use Rattle.rules.specs.HasAny.{hasAny}
 use Rattle.rules.specs.List.{list}
 use Rattle.rules.specs.History.{Event, looks, asksNewest, asksAny, lists, State, latest, afterReading, step}
-use Rattle.rules.specs.Demand.{OneOf, lookupNow, newestNow, hasAnyNow, listNow, insertNow, Reads, look, ask, askAny, listing, SameListing, Serves}
+use Rattle.rules.specs.Demand.{OneOf, lookupNow, newestNow, hasAnyNow, listNow, insertNow, withdrawNow, Reads, look, ask, askAny, listing, SameListing, Serves}
 use Rattle.rules.specs.declared.Listed.{Listed}
 use Rattle.rules.specs.declared.Session.{Session}
 use Rattle.rules.proofs.demand1.Refusals.{lookup-mends, newest-mends, any-mends, list-mends}
+use Rattle.rules.proofs.demand1.Withdrawals.{withdrawnAs, withdraw-as}
 use Rattle.rules.proofs.demand3.reads.Enters.{Calm, calm}
 use Rattle.rules.proofs.demand3.reads.Looks.{lookup-calm, never-lost, lookup-same, content-told}
 use Rattle.rules.proofs.demand3.reads.Lists.{newest-answers, list-answers, never-damaged, never-refused, newest-same, list-same}
@@ -91,4 +93,9 @@ module _ {n : ℕ} {m : State} (a : Alive n m) where
     insert-stays = λ e r model serial issue x.
         later e r (λ w t s. insert w t s model serial issue x .answer ≡ insertNow m model serial issue x .answer)
         (insert-same (a .safe) (reading e r .left) model serial issue x);
+    withdraw-stays = λ e r model serial issue.
+        later e r (λ w t s. withdraw w t s model serial issue .answer ≡ withdrawNow m model serial issue .answer)
+        (withdraw-as (step e m .working) (m .stable) (m .session) model serial issue
+        ∙ ap withdrawnAs (lookup-same (a .safe) (reading e r .left) model serial issue)
+        ∙ sym (withdraw-as (m .working) (m .stable) (m .session) model serial issue));
   }

@@ -27,7 +27,7 @@ use Rattle.rules.proofs.demand3.epochs.Openings.{raise, done}
 use Rattle.rules.proofs.demand3.epochs.Recoveries.{left-whole, left-good, recovery-done, recovery-spent, recovery-safe, recovery-told, recovery-none, recovery-all}
 use Rattle.rules.proofs.demand3.epochs.Syncs.{numbered-alike, numbered-whole, numbered-number}
 use Rattle.rules.proofs.demand3.reads.Looks.{content-told}
-use Rattle.rules.proofs.demand3.histories.Pasts.{settled-keeps}
+use Rattle.rules.proofs.demand3.histories.Pasts.{only-oneOf, settled-keeps}
 use Rattle.rules.proofs.demand3.histories.Fates.{Alive, Fate, alive, over, alive-done, over-refused}
 
 -- ── The answers of an opening ───────────────────────────────────────────────────────────────────────────────────
@@ -242,8 +242,9 @@ module _ {n : ℕ} {m : State} (a : Alive n m) where
     alive-survives = record {
       opens = λ t c. opens-answer lent sized (crash-written c);
       shows = λ t c d k h. shows lent sized (crash-written c) d k h;
-      keeps = λ t c d k y h e.
-          settled-keeps (m .past k) y (after lent t k) (a .settled k) e (shows lent sized (crash-written c) d k h);
+      stays = λ t c d k o h e. only-oneOf (subst (OneOf (after lent t k)) e (shows lent sized (crash-written c) d k h));
+      keeps = λ t c d k y h e q.
+          settled-keeps (m .past k) y (after lent t k) (a .settled k) e q (shows lent sized (crash-written c) d k h);
       nothing-written = nothing;
       all-written = λ t q. everything t (q ∙ crashed-is (replicate mostPages true) (m .working));
       all-written-in-sync = everything-in-sync;

@@ -1,9 +1,9 @@
 -- How many certificates a tree has: few in any table; in good tables as many as there are keys with a record, so the same
--- where two tables tell the same, and one more where a key more has one; and a list from key 0 shows them all.
+-- where two tables tell the same, one more where a key more has one and one less where a key less has; and a list from key 0 shows them all.
 use Prim.Native.Nat.{ℕ, suc, _+_, _*_, _-_, _≤_, min}
 use native.Mathlib.Nat.{mul-le-mul-right}
 use native.Mathlib.Omega.{arith}
-use mathlib.Core.Path.{_≡_, refl, sym, ap, _∙_}
+use mathlib.Core.Path.{_≡_, refl, sym, ap, _∙_, subst}
 use mathlib.Core.Logic.{_⊎_, inl, inr, _≢_}
 use mathlib.Core.Bool.{Bool, true, false}
 use mathlib.Core.List.{List, [], _∷_, _++_}
@@ -29,10 +29,11 @@ use Rattle.rules.proofs.entries.Puts.{mem-put-same, mem-put, mem-put-ca
 use Rattle.rules.proofs.entries.Places.{Shown, fitting, lost, show-some}
 use Rattle.rules.proofs.demand3.ways.Ways.{Tells}
 use Rattle.rules.proofs.demand3.ways.Invariant.{Good, States}
-use Rattle.rules.proofs.demand3.ways.Nodes.{tells}
+use Rattle.rules.proofs.demand3.ways.Nodes.{tells, tells-one}
 use Rattle.rules.proofs.demand3.epochs.Epochs.{working-good}
 use Rattle.rules.proofs.demand3.epochs.Opens.{tree-shown}
 use Rattle.rules.proofs.demand3.epochs.Store.{Safe}
+use Rattle.rules.proofs.demand3.steps.Mended.{tells-bound}
 use Rattle.rules.proofs.demand3.reads.Enters.{calm}
 use Rattle.rules.proofs.demand3.reads.TreeCerts.{each-nil, each-cons, all-ordered, tree-tells}
 use Rattle.rules.proofs.demand3.reads.Lists.{list-answers}
@@ -156,6 +157,16 @@ module _ {n : ℕ} {t u : List ℕ} (g : Good n t) (h : Good n u) where
           length-among (keys (put entry xs)) (keys ys) (put-rising entry xs (all-ordered g .rise)) (all-ordered h .rise) put-in,
           length-among (keys ys) (keys (put entry xs)) (all-ordered h .rise) (put-rising entry xs (all-ordered g .rise)) put-out,
         )
+
+-- a key that had a record has none
+pub one-less : {n : ℕ} {t u : List ℕ} → Good n t → Good n u → (k x : ℕ) → Tells n t k (some x) → Tells n u k none
+    → ((j : ℕ) (a : Option ℕ) → j ≢ k → Tells n t j a → Tells n u j a) → certsIn n t ≡ certsIn n u + 1
+one-less {n} {t} {u} g h k x present own others = one-more h g k x own present back
+  where
+    back : (j : ℕ) (a : Option ℕ) → j ≢ k → Tells n u j a → Tells n t j a
+    back j a d z =
+        let o = tells g j (tells-bound z) in
+        subst (Tells n t j) (tells-one (others j (o .0) d (o .1)) z) (o .1)
 
 -- ── As many as are listed ───────────────────────────────────────────────────────────────────────────────────────
 

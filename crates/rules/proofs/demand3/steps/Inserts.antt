@@ -1,6 +1,6 @@
 -- Insert keeps the store safe. It answers present exactly where something is told of the key; refused, it leaves what its walk
 -- has mended; done, the key has had one state more, and the table tells it.
-use Prim.Native.Nat.{ℕ, _^_, _≤_, _<_}
+use Prim.Native.Nat.{ℕ, _+_, _^_, _≤_, _<_}
 use native.Mathlib.Omega.{arith}
 use mathlib.Core.Path.{_≡_, refl, sym, _∙_, subst}
 use mathlib.Core.Logic.{_≢_}
@@ -14,7 +14,7 @@ use Rattle.rules.specs.Key.{keyOf, goodParts, goodKey}
 use Rattle.rules.specs.Entry.{find}
 use Rattle.rules.specs.Table.{read, fit0}
 use Rattle.rules.specs.Walk.{Step, Way, numbers, certsAt, wayOf}
-use Rattle.rules.specs.Marks.{counted, freePages}
+use Rattle.rules.specs.Marks.{wraps, counted, freePages}
 use Rattle.rules.specs.Call.{Left, lengthsFor}
 use Rattle.rules.specs.Insert.{splitting, tooSoon, noRoom, putCert, changed, Making, making, split, insertRefused, insertDone, insertAlong, insertKey, insert}
 use Rattle.rules.specs.declared.Place.{Place}
@@ -32,11 +32,12 @@ use Rattle.rules.proofs.demand3.epochs.Store.{freeMark, Safe}
 use Rattle.rules.proofs.demand3.epochs.Syncs.{lengths-for}
 use Rattle.rules.proofs.demand3.steps.Mended.{Steady, steady-tells, steady-told}
 use Rattle.rules.proofs.demand3.steps.Paths.{From, Path, at-shows, Descends, way-descends, way-tells}
-use Rattle.rules.proofs.demand3.steps.Keeps.{Keeps, keeps-of, keeps-counted, safe-of}
+use Rattle.rules.proofs.demand3.steps.Keeps.{Keeps, keeps-of, keeps-totalling, safe-of}
 use Rattle.rules.proofs.demand3.steps.Unmarked.{unmarked, split-unmarked}
 use Rattle.rules.proofs.demand3.steps.Stands.{Stands}
 use Rattle.rules.proofs.demand3.steps.SplitWay.{split-stands}
-use Rattle.rules.proofs.demand3.steps.PutIn.{Also, put-keeps, put-tells-own, put-tells-other}
+use Rattle.rules.proofs.demand3.steps.Restate.{Also, Restates, restate-keeps, restate-own, restate-other}
+use Rattle.rules.proofs.demand3.steps.PutIn.{with-cert, put-restates}
 use Rattle.rules.proofs.demand3.steps.Plans.{Low, plan}
 
 -- ── What a call leaves ──────────────────────────────────────────────────────────────────────────────────────────
@@ -56,7 +57,7 @@ pub record Added (s : Session) (W S : List ℕ) (Been : States) (k x : ℕ) (r :
   pub counter : r .session .c ≡ s .c
   -- there is one certificate more
   pub unmarked : unmarked (r .session) ≡ unmarked (counted s)
-  pub safe : Safe (r .session) (r .working) S (Also Been k x)
+  pub safe : Safe (r .session) (r .working) S (Also Been k (some x))
   pub absent : Tells (s .n) W k none
   pub own : Tells (s .n) (r .working) k (some x)
   pub others : (j : ℕ) (a : Option ℕ) → j ≢ k → Tells (s .n) W j a → Tells (s .n) (r .working) j a
@@ -139,7 +140,7 @@ module _ {s : Session} {W S : List ℕ} {Been : States} (X : Safe s W S Been) (k
   n = s .n
 
   keeps : Keeps n (s .c) (counted s) (way .table) S Been
-  keeps = keeps-counted (keeps-of (D .safe))
+  keeps = keeps-totalling (wraps (s .total + 1)) (keeps-of (D .safe))
 
   leaf-tells : (a : Option ℕ) → find k (certsAt steps) ≡ a → Tells n W k a
   unfolding steps
@@ -178,6 +179,11 @@ module _ {s : Session} {W S : List ℕ} {Been : States} (X : Safe s W S Been) (k
     put-here F h =
         subst (λ (i : ℕ). F (changed (s .c) (putCert (record { key = k; value = x })) (made .table) i)) (standing .number) h
 
+    restates : Restates n (s .c) (made .table)
+        (changed (s .c) (putCert (record { key = k; value = x })) (made .table) (standing .place .child)) k (some x) (standing .place)
+        (with-cert (standing .keeps) (standing .node) (standing .found) leaf roomy good x small)
+    restates = put-restates (standing .keeps) (standing .node) (standing .found) leaf roomy good x small
+
     done : find k (certsAt steps) ≡ none → Added s W S Been k x (insertDone k x (counted s) steps (way .table) S)
     unfolding insertDone freePages made result
     done f = record {
@@ -186,14 +192,11 @@ module _ {s : Session} {W S : List ℕ} {Been : States} (X : Safe s W S Been) (k
       pages = standing .keeps .pages;
       counter = standing .keeps .counter;
       unmarked = split-unmarked (s .c) k steps new (making (way .table) (counted s) 0);
-      safe = put-here (λ t. Safe (made .session) t S (Also Been k x))
-          (safe-of (put-keeps (standing .keeps) (standing .node) (standing .found) leaf roomy good x small));
+      safe = put-here (λ t. Safe (made .session) t S (Also Been k (some x))) (safe-of (restate-keeps (standing .keeps) restates));
       absent = leaf-tells none f;
-      own = put-here (λ t. Tells n t k (some x))
-          (put-tells-own (standing .keeps) (standing .node) (standing .found) leaf roomy good x small);
+      own = put-here (λ t. Tells n t k (some x)) (restate-own (standing .keeps) restates);
       others = λ j a d t. put-here (λ u. Tells n u j a)
-          (put-tells-other (standing .keeps) (standing .node) (standing .found) leaf roomy good x small j a d
-          (standing .tells j a (steady-tells (D .steady) t)));
+          (restate-other (standing .keeps) restates j a d (standing .tells j a (steady-tells (D .steady) t)));
     }
 
   along : Inserts s W S Been k x (insertAlong k x s steps (way .table) S)

@@ -10,7 +10,7 @@ use Rattle.rules.specs.Layout.{fewestPages, mostPages, lastNumber, inner
 use Rattle.rules.specs.Table.{number0}
 use Rattle.rules.specs.Page.{View, isLeaf, count}
 use Rattle.rules.specs.Walk.{Step}
-use Rattle.rules.specs.Marks.{counted}
+use Rattle.rules.specs.Marks.{totalling}
 use Rattle.rules.specs.Insert.{previousOf, newChild, putChild, twins, rootOver}
 use Rattle.rules.specs.declared.Session.{Session}
 use Rattle.rules.proofs.bytes.All.{nil, cons}
@@ -71,8 +71,9 @@ safe-of {n} {c} {s} {W} {S} {Been} x = record {
 }
 
 -- how many certificates are counted has no say
-pub keeps-counted : {n c : ℕ} {s : Session} {W S : List ℕ} {Been : States} → Keeps n c s W S Been → Keeps n c (counted s) W S Been
-keeps-counted x = record {
+pub keeps-totalling : {n c : ℕ} {s : Session} {W S : List ℕ} {Been : States} (total : ℕ) → Keeps n c s W S Been
+    → Keeps n c (totalling total s) W S Been
+keeps-totalling total x = record {
   pages = x .pages;
   counter = x .counter;
   sized = record { free = x .sized .free; waiting = x .sized .waiting };

@@ -93,6 +93,9 @@ node-last {n} {t} {k} {e} x = go e (x .depth) (x .here)
         let a = above n t k i e h in
         omega (arith, kid-within n t (a .parent) (a .view) (a .shows) k e (a .picks) .1, go (a .parent) i (a .stands))
 
+pub tells-bound : {n : ℕ} {t : List ℕ} {k : ℕ} {o : Option ℕ} → Tells n t k o → k ≤ lastKey
+tells-bound x = omega (arith, node-range (x .node) .1, node-last (x .node))
+
 pub node-birth : {n : ℕ} {S W : List ℕ} {c : ℕ} {Been : States} {k : ℕ} {e : Place} → Inv n S W c Been → Node n W k e → e .birth ≤ c
 node-birth {n} {S} {W} {c} {Been} {k} {e} I x = go (I .node x)
   where

@@ -9,14 +9,14 @@ use mathlib.Core.List.{List}
 use lib.Dec.{eqb, ltb}
 use lib.ListN.{length}
 use borrow.Author.Tests.{lt-ltb}
-use Rattle.rules.specs.Layout.{pageSize, fewestPages, mostPages, zeroKind, lastKey}
+use Rattle.rules.specs.Layout.{pageSize, fewestPages, mostPages, zeroKind, leafRoom, lastKey}
 use Rattle.rules.specs.Test.{between}
-use Rattle.rules.specs.Page.{Page}
-use Rattle.rules.specs.Table.{read, build, change, number0, fit0, setRoot}
+use Rattle.rules.specs.Page.{Page, isLeaf}
+use Rattle.rules.specs.Table.{read, build, change, shrink, number0, fit0, setRoot}
 use Rattle.rules.specs.Place.{rootPlace}
-use Rattle.rules.proofs.bytes.Pages.{Wide, room-pageBytes}
-use Rattle.rules.proofs.bytes.Tables.{Has, Room, has-page, length-build, read-build-same, read-build-other, bytes-build, length-change, read-change-same, read-change-other, bytes-change}
-use Rattle.rules.proofs.bytes.PageZero.{Same0, rootPlace-same, fit0-same, same0-build, same0-change, length-setRoot, bytes-setRoot, kind0-setRoot, n0-setRoot, root0-setRoot, previous0-setRoot, number0-setRoot, rootPlace-setRoot, read-setRoot}
+use Rattle.rules.proofs.bytes.Pages.{Wide, length-leafHeader, length-pageBytes, room-pageBytes}
+use Rattle.rules.proofs.bytes.Tables.{Has, Room, has-page, length-build, read-build-same, read-build-other, bytes-build, length-change, read-change-same, read-change-other, bytes-change, Spare, length-shrink, read-shrink-same, read-shrink-other, bytes-shrink}
+use Rattle.rules.proofs.bytes.PageZero.{Same0, rootPlace-same, fit0-same, same0-build, same0-change, same0-shrink, length-setRoot, bytes-setRoot, kind0-setRoot, n0-setRoot, root0-setRoot, previous0-setRoot, number0-setRoot, rootPlace-setRoot, read-setRoot}
 use Rattle.rules.proofs.entries.Tests.{every-true, every-of, between-of}
 use Rattle.rules.proofs.entries.Sounds.{Sound}
 use Rattle.rules.proofs.demand3.epochs.Store.{Whole}
@@ -24,6 +24,10 @@ use Rattle.rules.proofs.demand3.epochs.Store.{Whole}
 -- a sound page has room for its bytes
 pub room-of : {n low high : ℕ} {p : Page} → Wide p → Sound n low high (p .view) → Room p
 room-of {p = p} w s = room-pageBytes p (w .view .shaped) (s .certs-room) (s .children-room)
+
+-- a leaf that is not full has room for one certificate more
+pub spare-of : {p : Page} → Wide p → isLeaf (p .view) ≡ true → length (p .view .certs) < leafRoom → Spare p
+spare-of {p} w l h = omega (arith, length-pageBytes p, length-leafHeader p l, ap length (w .view .shaped .leaf l))
 
 -- u is t but for page i, which is p
 pub record Writes (n : ℕ) (t u : List ℕ) (i : ℕ) (p : Page) : Type 0 where
@@ -66,6 +70,22 @@ module _ {n : ℕ} {t : List ℕ} {i : ℕ} {p : Page} (h : Whole n t) (from : 1
         root = rootPlace-same z;
         number = z .number;
       }
+
+pub shrink-writes : {n : ℕ} {t : List ℕ} {i : ℕ} {p : Page} → Whole n t → 1 ≤ i → i < n → Wide p → Spare p → Writes n t (shrink t i p) i p
+shrink-writes {n} {t} {i} {p} h from below w r =
+    let has : Has t i = has-page t n i (h .length-is) below in
+    let z : Same0 (shrink t i p) t = same0-shrink t i has from p r in
+    record {
+      whole = record {
+        length-is = length-shrink t i p has r ∙ h .length-is;
+        bytes = bytes-shrink t i p (h .bytes);
+        fit = fit0-same z n ∙ h .fit;
+      };
+      here = read-shrink-same t i p has r w;
+      others = λ j d. read-shrink-other t i p has r j d;
+      root = rootPlace-same z;
+      number = z .number;
+    }
 
 -- ── Page 0 names another root ───────────────────────────────────────────────────────────────────────────────────
 
