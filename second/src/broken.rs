@@ -50,6 +50,8 @@ pub enum Rule {
     LastPlaceZeroed,
     /// A leaf without entries stays in the tree.
     EmptyLeafStays,
+    /// A call that only reads leaves a page that fits as it is.
+    FittingLeft,
 }
 
 /// Those on which demand 3 rests.
@@ -71,7 +73,7 @@ pub const RULES: [Rule; 14] = [
 ];
 
 /// Those that came with document 02.
-pub const LATER: [Rule; 9] = [
+pub const LATER: &[Rule] = &[
     Rule::FinalIssues,
     Rule::ReasonOrder,
     Rule::RefusedReports,
@@ -81,6 +83,7 @@ pub const LATER: [Rule; 9] = [
     Rule::WithdrawTouches,
     Rule::LastPlaceZeroed,
     Rule::EmptyLeafStays,
+    Rule::FittingLeft,
 ];
 
 /// Whether this run breaks the rule.

@@ -5,7 +5,7 @@ use crate::broken::{broken, Rule};
 use crate::key::{key, whole};
 use crate::layout::{INNER_CAP, KIND_TOP, LEAF_CAP};
 use crate::page::{self, Header, LeafEntry};
-use crate::report::Report;
+use crate::report::Mends;
 use crate::session::Session;
 use crate::split::split;
 use crate::walk::{begin, descend};
@@ -15,7 +15,7 @@ use crate::way::Way;
 #[derive(Clone, Copy, PartialEq, Eq, Debug)]
 pub struct Changed {
     pub answer: u32,
-    pub report: Report,
+    pub mends: Mends,
     pub session: Session,
 }
 
@@ -29,10 +29,10 @@ pub fn insert(
     record: u32,
 ) -> Changed {
     let key = key(model, serial, issue);
-    let mut report = Report::default();
+    let mut mends = Mends::default();
     let mut answer = begin(working, stable, &session, whole(key));
     if answer == DONE {
-        answer = match descend(working, &session, key, &mut report) {
+        answer = match descend(working, &session, key, &mut mends) {
             Err(_) => DAMAGED,
             Ok(way) => put(working, &mut session, &way, LeafEntry { key, record }),
         };
@@ -46,7 +46,7 @@ pub fn insert(
     }
     Changed {
         answer,
-        report: report.beside(answer),
+        mends: mends.beside(answer),
         session,
     }
 }

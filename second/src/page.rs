@@ -11,6 +11,9 @@ use std::ops::Range;
 
 pub type Page = [u8; PAGE];
 
+/// A set of page numbers, one bit each.
+pub type PageSet = u128;
+
 /// A page of a table.
 pub fn page(table: &[u8], number: u16) -> &Page {
     let start = usize::from(number) * PAGE;

@@ -5,7 +5,7 @@ use crate::broken::{broken, Rule};
 use crate::key::{issues, key, parts, whole};
 use crate::layout::LAST_FINAL;
 use crate::page::{self, LeafEntry};
-use crate::report::Report;
+use crate::report::Mends;
 use crate::session::Session;
 use crate::walk::{begin, descend, Visit};
 
@@ -13,7 +13,7 @@ use crate::walk::{begin, descend, Visit};
 pub struct Looked {
     pub answer: u32,
     pub record: u32,
-    pub report: Report,
+    pub mends: Mends,
     pub session: Session,
 }
 
@@ -22,7 +22,7 @@ pub struct Newest {
     pub answer: u32,
     pub issue: u16,
     pub record: u32,
-    pub report: Report,
+    pub mends: Mends,
     pub session: Session,
 }
 
@@ -30,7 +30,7 @@ pub struct Newest {
 pub struct HasAny {
     pub answer: u32,
     pub any: bool,
-    pub report: Report,
+    pub mends: Mends,
     pub session: Session,
 }
 
@@ -38,7 +38,7 @@ pub struct HasAny {
 pub struct Listed {
     pub answer: u32,
     pub count: usize,
-    pub report: Report,
+    pub mends: Mends,
     pub session: Session,
 }
 
@@ -51,11 +51,11 @@ pub fn lookup(
     issue: u16,
 ) -> Looked {
     let key = key(model, serial, issue);
-    let mut report = Report::default();
+    let mut mends = Mends::default();
     let mut answer = begin(working, stable, &session, whole(key));
     let mut record = 0;
     if answer == DONE {
-        (answer, record) = match descend(working, &session, key, &mut report) {
+        (answer, record) = match descend(working, &session, key, &mut mends) {
             Err(_) => (DAMAGED, 0),
             Ok(way) => match page::find(page::page(working, way.last().place.child), key) {
                 None => (NONE, 0),
@@ -66,7 +66,7 @@ pub fn lookup(
     Looked {
         answer,
         record,
-        report: report.beside(answer),
+        mends: mends.beside(answer),
         session,
     }
 }
@@ -78,7 +78,7 @@ pub fn newest(
     model: u16,
     serial: u32,
 ) -> Newest {
-    let mut report = Report::default();
+    let mut mends = Mends::default();
     let mut answer = begin(working, stable, &session, model != 0 && serial != 0);
     // Issues above are provisional: their pages are not entered.
     let end = LAST_FINAL + u16::from(broken(Rule::FinalIssues));
@@ -89,7 +89,7 @@ pub fn newest(
             session: &session,
             asked: issues(model, serial, end),
             room: usize::MAX,
-            report: &mut report,
+            mends: &mut mends,
             seen: |entry| last = Some(entry),
         }
         .run();
@@ -104,7 +104,7 @@ pub fn newest(
         answer,
         issue: found.map_or(0, |entry| parts(entry.key).2),
         record: found.map_or(0, |entry| entry.record),
-        report: report.beside(answer),
+        mends: mends.beside(answer),
         session,
     }
 }
@@ -118,7 +118,7 @@ pub fn has_any(
     model: u16,
     serial: u32,
 ) -> HasAny {
-    let mut report = Report::default();
+    let mut mends = Mends::default();
     let mut answer = begin(working, stable, &session, model != 0 && serial != 0);
     let mut any = false;
     if answer == DONE {
@@ -127,7 +127,7 @@ pub fn has_any(
             session: &session,
             asked: issues(model, serial, u16::MAX),
             room: 1,
-            report: &mut report,
+            mends: &mut mends,
             seen: |_| any = true,
         }
         .run();
@@ -138,7 +138,7 @@ pub fn has_any(
     HasAny {
         answer,
         any,
-        report: report.beside(answer),
+        mends: mends.beside(answer),
         session,
     }
 }
@@ -153,7 +153,7 @@ pub fn list(
     keys: &mut [u64],
     records: &mut [u32],
 ) -> Listed {
-    let mut report = Report::default();
+    let mut mends = Mends::default();
     let mut answer = begin(working, stable, &session, true);
     let mut shown = Vec::new();
     if answer == DONE {
@@ -162,7 +162,7 @@ pub fn list(
             session: &session,
             asked: start..=u64::MAX,
             room: keys.len().min(records.len()),
-            report: &mut report,
+            mends: &mut mends,
             seen: |entry| shown.push(entry),
         }
         .run();
@@ -178,7 +178,7 @@ pub fn list(
     Listed {
         answer,
         count: shown.len(),
-        report: report.beside(answer),
+        mends: mends.beside(answer),
         session,
     }
 }

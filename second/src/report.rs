@@ -1,7 +1,8 @@
-//! What a call that walks tells of its mends: how many pages, and why the first of them was lost.
+//! What a call that walks tells of its mends: how many pages, and why the first of them was lost. Which ones is kept for the checks.
 
 use crate::answer::DONE;
 use crate::broken::{broken, Rule};
+use crate::page::PageSet;
 
 /// The tests that a page must pass to fit its entry, in this order. The first that fails says why the page is lost.
 #[derive(Clone, Copy, PartialEq, Eq, Debug)]
@@ -39,6 +40,29 @@ impl Report {
             Report::default()
         } else {
             self
+        }
+    }
+}
+
+/// The mends of a walk: what the call tells of them, and the pages' numbers.
+#[derive(Clone, Copy, PartialEq, Eq, Debug, Default)]
+pub struct Mends {
+    pub report: Report,
+    pub pages: PageSet,
+}
+
+impl Mends {
+    /// This page was mended.
+    pub fn add(&mut self, page: u16, reason: Reason) {
+        self.report.add(reason);
+        self.pages |= 1 << page;
+    }
+
+    /// The mends beside this answer.
+    pub fn beside(self, answer: u32) -> Mends {
+        Mends {
+            report: self.report.beside(answer),
+            ..self
         }
     }
 }

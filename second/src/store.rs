@@ -2,7 +2,8 @@
 
 use crate::key::parts;
 use crate::layout::PAGE;
-use crate::report::Report;
+use crate::page::PageSet;
+use crate::report::{Mends, Report};
 use crate::session::Session;
 use crate::{crash, format, has_any, insert, list, lookup, newest, open, sync, withdraw};
 
@@ -13,9 +14,11 @@ pub struct Store {
     pub session: Session,
     /// What the last call that walks told of its mends.
     pub report: Report,
+    /// The pages that calls have mended since the last opening.
+    pub mended: PageSet,
 }
 
-/// Stores are the same if their tables and sessions are: a report tells of a call.
+/// Stores are the same if their tables and sessions are: reports and mends tell of calls.
 impl PartialEq for Store {
     fn eq(&self, other: &Store) -> bool {
         self.working == other.working
@@ -33,6 +36,7 @@ impl Store {
             stable,
             session,
             report: Report::default(),
+            mended: 0,
         }
     }
 
@@ -48,7 +52,13 @@ impl Store {
     pub fn open(&mut self) -> u32 {
         let (answer, session) = open(&mut self.working, &mut self.stable);
         self.session = session;
+        self.mended = 0;
         answer
+    }
+
+    fn note(&mut self, mends: Mends) {
+        self.report = mends.report;
+        self.mended |= mends.pages;
     }
 
     /// The marked pages reach the stable table, then the store is opened.
@@ -63,7 +73,7 @@ impl Store {
         let session = self.session;
         let inserted = insert(working, &self.stable, session, model, serial, issue, record);
         self.session = inserted.session;
-        self.report = inserted.report;
+        self.note(inserted.mends);
         inserted.answer
     }
 
@@ -72,7 +82,7 @@ impl Store {
         let working = &mut self.working;
         let left = withdraw(working, &self.stable, self.session, model, serial, issue);
         self.session = left.session;
-        self.report = left.report;
+        self.note(left.mends);
         left.answer
     }
 
@@ -81,14 +91,14 @@ impl Store {
         let working = &mut self.working;
         let looked = lookup(working, &self.stable, self.session, model, serial, issue);
         self.session = looked.session;
-        self.report = looked.report;
+        self.note(looked.mends);
         (looked.answer, looked.record)
     }
 
     pub fn newest(&mut self, model: u16, serial: u32) -> (u32, u16, u32) {
         let newest = newest(&mut self.working, &self.stable, self.session, model, serial);
         self.session = newest.session;
-        self.report = newest.report;
+        self.note(newest.mends);
         (newest.answer, newest.issue, newest.record)
     }
 
@@ -96,7 +106,7 @@ impl Store {
         let working = &mut self.working;
         let has = has_any(working, &self.stable, self.session, model, serial);
         self.session = has.session;
-        self.report = has.report;
+        self.note(has.mends);
         (has.answer, has.any)
     }
 
@@ -104,7 +114,7 @@ impl Store {
         let working = &mut self.working;
         let listed = list(working, &self.stable, self.session, start, keys, records);
         self.session = listed.session;
-        self.report = listed.report;
+        self.note(listed.mends);
         (listed.answer, listed.count)
     }
 

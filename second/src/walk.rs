@@ -1,11 +1,12 @@
 //! Walking calls: tests before the walk, entering a place, the way to a key, a range of keys.
 
 use crate::answer::{BADKEY, DAMAGED, DONE, LENGTH};
+use crate::broken::{broken, Rule};
 use crate::field::get16;
 use crate::layout::{zero, KIND_LEAF, KIND_ZERO, PAGE, PAGES_LEAST, PAGES_MOST};
 use crate::page::{self, LeafEntry};
 use crate::place::Place;
-use crate::report::Report;
+use crate::report::Mends;
 use crate::session::Session;
 use crate::way::Way;
 use std::ops::RangeInclusive;
@@ -52,7 +53,7 @@ pub fn enter(
     session: &Session,
     place: &Place,
     way: &Way,
-    report: &mut Report,
+    mends: &mut Mends,
 ) -> Result<(), Damaged> {
     if way.holds(place.child) {
         return Err(Damaged);
@@ -63,7 +64,7 @@ pub fn enter(
     let source = place.source(working, session.n).ok_or(Damaged)?;
     let mended = place.mended(source, session.c);
     *page::page_mut(working, place.child) = mended;
-    report.add(reason);
+    mends.add(place.child, reason);
     Ok(())
 }
 
@@ -72,12 +73,12 @@ pub fn descend(
     working: &mut [u8],
     session: &Session,
     key: u64,
-    report: &mut Report,
+    mends: &mut Mends,
 ) -> Result<Way, Damaged> {
     let mut way = Way::new();
     let (mut place, mut index) = (Place::root(working), 0);
     loop {
-        enter(working, session, &place, &way, report)?;
+        enter(working, session, &place, &way, mends)?;
         way.push(place, index);
         let entered = page::page(working, place.child);
         if page::kind(entered) == KIND_LEAF {
@@ -95,7 +96,7 @@ pub struct Visit<'a, F: FnMut(LeafEntry)> {
     pub session: &'a Session,
     pub asked: RangeInclusive<u64>,
     pub room: usize,
-    pub report: &'a mut Report,
+    pub mends: &'a mut Mends,
     pub seen: F,
 }
 
@@ -110,7 +111,10 @@ impl<F: FnMut(LeafEntry)> Visit<'_, F> {
         if self.room == 0 || !meets {
             return Ok(());
         }
-        enter(self.working, self.session, &place, way, self.report)?;
+        enter(self.working, self.session, &place, way, self.mends)?;
+        if broken(Rule::FittingLeft) {
+            page::touch(page::page_mut(self.working, place.child), self.session.c);
+        }
         let entered = page::page(self.working, place.child);
         if page::kind(entered) == KIND_LEAF {
             self.show(place.child);

@@ -5,7 +5,7 @@ use crate::broken::{broken, Rule};
 use crate::insert::Changed;
 use crate::key::{key, whole};
 use crate::page;
-use crate::report::Report;
+use crate::report::Mends;
 use crate::session::Session;
 use crate::walk::{begin, descend};
 use crate::way::Way;
@@ -20,17 +20,17 @@ pub fn withdraw(
     issue: u16,
 ) -> Changed {
     let key = key(model, serial, issue);
-    let mut report = Report::default();
+    let mut mends = Mends::default();
     let mut answer = begin(working, stable, &session, whole(key));
     if answer == DONE {
-        answer = match descend(working, &session, key, &mut report) {
+        answer = match descend(working, &session, key, &mut mends) {
             Err(_) => DAMAGED,
             Ok(way) => take(working, &mut session, &way, key),
         };
     }
     Changed {
         answer,
-        report: report.beside(answer),
+        mends: mends.beside(answer),
         session,
     }
 }

@@ -8,7 +8,7 @@ use second::field::{get16, get32, put32};
 use second::key::{key, parts};
 use second::layout::{header as at, zero, INNER_CAP, LEAF_CAP, LEAF_ENTRY, LEAF_HEADER, PAGE};
 use second::page::{self, Header, Page};
-use second::report::Report;
+use second::report::Mends;
 use second::session::Session;
 use second::store::Store;
 use second::tree::Tree;
@@ -321,7 +321,7 @@ fn climb(store: &mut Store) -> Vec<u64> {
     let mut keys = Vec::new();
     let mut start = Some(0);
     while let Some(from) = start {
-        let untold = &mut Report::default();
+        let untold = &mut Mends::default();
         let way = descend(&mut store.working, &store.session, from, untold).expect("no damage");
         let leaf = page::page(&store.working, way.last().place.child);
         keys.extend(page::leaf_entries(leaf).map(|entry| entry.key));

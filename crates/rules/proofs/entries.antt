@@ -2,6 +2,7 @@
 pub mod Tests
 pub mod Rises
 pub mod Entries
+pub mod Same
 pub mod Puts
 pub mod Withouts
 pub mod Views

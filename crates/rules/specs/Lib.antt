@@ -30,4 +30,6 @@ pub mod Sync
 pub mod Crash
 pub mod History
 pub mod Demand
+pub mod Mends
+pub mod Quiet
 pub mod Cases

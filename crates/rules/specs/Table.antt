@@ -82,6 +82,10 @@ setNumber t number = putAt t 4 4 number
 unfoldable pub setRoot : List ℕ → ℕ → ℕ → ℕ → List ℕ
 setRoot t root previous birth = putAt (putAt (putAt t 8 2 root) 10 2 previous) 12 4 birth
 
+-- page 0 but for its number: the bytes before it and those behind it
+unfoldable pub besideNumber : List ℕ → List ℕ
+besideNumber t = take 4 (pageAt t 0) ++ drop 8 (pageAt t 0)
+
 -- what opening and every walking call ask of page 0
 unfoldable pub fit0 : ℕ → List ℕ → Bool
 fit0 n t =

@@ -6,7 +6,7 @@ use crate::layout::{zero, KIND_LEAF, LAST_NUMBER};
 use crate::page::{self, LeafEntry};
 use crate::place::Place;
 use crate::reasons::first_failing;
-use crate::report::Report;
+use crate::report::Mends;
 use crate::session::Session;
 use crate::store::Store;
 use crate::walk::{begin, enter, zero_fits, Damaged};
@@ -64,7 +64,7 @@ impl Climb {
         loop {
             let child = page::page(&store.working, place.child);
             let reason = first_failing(&place, child, session.n);
-            let untold = &mut Report::default();
+            let untold = &mut Mends::default();
             enter(&mut store.working, session, &place, &way, untold)?;
             self.reasons
                 .extend(Some(reason).filter(|&reason| reason > 0));
@@ -127,7 +127,7 @@ impl Entering {
 
     fn page(&mut self, place: Place, way: &mut Way) -> Result<(), Damaged> {
         let lost = !place.fits(page::page(&self.table, place.child), self.session.n);
-        let untold = &mut Report::default();
+        let untold = &mut Mends::default();
         enter(&mut self.table, &self.session, &place, way, untold)?;
         self.children.push(place.child);
         if lost {

@@ -35,17 +35,17 @@ fn play(generator: &mut Generator, done: &mut Vec<Call>, counters: &mut Counters
         if player.over {
             return Ok(());
         }
-        follow(&both, &mut player, next.quiet);
+        follow(&both, &mut player, next.loads);
     }
     Ok(())
 }
 
 /// The generator looks at the player: it shows the store that was reached.
-fn follow(both: &Both, player: &mut Player, quiet: bool) {
+fn follow(both: &Both, player: &mut Player, loads: bool) {
     player.store.working.copy_from_slice(&both.own.working);
     player.store.stable.copy_from_slice(&both.own.stable);
     player.store.session = both.own.session;
-    player.tree = if quiet {
+    player.tree = if loads {
         None
     } else {
         Tree::good(&both.own.working, both.own.session.n)

@@ -1,10 +1,8 @@
 //! The moves of a history.
 
 use crate::key::parts;
+use crate::page::PageSet;
 use std::fmt;
-
-/// A set of page numbers, one bit each.
-pub type PageSet = u128;
 
 /// Which working pages a crash writes, and whether it falls inside a sync.
 #[derive(Clone, Copy, PartialEq, Eq, Debug)]

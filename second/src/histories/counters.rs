@@ -33,7 +33,7 @@ const ANSWERS: [(&str, &[usize]); 8] = [
 ];
 
 /// What else is counted and can be reached at any capacity.
-const NAMED: [&str; 53] = [
+const NAMED: [&str; 58] = [
     "histories",
     "histories ending with a leaf as root",
     "histories ending with a root of kind 2",
@@ -87,6 +87,11 @@ const NAMED: [&str; 53] = [
     "mixes with a state of the middle",
     "mixes with a withdrawn key back",
     "mixes with an empty leaf",
+    "quiet restarts",
+    "quiet restarts with a mended page written",
+    "quiet restarts with a mended page not written",
+    "quiet restarts with many mended pages",
+    "quiet stretches with all restarts",
 ];
 
 /// Reached only where a page that has just been split off, or a new root, has room: not where

@@ -2,9 +2,10 @@
 
 use super::call::{numbers, set, Call, Mix};
 use super::keys::{lost_provisional, near, Patterns, Wanted};
+use super::mix::FEW;
 use super::player::Player;
 use super::Move;
-use crate::answer::{FULL, SYNCFIRST};
+use crate::answer::{DONE, FULL, SYNCFIRST};
 use crate::key::parts;
 use crate::layout::{INNER_CAP, LEAF_CAP, LEAF_HALF};
 use crate::rng::Rng;
@@ -51,6 +52,8 @@ pub struct Generator {
     synced: bool,
     weights: [usize; CHOICES.len()],
     left: usize,
+    /// Moves left of a quiet stretch.
+    quiet: usize,
     /// The move, counted from the end, at which the counter jumps to its end.
     jump: Option<usize>,
 }
@@ -80,6 +83,7 @@ impl Generator {
             synced: false,
             weights,
             left,
+            quiet: 0,
             jump,
         }
     }
@@ -87,16 +91,19 @@ impl Generator {
     /// The next move; none at the history's end.
     pub fn next(&mut self, player: &Player) -> Option<Move> {
         if let Some(call) = self.loading(player) {
-            return Some(Move { call, quiet: true });
+            return Some(Move { call, loads: true });
         }
         self.left = self.left.checked_sub(1)?;
         let call = if self.jump == Some(self.left) {
             let left = self.rng.below(4) as u32;
             Call::SyncsUntil { left }
         } else {
-            self.call(player)
+            self.stretch(player).unwrap_or_else(|| self.call(player))
         };
-        Some(Move { call, quiet: false })
+        if matches!(call, Call::Open | Call::Crash(_)) && self.rng.once_in(4) {
+            self.quiet = self.rng.from(5, 10);
+        }
+        Some(Move { call, loads: false })
     }
 
     /// Inserts what is to be loaded, with a sync where one is asked for. If that doesn't help
@@ -155,7 +162,12 @@ impl Generator {
         if refused && self.rng.once_in(3) {
             return Call::Sync;
         }
-        match self.choose(player) {
+        let choice = self.choose(player);
+        self.made(choice, player)
+    }
+
+    fn made(&mut self, choice: Choice, player: &Player) -> Call {
+        match choice {
             Choice::Insert => Call::Insert {
                 key: self.new_key(player),
                 record: self.rng.one_of(&[0, u32::MAX, self.rng.next() as u32]),
@@ -185,6 +197,52 @@ impl Generator {
             Choice::Misfit => Call::Misfit {
                 pages: self.rng.one_of(&[3, self.n, self.n + 1, 129]),
             },
+        }
+    }
+
+    /// The next move of a quiet stretch, which ends with every crash if few pages differ, else with random ones.
+    fn stretch(&mut self, player: &Player) -> Option<Call> {
+        self.quiet = self.quiet.checked_sub(1)?;
+        let many = player.differing().count_ones() as usize > FEW;
+        let mix = Mix {
+            inside_sync: false,
+            ..self.mix(player)
+        };
+        Some(match self.quiet {
+            0 => Call::Crash(mix),
+            1..=3 if many => Call::Mix(mix),
+            1 => Call::AllMixes { inside_sync: false },
+            _ => self.quiet_call(player),
+        })
+    }
+
+    /// A call that changes no certificate: in the place of an insert or a withdrawal that would, a lookup. Often a list of
+    /// all, which mends every lost page of the tree.
+    fn quiet_call(&mut self, player: &Player) -> Call {
+        if self.rng.once_in(4) {
+            let room = player.states.now.len() + 1;
+            return Call::List {
+                start: 0,
+                keys: room,
+                records: room,
+            };
+        }
+        let choice = self.rng.one_of(&[
+            Choice::Insert,
+            Choice::Withdraw,
+            Choice::Lookup,
+            Choice::Newest,
+            Choice::HasAny,
+            Choice::List,
+        ]);
+        let call = self.made(choice, player);
+        let mut copy = player.store.clone();
+        match call {
+            Call::Insert { key, record } if copy.insert(key, record) == DONE => {
+                Call::Lookup { key }
+            }
+            Call::Withdraw { key } if copy.withdraw(key) == DONE => Call::Lookup { key },
+            call => call,
         }
     }
 

@@ -1,8 +1,9 @@
 //! Crashes: a mix of stable and working pages is opened and held against demand 3.
 
-use super::call::{numbers, set, Mix, PageSet};
+use super::call::{numbers, set, Mix};
 use super::counters::{Counted, Counters};
 use super::player::{Player, Watch};
+use super::restart::Opened;
 use super::set::Set;
 use super::states::States;
 use crate::answer::{DONE, NONE, SPENT};
@@ -10,18 +11,20 @@ use crate::field::get32;
 use crate::invariant;
 use crate::key::whole;
 use crate::layout::{zero, LAST_NUMBER, PAGE, PAGES_MOST};
+use crate::page::PageSet;
 use crate::store::Store;
 use crate::tree::Tree;
 use crate::{crash, number_ahead};
 
 /// With no more differing pages than this, every mix is tried.
-const FEW: usize = 6;
+pub(super) const FEW: usize = 6;
 /// Of a larger set, about this many keys are looked up in a mix on copies.
 const SAMPLE: usize = 50;
 
-fn differing(store: &Store) -> PageSet {
-    let pages = store.working.chunks(PAGE).zip(store.stable.chunks(PAGE));
-    let differ = pages.enumerate().filter(|(_, (w, s))| w != s);
+/// The pages in which two tables differ.
+pub(super) fn differing(one: &[u8], other: &[u8]) -> PageSet {
+    let pages = one.chunks(PAGE).zip(other.chunks(PAGE));
+    let differ = pages.enumerate().filter(|(_, (one, other))| one != other);
     set(differ.map(|(number, _)| number))
 }
 
@@ -54,13 +57,13 @@ impl Player {
         if inside_sync && copy.session.c <= LAST_NUMBER {
             number_ahead(&mut copy.working, copy.session.c);
         }
-        let differ = differing(&copy);
+        let differ = differing(&copy.working, &copy.stable);
         (copy, differ)
     }
 
     /// Pages that differ between working and stable.
     pub fn differing(&self) -> PageSet {
-        differing(&self.store)
+        differing(&self.store.working, &self.store.stable)
     }
 
     /// Opens a mix; none if the counter is spent.
@@ -88,6 +91,7 @@ impl Player {
         self.between(&found, mix.pages, differ)?;
         if self.watch == Watch::Invariants {
             invariant::check(&store, &|key, state| found.get(key) == state)?;
+            self.restarts(mix, &store, &found, counters)?;
         }
         self.count_pages(mix, differ, counters);
         self.count_mix(&tree, &found, counters);
@@ -140,6 +144,8 @@ impl Player {
             return Ok(());
         }
         counters.add("states with all mixes opened");
+        let quiet = differ != 0 && self.quiet(inside_sync).is_some();
+        counters.add_if(quiet, "quiet stretches with all restarts");
         for chosen in 0..1u32 << pages.len() {
             let written = pages
                 .iter()
@@ -173,6 +179,7 @@ impl Player {
         let backwards = keys.iter().rev().step_by(keys.len() / SAMPLE + 1);
         look(&mut store.clone(), &found, keys.iter().copied())?;
         look(&mut store.clone(), &found, backwards.copied())?;
+        self.opened = Some(Opened::of(&store, &found));
         self.store = store;
         self.states = States::of(found);
         self.tree = None;

@@ -7,13 +7,14 @@ mod keys;
 mod mix;
 mod observe;
 mod player;
+mod restart;
 mod set;
 mod shrink;
 mod states;
 mod told;
 mod withdrawal;
 
-pub use call::{Call, Mix, PageSet};
+pub use call::{Call, Mix};
 pub use counters::Counters;
 pub use generator::Generator;
 pub use player::{Player, Watch};
@@ -24,11 +25,11 @@ use crate::rng::Rng;
 use std::fmt;
 use std::time::{Duration, Instant};
 
-/// A call, and whether the invariants are left unchecked after it (while a store is loaded).
+/// A call, and whether it loads a store: the invariants are left unchecked after it.
 #[derive(Clone, Debug)]
 pub struct Move {
     pub call: Call,
-    pub quiet: bool,
+    pub loads: bool,
 }
 
 /// A history that ended badly, made as short as it could be.

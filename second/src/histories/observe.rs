@@ -1,13 +1,13 @@
 //! Counts what a move has shown.
 
-use super::call::{Mix, PageSet};
+use super::call::Mix;
 use super::counters::Counters;
 use super::player::Player;
 use super::set::Set;
 use crate::answer::DONE;
 use crate::key::{issues, key};
 use crate::layout::{LAST_FINAL, LAST_NUMBER};
-use crate::page::{self, Header};
+use crate::page::{self, Header, PageSet};
 use crate::place::Place;
 use crate::tree::{Node, Tree};
 use std::ops::RangeInclusive;

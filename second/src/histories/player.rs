@@ -3,6 +3,8 @@
 use super::call::{Call, Mix};
 use super::counters::{Counted, Counters};
 use super::observe::meets;
+use super::restart::Opened;
+use super::set::Set;
 use super::states::States;
 use super::Move;
 use crate::answer::{BADKEY, DONE, FULL, LENGTH, NONE, PRESENT, SPENT, SYNCFIRST};
@@ -36,6 +38,8 @@ pub struct Player {
     /// The counter is spent and the store closed.
     pub over: bool,
     pub(super) watch: Watch,
+    /// What the last opening showed, until a sync.
+    pub(super) opened: Option<Opened>,
     pub(super) crashed: bool,
 }
 
@@ -51,8 +55,10 @@ pub(super) fn must(holds: bool, what: impl FnOnce() -> String) -> Played {
 
 impl Player {
     pub fn new(n: usize, watch: Watch) -> Player {
+        let store = Store::fresh(n);
         Player {
-            store: Store::fresh(n),
+            opened: Some(Opened::of(&store, &Set::default())),
+            store,
             states: States::default(),
             tree: None,
             answer: DONE,
@@ -93,7 +99,7 @@ impl Player {
         must(total == self.states.now.len(), || {
             format!("the total is {total}, not {}", self.states.now.len())
         })?;
-        if next.quiet {
+        if next.loads {
             self.tree = None;
             return Ok(());
         }
@@ -295,6 +301,7 @@ impl Player {
         let before = self.store.session.c;
         let answer = self.store.sync();
         self.answer = DONE;
+        self.opened = None;
         counters.answer(Counted::Sync, answer);
         let expected = if before > LAST_NUMBER { SPENT } else { DONE };
         if answer == DONE {

@@ -1,19 +1,20 @@
 -- Page 0 of a table: its six fields, the place that it gives the root, and what changes of them. Assumes nothing.
 use mathlib.Core.Path.{_≡_, refl, sym, ap, _∙_}
 use mathlib.Core.Bool.{true}
-use mathlib.Core.List.{List, [], _∷_}
+use mathlib.Core.List.{List, [], _∷_, _++_}
 use Prim.Native.Nat.{ℕ, suc, _+_, _-_, _*_, _^_, _≤_, _<_}
 use native.Mathlib.Omega.{arith}
 use lib.Dec.{lit≤}
 use borrow.Author.Tests.{ltb-true}
-use lib.ListN.{length, take, set}
+use lib.ListN.{length, take, drop, set}
 use lib.Seq.{sets, take-set-lt}
 use Rattle.fields.specs.Field.{le, leAt, putAt, Bytes}
 use Rattle.fields.proofs.Number.{length-le}
+use Rattle.fields.proofs.Run.{take-sets}
 use Rattle.fields.proofs.Field.{leAt-take, length-put, bytes-put, drop-put, get-put, get-put-other, after-puts}
 use Rattle.rules.specs.Layout.{pageSize, lastKey}
 use Rattle.rules.specs.Page.{Page, pageIn}
-use Rattle.rules.specs.Table.{pageAt, read, build, change, shrink, kind0, n0, number0, root0, previous0, birth0, setNumber, setRoot, fit0}
+use Rattle.rules.specs.Table.{pageAt, read, build, change, shrink, kind0, n0, number0, root0, previous0, birth0, setNumber, setRoot, besideNumber, fit0}
 use Rattle.rules.specs.Place.{rootPlace}
 use Rattle.rules.proofs.entries.Tests.{every-true, between-low, between-high}
 use Rattle.rules.proofs.bytes.Tables.{Has, Room, Spare, pageAt-build-other, pageAt-change-other, pageAt-shrink-other}
@@ -199,3 +200,17 @@ page0-put t off w v h = take-sets-in (le w v) t pageSize off (rw length-le h)
 pub page0-setNumber : (t : List ℕ) (x : ℕ) → pageAt (setNumber t x) 0 ≡ putAt (pageAt t 0) 4 4 x
 unfolding setNumber
 page0-setNumber t x = page0-put t 4 4 x (lit≤ tt)
+
+-- ── Page 0 but for its number ───────────────────────────────────────────────────────────────────────────────────
+
+pub beside-same : (t u : List ℕ) → pageAt t 0 ≡ pageAt u 0 → besideNumber t ≡ besideNumber u
+unfolding besideNumber
+beside-same t u e = ap (λ (b : List ℕ). take 4 b ++ drop 8 b) e
+
+pub beside-setNumber : (t : List ℕ) (x : ℕ) → besideNumber (setNumber t x) ≡ besideNumber t
+unfolding besideNumber putAt
+beside-setNumber t x =
+    let b = pageAt t 0 in
+    ap (λ (p : List ℕ). take 4 p ++ drop 8 p) (page0-setNumber t x)
+    ∙ (ap (λ (p : List ℕ). p ++ drop 8 (putAt b 4 4 x)) (take-sets (le 4 x) b 4 4 (omega arith))
+    ∙ ap (λ (p : List ℕ). take 4 b ++ p) (drop-put b 4 4 x 8 (omega arith)))

@@ -7,11 +7,11 @@ use Prim.Native.Nat.{ℕ, zero, suc, _+_, _*_, _≤_, _<_}
 use native.Mathlib.Omega.{arith}
 use borrow.Author.Tests.{ltb-true, ltb-false}
 use lib.Dec.{ltb}
-use lib.ListN.{length, take, drop, take-append-drop, length-drop}
-use lib.Seq.{sets, sets-eq, length-sets, drop-drop}
+use lib.ListN.{length, take, drop, take-append-drop, length-take, length-drop}
+use lib.Seq.{sets, sets-eq, length-sets, drop-drop, take-append-le, take-take}
 use Rattle.fields.specs.Field.{Bytes}
 use Rattle.fields.proofs.Bytes.{bytes-append, bytes-take, bytes-drop}
-use Rattle.fields.proofs.Run.{length-part, part-sets, part-sets-below, drop-sets}
+use Rattle.fields.proofs.Run.{length-part, part-take, part-sets, part-sets-below, drop-sets}
 use Rattle.rules.specs.Layout.{pageSize, certSize}
 use Rattle.rules.specs.Page.{Page, pageIn, pageBytes, buildBytes, changeBytes, shrinkBytes}
 use Rattle.rules.specs.Table.{pageAt, setPage, read, build, change, shrink}
@@ -161,6 +161,34 @@ module _ (t : List ℕ) (i : ℕ) (p : Page) (h : Has t i) (r : Spare p) where
   pub read-shrink-other : (j : ℕ) → j ≢ i → read (shrink t i p) j ≡ read t j
   unfolding read
   read-shrink-other j d = ap pageIn (pageAt-shrink-other j d)
+
+-- the first n pages of a table, whatever other page is built, one beyond the table too
+module _ (n : ℕ) (t : List ℕ) (i : ℕ) (p : Page) (h : n * pageSize ≤ length t) (r : Room p) where
+  front : n ≤ i → take (n * pageSize) (build t i p) ≡ take (n * pageSize) t
+  unfolding build setPage
+  front b =
+      take-append-le (n * pageSize) (take (i * pageSize) t) (buildBytes p ++ drop pageSize (drop (i * pageSize) t))
+      (rw length-take (omega arith))
+      ∙ take-take (n * pageSize) (i * pageSize) t (omega arith)
+
+  pub long-build : n * pageSize ≤ length (build t i p)
+  long-build = go (ltb i n) refl
+    where
+      go : (b : Bool) → ltb i n ≡ b → n * pageSize ≤ length (build t i p)
+      go true e = omega (arith, length-build t i p (omega (arith, ltb-true i n e)) r)
+      go false e =
+          omega (arith, length-take (n * pageSize) (build t i p), ap length (front (omega (arith, ltb-false i n e))), length-take (n * pageSize) t)
+
+  pub pageAt-build-apart : (j : ℕ) → j < n → j ≢ i → pageAt (build t i p) j ≡ pageAt t j
+  unfolding pageAt
+  pageAt-build-apart j b d = go (ltb i n) refl
+    where
+      go : (c : Bool) → ltb i n ≡ c → take pageSize (drop (j * pageSize) (build t i p)) ≡ take pageSize (drop (j * pageSize) t)
+      go true e = pageAt-build-other t i p (omega (arith, ltb-true i n e)) r j d
+      go false e =
+          sym (part-take pageSize (j * pageSize) (n * pageSize) (build t i p) (omega arith))
+          ∙ (ap (λ (u : List ℕ). take pageSize (drop (j * pageSize) u)) (front (omega (arith, ltb-false i n e)))
+          ∙ part-take pageSize (j * pageSize) (n * pageSize) t (omega arith))
 
 pub bytes-build : (t : List ℕ) (i : ℕ) (p : Page) → Bytes t → Bytes (build t i p)
 unfolding build

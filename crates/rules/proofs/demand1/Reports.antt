@@ -194,7 +194,7 @@ insert-quiet w t s model serial issue x r =
       report = q .report;
     })
 
-newest-walked : (a : Asked) (s : Session) (w t : List ℕ) → newestMeter a s w t .working ≡ walkOf (s .n) (s .c) a w .table
+pub newest-walked : (a : Asked) (s : Session) (w t : List ℕ) → newestMeter a s w t .working ≡ walkOf (s .n) (s .c) a w .table
 unfolding newestMeter newestLeft
 newest-walked a s w t = go (walkOf (s .n) (s .c) a w .whole) refl
   where
@@ -214,7 +214,7 @@ newest-quiet w t s model serial =
     let q = walkOf-quiet (s .n) (s .c) a w h in
     record { table = rw (newest, l, g, f) (newest-walked a s w t ∙ q .table); report = q .report })
 
-list-walked : (s : Session) (w t : List ℕ) (start : ℕ) (ks xs : List ℕ)
+pub list-walked : (s : Session) (w t : List ℕ) (start : ℕ) (ks xs : List ℕ)
     → listFrom s w t start ks xs .working ≡ walkOf (s .n) (s .c) (upFrom start ks xs) w .table
 unfolding listFrom listDone listRefused
 list-walked s w t start ks xs = go (walkOf (s .n) (s .c) (upFrom start ks xs) w .whole) refl

@@ -8,3 +8,6 @@ pub mod Gained
 pub mod Changes
 pub mod Histories
 pub mod Kept
+pub mod QuietCalls
+pub mod SameRecords
+pub mod Restarts

@@ -26,27 +26,47 @@ use Rattle.rules.proofs.demand3.reads.InsertsSame.{insert-same}
 use Rattle.rules.proofs.demand3.histories.Fates.{Alive, alive-reading}
 
 -- session and stable table are handed back as they came, and of the working table lost pages are mended
-record Reading (m : State) (e : Event) : Type 0 where
-  session : step e m .session ≡ m .session
-  stable : step e m .stable ≡ m .stable
-  left : Calm (m .session) (m .working) (m .stable) (λ k o. OneOf o (m .past k)) (step e m .working)
-  is : step e m ≡ afterReading m (step e m .session) (step e m .working) (step e m .stable)
+pub record Reading (m : State) (e : Event) : Type 0 where
+  pub session : step e m .session ≡ m .session
+  pub stable : step e m .stable ≡ m .stable
+  pub left : Calm (m .session) (m .working) (m .stable) (λ k o. OneOf o (m .past k)) (step e m .working)
+  pub is : step e m ≡ afterReading m (step e m .session) (step e m .working) (step e m .stable)
 
 module _ {n : ℕ} {m : State} (a : Alive n m) where
-  reading : (e : Event) → Reads e → Reading m e
+  pub reading : (e : Event) → Reads e → Reading m e
   unfolding step afterReading
   reading (looks model serial issue) look =
       let only = lookup-mends (m .working) (m .stable) (m .session) model serial issue in
-      record { session = only .session; stable = only .stable; left = lookup-calm (a .safe) (calm (a .safe)) model serial issue; is = refl }
+      record {
+        session = only .session;
+        stable = only .stable;
+        left = lookup-calm (a .safe) (calm (a .safe)) model serial issue;
+        is = refl;
+      }
   reading (asksNewest model serial) ask =
       let only = newest-mends (m .working) (m .stable) (m .session) model serial in
-      record { session = only .session; stable = only .stable; left = newest-answers (a .safe) (calm (a .safe)) model serial .left; is = refl }
+      record {
+        session = only .session;
+        stable = only .stable;
+        left = newest-answers (a .safe) (calm (a .safe)) model serial .left;
+        is = refl;
+      }
   reading (asksAny model serial) askAny =
       let only = any-mends (m .working) (m .stable) (m .session) model serial in
-      record { session = only .session; stable = only .stable; left = any-answers (a .safe) (calm (a .safe)) model serial .left; is = refl }
+      record {
+        session = only .session;
+        stable = only .stable;
+        left = any-answers (a .safe) (calm (a .safe)) model serial .left;
+        is = refl;
+      }
   reading (lists from ks xs) listing =
       let only = list-mends (m .session) (m .working) (m .stable) from ks xs in
-      record { session = only .session; stable = only .stable; left = list-answers (a .safe) (calm (a .safe)) from ks xs .left; is = refl }
+      record {
+        session = only .session;
+        stable = only .stable;
+        left = list-answers (a .safe) (calm (a .safe)) from ks xs .left;
+        is = refl;
+      }
 
   pub alive-reads : (e : Event) → Reads e → Alive n (step e m)
   alive-reads e r =

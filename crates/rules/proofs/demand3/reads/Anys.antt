@@ -42,6 +42,15 @@ pub anyOf : ℕ → List ℕ → ℕ → ℕ → Any
 anyOf n t model serial =
     elim (ltb 0 model && ltb 0 serial) [ false ↦ Any.BadKey | true ↦ anyIn (sought n t (firstOf model serial)) ]
 
+-- it is read off the tree's certificates
+pub anyOf-same : (n i : ℕ) (t u : List ℕ) (model serial : ℕ) → treeOf i u .certs ≡ treeOf n t .certs
+    → anyOf i u model serial ≡ anyOf n t model serial
+unfolding anyOf
+anyOf-same n i t u model serial e =
+    ap
+    (λ (xs : List Cert). elim (ltb 0 model && ltb 0 serial) [ false ↦ Any.BadKey | true ↦ anyIn (gather (firstOf model serial) [] xs) ])
+    e
+
 any-in : (xs : List Cert) → anyIn xs ≡ Any.Damaged → ⊥
 unfolding anyIn anyNo
 any-in [] h = omega (arith, ap anyNo h)

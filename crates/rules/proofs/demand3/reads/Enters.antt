@@ -9,6 +9,7 @@ use mathlib.Core.List.{List, [], _∷_}
 use mathlib.Core.Option.{some, Option·some-injective}
 use Rattle.rules.specs.Test.{mem}
 use Rattle.rules.specs.Page.{View, Page}
+use Rattle.rules.specs.Table.{pageAt}
 use Rattle.rules.specs.Place.{show}
 use Rattle.rules.specs.Enter.{Entered, enter}
 use Rattle.rules.specs.declared.Place.{Place}
@@ -21,14 +22,15 @@ use Rattle.rules.proofs.demand3.epochs.Store.{Safe}
 use Rattle.rules.proofs.demand3.steps.Mended.{Steady, steady-same, steady-node, steady-then, Enters, enters-node}
 use Rattle.rules.proofs.demand3.reads.Brings.{brought, brought-found, Brings, brings-then, enter-brings}
 
--- a safe store that shows what t shows: t with some lost pages mended
+-- a safe store that shows what t shows: t with some lost pages mended, none of which is page 0
 pub record Calm (s : Session) (t S : List ℕ) (Been : States) (u : List ℕ) : Type 0 where
   pub safe : Safe s u S Been
   pub steady : Steady (s .n) t u
   pub brings : Brings (s .n) (s .c) t u
+  pub zero : pageAt u 0 ≡ pageAt t 0
 
 pub calm : {s : Session} {W S : List ℕ} {Been : States} → Safe s W S Been → Calm s W S Been W
-calm x = record { safe = x; steady = steady-same; brings = λ k e y. refl }
+calm x = record { safe = x; steady = steady-same; brings = λ k e y. refl; zero = refl }
 
 -- ── The pages above ─────────────────────────────────────────────────────────────────────────────────────────────
 
@@ -91,6 +93,7 @@ entering {s} {t} {u} {S} {Been} {k} {e} {v} m node shows above higher = record {
     safe = E .safe;
     steady = steady-then (m .steady) (E .steady);
     brings = brings-then (s .n) (s .c) t u (enter (s .n) (s .c) above u e .table) (m .steady) (m .brings) brings;
+    zero = E .zero ∙ m .zero;
   };
 }
   where

@@ -10,6 +10,7 @@ use lib.ListN.{length}
 use Rattle.rules.specs.Entry.{Cert, keys}
 use Rattle.rules.specs.Page.{over}
 use Rattle.rules.specs.Walk.{walkOf}
+use Rattle.rules.specs.Tree.{treeOf}
 use Rattle.rules.specs.Call.{Left, newestNo, listedNo}
 use Rattle.rules.specs.Newest.{meter, newestIn, newestLeft, newestMeter, newest}
 use Rattle.rules.specs.List.{ListLeft, upFrom, recordsOf, listDone, listFrom, list}
@@ -22,6 +23,7 @@ use Rattle.rules.proofs.demand3.ways.Invariant.{States}
 use Rattle.rules.proofs.demand3.epochs.Store.{Safe}
 use Rattle.rules.proofs.demand3.epochs.Syncs.{lengths-for}
 use Rattle.rules.proofs.demand3.reads.Enters.{Calm, calm}
+use Rattle.rules.proofs.demand3.reads.Gathers.{gather}
 use Rattle.rules.proofs.demand3.reads.Walks.{Walking, sought, walkOf-walking}
 
 -- ── Newest ──────────────────────────────────────────────────────────────────────────────────────────────────────
@@ -30,6 +32,16 @@ use Rattle.rules.proofs.demand3.reads.Walks.{Walking, sought, walkOf-wa
 pub newestOf : ℕ → List ℕ → ℕ → ℕ → Newest
 newestOf n t model serial =
     elim (ltb 0 model && ltb 0 serial) [ false ↦ Newest.BadKey | true ↦ newestIn (sought n t (meter model serial)) ]
+
+-- it is read off the tree's certificates
+pub newestOf-same : (n i : ℕ) (t u : List ℕ) (model serial : ℕ) → treeOf i u .certs ≡ treeOf n t .certs
+    → newestOf i u model serial ≡ newestOf n t model serial
+unfolding newestOf
+newestOf-same n i t u model serial e =
+    ap
+    (λ (xs : List Cert).
+    elim (ltb 0 model && ltb 0 serial) [ false ↦ Newest.BadKey | true ↦ newestIn (gather (meter model serial) [] xs) ])
+    e
 
 newest-in : (xs : List Cert) → newestIn xs ≡ Newest.Damaged → ⊥
 unfolding newestIn newestNo

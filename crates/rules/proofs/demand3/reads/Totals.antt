@@ -8,9 +8,9 @@ use mathlib.Core.Logic.{_⊎_, inl, inr, _≢_}
 use mathlib.Core.Bool.{Bool, true, false}
 use mathlib.Core.List.{List, [], _∷_, _++_}
 use mathlib.Core.Option.{Option, some, none}
-use lib.Dec.{eqb}
+use lib.Dec.{leb, eqb}
 use lib.ListN.{length, take, length-append, length-take}
-use borrow.Author.Tests.{eqb-true, eqb-false}
+use borrow.Author.Tests.{leb-true, leb-false, eqb-true, eqb-false}
 use Rattle.rules.specs.Layout.{leafRoom, innerRoom, topKind, lastKey}
 use Rattle.rules.specs.Test.{between, mem}
 use Rattle.rules.specs.Entry.{Cert, Child, keys, find, put}
@@ -22,9 +22,10 @@ use Rattle.rules.specs.List.{upFrom, list}
 use Rattle.rules.specs.declared.Place.{Place}
 use Rattle.rules.specs.declared.Listed.{Listed}
 use Rattle.rules.specs.declared.Session.{Session}
-use Rattle.rules.proofs.entries.Tests.{all-mem, between-high}
+use Rattle.rules.proofs.entries.Tests.{all-mem, between-high, between-above}
 use Rattle.rules.proofs.entries.Rises.{length-among, length-keys}
-use Rattle.rules.proofs.entries.Entries.{find-mem, mem-find, absent, length-cut, cut-all}
+use Rattle.rules.proofs.entries.Entries.{find-mem, mem-find, find-outside, absent, length-cut, cut-all}
+use Rattle.rules.proofs.entries.Same.{find-same}
 use Rattle.rules.proofs.entries.Puts.{mem-put-same, mem-put, mem-put-cases, put-rising, length-put-absent}
 use Rattle.rules.proofs.entries.Places.{Shown, fitting, lost, show-some}
 use Rattle.rules.proofs.demand3.ways.Ways.{Tells}
@@ -110,17 +111,17 @@ module _ {n : ℕ} {t u : List ℕ} (g : Good n t) (h : Good n u) where
   new-last : (j : ℕ) → mem j (keys ys) ≡ true → j ≤ lastKey
   new-last j m = between-high 0 lastKey j (all-mem (between 0 lastKey) j (keys ys) (all-ordered h .within) m)
 
+  pub same-tree : ((j : ℕ) (a : Option ℕ) → Tells n t j a → Tells n u j a) → ys ≡ xs
+  same-tree f = find-same ys xs (all-ordered h .rise) (all-ordered g .rise) (λ j. go j (leb j lastKey) refl)
+    where
+      go : (j : ℕ) (b : Bool) → leb j lastKey ≡ b → find j ys ≡ find j xs
+      go j true l = sym (agree j (leb-true j lastKey l) (f j))
+      go j false l =
+          let o = between-above 0 lastKey j (leb-false j lastKey l) in
+          find-outside 0 lastKey j ys (all-ordered h .within) o ∙ sym (find-outside 0 lastKey j xs (all-ordered g .within) o)
+
   pub same-certs : ((j : ℕ) (a : Option ℕ) → Tells n t j a → Tells n u j a) → certsIn n u ≡ certsIn n t
-  same-certs f =
-      omega (
-        arith,
-        length-keys xs,
-        length-keys ys,
-        length-among (keys xs) (keys ys) (all-ordered g .rise) (all-ordered h .rise)
-            (λ j m. among xs ys j (agree j (old-last j m) (f j)) m),
-        length-among (keys ys) (keys xs) (all-ordered h .rise) (all-ordered g .rise)
-            (λ j m. among ys xs j (sym (agree j (new-last j m) (f j))) m),
-      )
+  same-certs f = ap length (same-tree f)
 
   -- a key that had no record has one
   module _ (k x : ℕ) (absent-then : Tells n t k none) (own : Tells n u k (some x))

@@ -9,7 +9,7 @@ use mathlib.Core.Option.{Option, some}
 use Rattle.rules.specs.Layout.{lastKey}
 use Rattle.rules.specs.Test.{mem}
 use Rattle.rules.specs.Page.{Page, fresh}
-use Rattle.rules.specs.Table.{read, build}
+use Rattle.rules.specs.Table.{pageAt, read, build}
 use Rattle.rules.specs.Place.{rootPlace, fits, mended, cutView, show}
 use Rattle.rules.specs.Enter.{Entered, mend, enter}
 use Rattle.rules.specs.declared.Place.{Place}
@@ -202,13 +202,16 @@ module _ {s : Session} {W S : List ℕ} {Been : States} (x : Safe s W S Been) {k
   pub mend-others : (i : ℕ) → i ≢ e .child → read mend-table i ≡ read W i
   mend-others = written .others
 
+  pub mend-zero : pageAt mend-table 0 ≡ pageAt W 0
+  mend-zero = written .zero
+
   pub mend-enters : mend (s .n) (s .c) W e ≡ record { table = mend-table; page = some page }
   unfolding mend
   mend-enters = rw (mendable-of (s .n) e (read W (e .previous)) can, mend)
 
 -- ── Entering a node ─────────────────────────────────────────────────────────────────────────────────────────────
 
--- no node is damaged; its page is found, or mended
+-- no node is damaged; its page is found, or mended; page 0 stays
 pub record Enters (s : Session) (W S : List ℕ) (Been : States) (e : Place) (r : Entered) : Type 0 where
   pub page : Page
   pub given : r .page ≡ some page
@@ -216,6 +219,7 @@ pub record Enters (s : Session) (W S : List ℕ) (Been : States) (e : Place) (r 
   pub steady : Steady (s .n) W (r .table)
   pub found : Found (s .n) (r .table) e
   pub reads : read (r .table) (e .child) ≡ page
+  pub zero : pageAt (r .table) 0 ≡ pageAt W 0
 
 pub enters-node : {s : Session} {W S : List ℕ} {Been : States} {k : ℕ} {e : Place} (above : List ℕ)
     → Safe s W S Been → Node (s .n) W k e → mem (e .child) above ≡ false → Enters s W S Been e (enter (s .n) (s .c) above W e)
@@ -223,7 +227,7 @@ unfolding enter
 enters-node {s} {W} {S} {Been} {k} {e} above x y m = go (fits (s .n) e (read W (e .child))) refl
   where
     here : Found (s .n) W e → Enters s W S Been e (record { table = W; page = some (read W (e .child)) })
-    here f = record { page = read W (e .child); given = refl; safe = x; steady = steady-same; found = f; reads = refl }
+    here f = record { page = read W (e .child); given = refl; safe = x; steady = steady-same; found = f; reads = refl; zero = refl }
 
     gone : (l : Lost (s .n) W e) → Enters s W S Been e (record { table = mend-table x y l; page = some (mended (s .c) e (read W (e .previous))) })
     gone l =
@@ -234,6 +238,7 @@ enters-node {s} {W} {S} {Been} {k} {e} above x y m = go (fits (s .n) e (read W (
           steady = mend-steady x y l;
           found = mend-found x y l;
           reads = mend-reads x y l;
+          zero = mend-zero x y l;
         }
 
     go : (b : Bool) → fits (s .n) e (read W (e .child)) ≡ b → Enters s W S Been e (enter (s .n) (s .c) above W e)

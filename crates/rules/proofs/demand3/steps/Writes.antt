@@ -12,10 +12,10 @@ use borrow.Author.Tests.{lt-ltb}
 use Rattle.rules.specs.Layout.{pageSize, fewestPages, mostPages, zeroKind, leafRoom, lastKey}
 use Rattle.rules.specs.Test.{between}
 use Rattle.rules.specs.Page.{Page, isLeaf}
-use Rattle.rules.specs.Table.{read, build, change, shrink, number0, fit0, setRoot}
+use Rattle.rules.specs.Table.{pageAt, read, build, change, shrink, number0, fit0, setRoot}
 use Rattle.rules.specs.Place.{rootPlace}
 use Rattle.rules.proofs.bytes.Pages.{Wide, length-leafHeader, length-pageBytes, room-pageBytes}
-use Rattle.rules.proofs.bytes.Tables.{Has, Room, has-page, length-build, read-build-same, read-build-other, bytes-build, length-change, read-change-same, read-change-other, bytes-change, Spare, length-shrink, read-shrink-same, read-shrink-other, bytes-shrink}
+use Rattle.rules.proofs.bytes.Tables.{Has, Room, has-page, length-build, pageAt-build-other, read-build-same, read-build-other, bytes-build, length-change, pageAt-change-other, read-change-same, read-change-other, bytes-change, Spare, length-shrink, pageAt-shrink-other, read-shrink-same, read-shrink-other, bytes-shrink}
 use Rattle.rules.proofs.bytes.PageZero.{Same0, rootPlace-same, fit0-same, same0-build, same0-change, same0-shrink, length-setRoot, bytes-setRoot, kind0-setRoot, n0-setRoot, root0-setRoot, previous0-setRoot, number0-setRoot, rootPlace-setRoot, read-setRoot}
 use Rattle.rules.proofs.entries.Tests.{every-true, every-of, between-of}
 use Rattle.rules.proofs.entries.Sounds.{Sound}
@@ -36,6 +36,7 @@ pub record Writes (n : ℕ) (t u : List ℕ) (i : ℕ) (p : Page) : Type 0 where
   pub others : (j : ℕ) → j ≢ i → read u j ≡ read t j
   pub root : rootPlace u ≡ rootPlace t
   pub number : number0 u ≡ number0 t
+  pub zero : pageAt u 0 ≡ pageAt t 0
 
 module _ {n : ℕ} {t : List ℕ} {i : ℕ} {p : Page} (h : Whole n t) (from : 1 ≤ i) (below : i < n) (w : Wide p) (r : Room p) where
   has : Has t i
@@ -54,6 +55,7 @@ module _ {n : ℕ} {t : List ℕ} {i : ℕ} {p : Page} (h : Whole n t) (from : 1
         others = λ j d. read-build-other t i p has r j d;
         root = rootPlace-same z;
         number = z .number;
+        zero = pageAt-build-other t i p has r 0 (λ q. omega arith);
       }
 
   pub change-writes : Writes n t (change t i p) i p
@@ -69,6 +71,7 @@ module _ {n : ℕ} {t : List ℕ} {i : ℕ} {p : Page} (h : Whole n t) (from : 1
         others = λ j d. read-change-other t i p has r j d;
         root = rootPlace-same z;
         number = z .number;
+        zero = pageAt-change-other t i p has r 0 (λ q. omega arith);
       }
 
 pub shrink-writes : {n : ℕ} {t : List ℕ} {i : ℕ} {p : Page} → Whole n t → 1 ≤ i → i < n → Wide p → Spare p → Writes n t (shrink t i p) i p
@@ -85,6 +88,7 @@ shrink-writes {n} {t} {i} {p} h from below w r =
       others = λ j d. read-shrink-other t i p has r j d;
       root = rootPlace-same z;
       number = z .number;
+      zero = pageAt-shrink-other t i p has r 0 (λ q. omega arith);
     }
 
 -- ── Page 0 names another root ───────────────────────────────────────────────────────────────────────────────────
