@@ -86,6 +86,57 @@ static void list_all(uint64_t expected)
         exit(1);
 }
 
+/* The exchange file of a small store: two models, three meters, four certificates. Lines of the sections. */
+static void print_bytes(const uint8_t *file, size_t from, size_t many, const char *what)
+{
+    printf("   ");
+    for (size_t i = from; i < from + many; i++)
+        printf(" %02X", file[i]);
+    printf("  %s\n", what);
+}
+
+static void write_small_file(void)
+{
+    enum { SMALL = KH_TABLE_BYTES(4) };
+    static uint8_t small[SMALL], kept[SMALL], file[KH_FILE_MOST(4)];
+    static const struct {
+        uint16_t model;
+        uint32_t serial;
+        uint16_t issue;
+        uint32_t record;
+    } items[] = {{7, 1, 1, 900}, {7, 1, 2, 901}, {7, 2, 1, 902}, {9, 1, 1, 903}};
+    expect("format a small store", kh_format(small, SMALL, kept, SMALL), KH_DONE);
+    KhAnswered opened = kh_open(small, SMALL, kept, SMALL);
+    expect("open it", opened.answer, KH_DONE);
+    KhSession held = opened.session;
+    for (size_t i = 0; i < sizeof items / sizeof *items; i++) {
+        KhChanged put = kh_insert(small, SMALL, kept, SMALL, held, items[i].model, items[i].serial, items[i].issue,
+                                  items[i].record);
+        held = put.session;
+        if (put.answer != KH_DONE)
+            exit(1);
+    }
+    KhWritten short_of = kh_write_file(small, SMALL, kept, SMALL, held, file, 73);
+    expect("its file, into 73 bytes", short_of.answer, KH_SHORT);
+    KhWritten written = kh_write_file(small, SMALL, kept, SMALL, held, file, sizeof file);
+    expect("its file", written.answer, KH_DONE);
+    printf("%llu bytes:\n", (unsigned long long)written.length);
+    if (short_of.length != 0 || written.length != 74)
+        exit(1);
+    print_bytes(file, 0, 4, "2 models");
+    print_bytes(file, 4, 2, "model 7");
+    print_bytes(file, 6, 2, "model 9");
+    print_bytes(file, 8, 4, "3 meters");
+    print_bytes(file, 12, 6, "model at place 0, serial 1");
+    print_bytes(file, 18, 6, "model at place 0, serial 2");
+    print_bytes(file, 24, 6, "model at place 1, serial 1");
+    print_bytes(file, 30, 4, "4 certificates");
+    print_bytes(file, 34, 10, "meter at place 0, issue 1, record 900");
+    print_bytes(file, 44, 10, "meter at place 0, issue 2, record 901");
+    print_bytes(file, 54, 10, "meter at place 1, issue 1, record 902");
+    print_bytes(file, 64, 10, "meter at place 2, issue 1, record 903");
+}
+
 int main(void)
 {
     expect("format", kh_format(working, BYTES, stable, BYTES), KH_DONE);
@@ -121,6 +172,7 @@ int main(void)
         return 1;
     printf("the start screen: %u certificates\n", (unsigned)session.total);
     list_all(session.total);
+    write_small_file();
     if (session.total != 40)
         return 1;
     expect("a recalled certificate withdrawn", withdraw(40), KH_DONE);

@@ -359,6 +359,17 @@ KhTold khs_list(KhStore *store, uint64_t start, uint64_t *keys, uint32_t *record
     return walked(listed.answer, listed.mended, listed.reason);
 }
 
+KhTold khs_write_file(KhStore *store, uint8_t *out, size_t room, size_t *length)
+{
+    *length = 0;
+    if (!store->open)
+        return in_trouble(KHS_CLOSED);
+    KhWritten written = kh_write_file(TABLES(store), store->session, out, room);
+    store->session = written.session;
+    *length = (size_t)written.length;
+    return walked(written.answer, written.mended, written.reason);
+}
+
 /* ---- Sync ---- */
 
 /* All changed pages are on the disc before anyone is told, and before any later page is written. */

@@ -80,7 +80,7 @@ KH_KEEP KhTold khs_create(KhStore *store, const char *path, unsigned pages);
 /* Opens the store in a file, after a crash too. Answers 0, 3, 8. */
 KH_KEEP KhTold khs_open(KhStore *store, const char *path);
 
-/* As kh_insert, kh_withdraw, kh_lookup, kh_newest, kh_has_any and kh_list, in memory. What they find is 0 if the answer
+/* As kh_insert, kh_withdraw, kh_lookup, kh_newest, kh_has_any, kh_list and kh_write_file, in memory. What they find is 0 if the answer
  * is not KH_DONE. */
 KH_KEEP KhTold khs_insert(KhStore *store, uint16_t model, uint32_t serial, uint16_t issue, uint32_t record);
 KH_KEEP KhTold khs_withdraw(KhStore *store, uint16_t model, uint32_t serial, uint16_t issue);
@@ -93,6 +93,10 @@ uint32_t khs_total(const KhStore *store);
 
 /* Both lists have the same room. */
 KH_KEEP KhTold khs_list(KhStore *store, uint64_t start, uint64_t *keys, uint32_t *records, size_t room, size_t *count);
+
+/* The exchange file of all certificates, to the start of an output of so many bytes. KH_FILE_MOST of the store's pages
+ * always do. */
+KH_KEEP KhTold khs_write_file(KhStore *store, uint8_t *out, size_t room, size_t *length);
 
 /* Keeps what was put in: once it is done, it outlasts a crash. If the system refuses, nobody knows which pages are on
  * the disc, and the store is closed: open it again, and what the last sync or opening had is there. Answers 0, 8. */

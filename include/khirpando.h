@@ -45,7 +45,8 @@ extern "C" {
  *   kh_insert, kh_lookup,  working: any page, and    nothing                                     01: "pages reach the
  *   kh_newest, kh_list,    mended ones even if the                                               stable table only" in
  *   kh_has_any,            call is refused                                                       sync, open, at a crash
- *   kh_withdraw, any
+ *   kh_withdraw,
+ *   kh_write_file, any
  *   answer
  *   kh_sync, answer 0      stable: page 0 and each   all of these, in any order, before anyone   01: a crash may fall
  *                          that differed from        is told that the sync is done, and before   inside a sync; demand
@@ -91,6 +92,10 @@ extern "C" {
 #define KH_TABLE_BYTES(n) ((size_t)(n) * KH_PAGE_BYTES)
 #define KH_LIST_MOST(n) (((size_t)(n) - 1) * 40)
 
+/* An output that holds the exchange file of every table of n pages: three counts, and at the worst each certificate
+ * with a model and a meter of its own. */
+#define KH_FILE_MOST(n) (12 + 18 * KH_LIST_MOST(n))
+
 /* ---- Answers --------------------------------------------------------------------------------------------------------
  *
  * Where several would do, the lowest is given. With any but KH_DONE the numbers beside it are 0, but for the report of
@@ -117,14 +122,16 @@ enum {
     KH_FULL = 7,
     /* The counter is at its end. A sync: list what is there, in this session, and put it into a new store now. An
      * opening: this table opens no more. */
-    KH_SPENT = 8
+    KH_SPENT = 8,
+    /* The lent output cannot hold the exchange file. Lend KH_FILE_MOST bytes: they always do. */
+    KH_SHORT = 9
 };
 
 /* The word for an answer. */
 static inline const char *kh_word(uint32_t answer)
 {
     static const char *const words[] = {"done",    "length",    "badkey", "damaged", "none",
-                                        "present", "syncfirst", "full",   "spent"};
+                                        "present", "syncfirst", "full",   "spent",   "short"};
     return answer < sizeof words / sizeof *words ? words[answer] : "unknown";
 }
 
@@ -216,6 +223,14 @@ typedef struct {
     KhSession session;
 } KhListed;
 
+typedef struct {
+    uint32_t answer;
+    uint64_t length; /* of the file, in bytes */
+    uint32_t mended;
+    uint32_t reason;
+    KhSession session;
+} KhWritten;
+
 #ifdef __cplusplus
 static_assert(sizeof(KhSession) == KH_SESSION_BYTES, "a session is laid out as the library has it");
 #else
@@ -267,6 +282,17 @@ KH_KEEP KhAny kh_has_any(uint8_t *working, size_t working_len, const uint8_t *st
 KH_KEEP KhListed kh_list(uint8_t *working, size_t working_len, const uint8_t *stable, size_t stable_len,
                          KhSession session, uint64_t start, uint64_t *keys, size_t keys_len, uint32_t *records,
                          size_t records_len);
+
+/* Writes the exchange file of all certificates, provisional ones too, to the start of the output; `length` says how long
+ * it is, and output beyond it stays as it was. Every refusal leaves the output as it was. The whole tree is entered and
+ * mended, as by a list from key 0 with room for all, even if the output is too short. Answers 0, 1, 3, 9.
+ *
+ * The file, numbers little-endian: the count of models (4 bytes) and each model (2); the count of meters (4) and each
+ * meter, its model's place in the first section, from 0 (2), and its serial (4); the count of certificates (4) and each
+ * certificate, its meter's place in the second section (4), its issue (2) and its record (4). Each section rises by key,
+ * without repeats. An empty store gives twelve zero bytes. */
+KH_KEEP KhWritten kh_write_file(uint8_t *working, size_t working_len, const uint8_t *stable, size_t stable_len,
+                                KhSession session, uint8_t *out, size_t out_len);
 
 /* Copies the working table to the stable table: what was put in is kept from the moment when all changed pages are on
  * the flash. Answers 0, 1, 8. */

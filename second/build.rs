@@ -7,7 +7,7 @@ use std::process::{Command, Stdio};
 use std::{env, fs};
 
 /// What the store's library must have in it; an older one is passed over.
-const NAMES: [&str; 9] = [
+const NAMES: &[&str] = &[
     "kh_format",
     "kh_open",
     "kh_insert",
@@ -16,6 +16,7 @@ const NAMES: [&str; 9] = [
     "kh_newest",
     "kh_has_any",
     "kh_list",
+    "kh_write_file",
     "kh_sync",
 ];
 
@@ -48,7 +49,7 @@ fn store() -> bool {
             .windows(name.len())
             .any(|part| part == name.as_bytes())
     };
-    let whole = NAMES.into_iter().all(has);
+    let whole = NAMES.iter().copied().all(has);
     if whole {
         println!("cargo::rustc-cfg=store");
         println!("cargo::rustc-link-search=native={}", folder.display());

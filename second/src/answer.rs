@@ -1,4 +1,4 @@
-//! The nine answers.
+//! The answers: nine of document 01, and those of document 02.
 
 pub const DONE: u32 = 0;
 pub const LENGTH: u32 = 1;
@@ -9,9 +9,10 @@ pub const PRESENT: u32 = 5;
 pub const SYNCFIRST: u32 = 6;
 pub const FULL: u32 = 7;
 pub const SPENT: u32 = 8;
+pub const SHORT: u32 = 9;
 
 /// The answers' words, by number.
-pub const WORDS: [&str; 9] = [
+pub const WORDS: [&str; 10] = [
     "done",
     "length",
     "badkey",
@@ -21,10 +22,11 @@ pub const WORDS: [&str; 9] = [
     "syncfirst",
     "full",
     "spent",
+    "short",
 ];
 
 /// Each call with the answers that the papers have for it.
-pub const ANSWERS: [(&str, &[usize]); 9] = [
+pub const ANSWERS: &[(&str, &[usize])] = &[
     ("format", &[0, 1]),
     ("open", &[0, 1, 3, 8]),
     ("insert", &[0, 1, 2, 3, 5, 6, 7]),
@@ -33,8 +35,17 @@ pub const ANSWERS: [(&str, &[usize]); 9] = [
     ("newest", &[0, 1, 2, 3, 4]),
     ("has_any", &[0, 1, 2, 3]),
     ("list", &[0, 1, 3]),
+    ("write_file", &[0, 1, 3, 9]),
     ("sync", &[0, 1, 8]),
 ];
 
 /// Those that walk, and so tell of their mends.
-pub const WALKING: [&str; 6] = ["insert", "withdraw", "lookup", "newest", "has_any", "list"];
+pub const WALKING: &[&str] = &[
+    "insert",
+    "withdraw",
+    "lookup",
+    "newest",
+    "has_any",
+    "list",
+    "write_file",
+];

@@ -52,6 +52,8 @@ pub enum Rule {
     EmptyLeafStays,
     /// A call that only reads leaves a page that fits as it is.
     FittingLeft,
+    /// Places in the exchange file are counted from 0.
+    PlacesFromZero,
 }
 
 /// Those on which demand 3 rests.
@@ -84,6 +86,7 @@ pub const LATER: &[Rule] = &[
     Rule::LastPlaceZeroed,
     Rule::EmptyLeafStays,
     Rule::FittingLeft,
+    Rule::PlacesFromZero,
 ];
 
 /// Whether this run breaks the rule.

@@ -16,6 +16,7 @@ pub mod walk;
 pub mod way;
 
 mod crash;
+mod file;
 mod format;
 mod insert;
 mod open;
@@ -41,6 +42,7 @@ pub mod store;
 pub mod without;
 
 pub use crash::crash;
+pub use file::{file_of, told_by, write_file, Written};
 pub use format::format;
 pub use insert::{insert, Changed};
 pub use open::open;

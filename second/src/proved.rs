@@ -51,6 +51,14 @@ struct Listed {
     session: Session,
 }
 
+#[repr(C)]
+struct Written {
+    answer: u32,
+    length: u64,
+    report: Report,
+    session: Session,
+}
+
 // include/khirpando.h says the same.
 #[rustfmt::skip]
 extern "C" {
@@ -68,6 +76,8 @@ extern "C" {
                   model: u16, serial: u32) -> Any;
     fn kh_list(working: *mut u8, w: usize, stable: *const u8, s: usize, session: Session,
                start: u64, keys: *mut u64, k: usize, records: *mut u32, r: usize) -> Listed;
+    fn kh_write_file(working: *mut u8, w: usize, stable: *const u8, s: usize, session: Session,
+                     out: *mut u8, o: usize) -> Written;
     fn kh_sync(working: *mut u8, w: usize, stable: *mut u8, s: usize, session: Session) -> Answered;
 }
 
@@ -164,6 +174,17 @@ impl Proved {
         self.0.session = listed.session;
         self.0.report = listed.report;
         (listed.answer, listed.count)
+    }
+
+    pub fn write_file(&mut self, out: &mut [u8]) -> (u32, u64) {
+        let (working, w) = lend!(mut self.0.working);
+        let (stable, s) = lend!(self.0.stable);
+        let (out, o) = lend!(mut out);
+        let session = self.0.session;
+        let written = unsafe { kh_write_file(working, w, stable, s, session, out, o) };
+        self.0.session = written.session;
+        self.0.report = written.report;
+        (written.answer, written.length)
     }
 
     pub fn sync(&mut self) -> u32 {

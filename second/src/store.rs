@@ -5,7 +5,9 @@ use crate::layout::PAGE;
 use crate::page::PageSet;
 use crate::report::{Mends, Report};
 use crate::session::Session;
-use crate::{crash, format, has_any, insert, list, lookup, newest, open, sync, withdraw};
+use crate::{
+    crash, format, has_any, insert, list, lookup, newest, open, sync, withdraw, write_file,
+};
 
 #[derive(Clone, Debug)]
 pub struct Store {
@@ -116,6 +118,13 @@ impl Store {
         self.session = listed.session;
         self.note(listed.mends);
         (listed.answer, listed.count)
+    }
+
+    pub fn write_file(&mut self, out: &mut [u8]) -> (u32, usize) {
+        let written = write_file(&mut self.working, &self.stable, self.session, out);
+        self.session = written.session;
+        self.note(written.mends);
+        (written.answer, written.length)
     }
 
     pub fn sync(&mut self) -> u32 {

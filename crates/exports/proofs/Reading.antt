@@ -19,6 +19,10 @@ use Rattle.lookup.specs.Looks
 use Rattle.newest.specs.Newests
 use Rattle.any.specs.Anys
 use Rattle.list.specs.Lists
+use Rattle.write.specs.WriteFile.{WriteLeft, writeReported}
+use Rattle.write.specs.Calls
+use Rattle.write.specs.declared.Writing.{Writing}
+use Rattle.write.proofs.Promises.{write-session}
 use Rattle.exports.specs.Leaves as C
 
 module _ (w t : List ℕ) (s : Session) (model serial : ℕ) where
@@ -54,3 +58,12 @@ listed-same w t s start ks xs r u ls ys h =
     ap (λ (z : Session). C.listing (C.listedBack (r .answer) (r .report) z) u t ls ys)
     (sym (ap (λ (l : Reported ListLeft). l .left .session) h ∙ list-mends s w t start ks xs .session))
     ∙ ap C.listed h
+
+pub written-same : (w t : List ℕ) (s : Session) (out : List ℕ) (r : Writing) (u next : List ℕ)
+    → Calls.leaving r u t next ≡ writeReported w t s out
+    → C.writing (C.writtenBack (r .answer) (r .report) s) u t next ≡ C.written (writeReported w t s out)
+unfolding writeReported
+written-same w t s out r u next h =
+    ap (λ (z : Session). C.writing (C.writtenBack (r .answer) (r .report) z) u t next)
+    (sym (ap (λ (l : Reported WriteLeft). l .left .session) h ∙ write-session w t s out))
+    ∙ ap C.written h

@@ -46,6 +46,11 @@ kh-list-tight κs a pre z z′ l l′ p q =
       (λ i. (e i .working, (l .1 .0, (l .1 .1 .0, (l .1 .1 .1 .0, (e i .keys, (e i .records, rest))))))),
     )
 
+pub kh-write-file-tight : Tight this.kh_write_file.Kinds.ps this.kh_write_file.Kinds.r this.kh_write_file.Reads.Pre this.kh_write_file.Reads.Post
+kh-write-file-tight κs a pre z z′ l l′ p q =
+    let e = p ∙ sym q in
+    ((λ i. e i .back), (λ i. (e i .working, (l .1 .0, (l .1 .1 .0, (e i .out, l .1 .1 .1 .1))))))
+
 pub kh-sync-tight : Tight this.kh_sync.Kinds.ps this.kh_sync.Kinds.r this.kh_sync.Reads.Pre this.kh_sync.Reads.Post
 kh-sync-tight κs a pre z z′ l l′ p q =
     let e = p ∙ sym q in

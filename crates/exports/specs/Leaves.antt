@@ -20,6 +20,9 @@ use Rattle.exports.specs.declared.KhLooked.{KhLooked}
 use Rattle.exports.specs.declared.KhNewest.{KhNewest}
 use Rattle.exports.specs.declared.KhAny.{KhAny}
 use Rattle.exports.specs.declared.KhListed.{KhListed}
+use Rattle.exports.specs.declared.KhWritten.{KhWritten}
+use Rattle.write.specs.WriteFile.{WriteLeft, writtenNo, writtenLength}
+use Rattle.write.specs.declared.Written.{Written}
 
 pub record Leaves (A : Type 0) : Type 0 where
   pub back : A
@@ -53,6 +56,16 @@ listing back working stable keys records = record {
   keys = keys;
   records = records;
 }
+
+-- a writer leaves the output too
+pub record Writes : Type 0 where
+  pub back : KhWritten
+  pub working : List ℕ
+  pub stable : List ℕ
+  pub out : List ℕ
+
+abbrev pub writing : KhWritten → List ℕ → List ℕ → List ℕ → Writes
+writing back working stable out = record { back = back; working = working; stable = stable; out = out }
 
 -- ── What is handed back ─────────────────────────────────────────────────────────────────────────────────────────
 
@@ -104,6 +117,15 @@ listedBack a x session = record {
   session = session;
 }
 
+abbrev pub writtenBack : Written → Report → Session → KhWritten
+writtenBack a x session = record {
+  answer = writtenNo a;
+  length = writtenLength a;
+  mended = x .mended;
+  reason = reasonNo (x .reason);
+  session = session;
+}
+
 -- ── The same of what the rules say ──────────────────────────────────────────────────────────────────────────────
 
 abbrev pub formatted : Formatting → Formats
@@ -135,3 +157,11 @@ listed r =
     (r .left .stable)
     (r .left .keys)
     (r .left .records)
+
+abbrev pub written : Reported WriteLeft → Writes
+written r =
+    writing
+    (writtenBack (r .left .answer) (r .report) (r .left .session))
+    (r .left .working)
+    (r .left .stable)
+    (r .left .out)

@@ -2,19 +2,20 @@
 //
 // Each call is that of `store`, of which every word holds here too: nothing is required but what C asks of any caller.
 // Slices are a pointer and a length; a session goes in and comes back by value, laid out as C lays it out. An answer is
-// document 01's number, 0 to 8, and the numbers beside a refusal are 0. include/khirpando.h declares the same for C.
+// the paper's number, 0 to 9, and the numbers beside a refusal are 0. include/khirpando.h declares the same for C.
 //
 // Each contract is one equation: what is handed back and every byte lent are the rule's, with its answer as a number.
 // Reading calls hand the session back from where it was handed in, which spares three copies of 256 bytes: the rules
 // say that it comes back as it came.
 //
-// Below stand `store`, `numbers` and `rules`.
+// Below stand `store`, `numbers`, `write` for the numbers of its answers, and `rules`.
 ghost use mathlib.Core.Path.{_≡_};
 ghost use Rattle.rules.specs.Call.{openedNo, insertedNo, syncedNo};
 ghost use Rattle.rules.specs.Format;
 ghost use Rattle.rules.specs.Open;
 ghost use Rattle.rules.specs.Reports.{insertReported, withdrawReported, lookupReported, newestReported, hasAnyReported, listReported};
 ghost use Rattle.rules.specs.Sync;
+ghost use Rattle.write.specs.WriteFile.{writeReported};
 ghost use Rattle.exports.specs.Leaves as C;
 use rules::Session;
 
@@ -64,6 +65,15 @@ pub struct KhAny {
 pub struct KhListed {
     pub answer: u32,
     pub count: u64,
+    pub mended: u32,
+    pub reason: u32,
+    pub session: Session,
+}
+
+#[repr(C)]
+pub struct KhWritten {
+    pub answer: u32,
+    pub length: u64,
     pub mended: u32,
     pub reason: u32,
     pub session: Session,
@@ -235,6 +245,29 @@ pub extern "C" fn kh_list(
     KhListed {
         answer: numbers::listed(answer),
         count: numbers::listed_count(answer),
+        mended: report.mended,
+        reason: numbers::reason(reason),
+        session,
+    }
+}
+
+#[no_mangle]
+pub extern "C" fn kh_write_file(
+    working: &mut [u8],
+    stable: &[u8],
+    session: Session,
+    out: &mut [u8],
+) -> KhWritten
+    ensures { λ r. ⌜ C.writing r (now (working .exit)) (now (stable .entry)) (now (out .exit))
+        ≡ C.written (writeReported (now (working .entry)) (now (stable .entry)) session (now (out .entry))) ⌝ }
+{
+    let left = store::write_file(working, stable, session, out);
+    let answer = left.answer;
+    let report = left.report;
+    let reason = report.reason;
+    KhWritten {
+        answer: write::number_of(answer),
+        length: write::length_of(answer),
         mended: report.mended,
         reason: numbers::reason(reason),
         session,

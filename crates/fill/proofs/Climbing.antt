@@ -16,7 +16,6 @@ use Rattle.rules.specs.Report.{nothing}
 use Rattle.rules.specs.Walk.{Way, Walked, wayOf, wayReport, finds, stops, walkOf}
 use Rattle.rules.specs.declared.Asked.{Asked}
 use Rattle.rules.specs.declared.Report.{Report}
-use Rattle.rules.proofs.entries.Tests.{not-both}
 use Rattle.climbs.specs.Rest.{rest}
 use Rattle.climbs.specs.After.{after}
 use Rattle.climbs.specs.Ground.{Ground, Asks}
@@ -58,14 +57,15 @@ module _ {n c : ℕ} {a : Asked} {o : List ℕ} where
     pub climbing-full : ask .room ≤ length found → walkedTo t found z ≡ walkOf n c a o
     climbing-full h = sym (rest-full n c ask (walkedTo t found z) h) ∙ y .comes
 
-    -- where damage lies ahead there is room
-    pub climbing-room : walkOf n c a o .whole ≡ false → length found < ask .room
+    -- where a walk does not end for want of room there is room
+    pub climbing-room : (walkOf n c a o .whole ≡ true → length (walkOf n c a o .found) < ask .room) → length found < ask .room
     climbing-room h = go (leb (ask .room) (length found)) refl
       where
         go : (b : Bool) → leb (ask .room) (length found) ≡ b → length found < ask .room
         go true q =
-            absurd
-            (not-both (ap (λ (w : Walked). w .whole) (sym (climbing-full (leb-true (ask .room) (length found) q)))) h)
+            let f = climbing-full (leb-true (ask .room) (length found) q) in
+            let l = h (sym (ap (λ (w : Walked). w .whole) f)) in
+            absurd (omega (arith, l, ap (λ (w : Walked). length (w .found)) f, leb-true (ask .room) (length found) q))
         go false q = leb-false (ask .room) (length found) q
 
     module _ (room : length found < ask .room) where
@@ -93,7 +93,7 @@ module _ {n c : ℕ} {a : Asked} {o : List ℕ} where
           pub reached : Reached n c (ask .low) upto z t u l
           reached = next-leaf (y .ground) within upto z l f
 
-          passed : rest n c (after (l .high) ask) (walkedTo u (found ++ more ask u (l .child) found) (l .report)) ≡ walkOf n c a o
+          pub passed : rest n c (after (l .high) ask) (walkedTo u (found ++ more ask u (l .child) found) (l .report)) ≡ walkOf n c a o
           unfolding finds
           passed =
               let r = reached in

@@ -24,7 +24,7 @@ use Rattle.enter.specs.declared.Above.{Above}
 use Rattle.leaves.specs.declared.Leaf.{Leaf}
 use Rattle.leaves.specs.declared.Stepped.{Stepped}
 use Rattle.leaves.proofs.Loops.{Reached}
-use Rattle.fill.specs.Fills.{Lists, listing, listsOf, filling, filledIn, mending, mendedIn, Roomy, certsFrom, listed, asked, Sorted}
+use Rattle.fill.specs.Fills.{Lists, listing, listsOf, filling, filledIn, mending, mendedIn, Roomy, HasRoom, certsFrom, listed, asked, Sorted}
 use Rattle.fill.proofs.Copies.{lists-none, lists-count, lists-more}
 use Rattle.fill.proofs.Leaves as leaf
 use Rattle.fill.proofs.Climbing.{walkedTo, Climbing, more, climbing-begins, climbing-full, climbing-room, climbing-damaged, reached, climbing-ends, climbing-on, climbing-less}
@@ -149,9 +149,9 @@ module _ {n c : ℕ} {a : Asked} {o : List ℕ} where
       → (z : Report) → z ≡ nothing → Mending n c a o o (a .low) x z
   mending-begins g l h x e z q = record { found = []; climbing = climbing-begins g l h x e z q }
 
-  module _ {t : List ℕ} {low : ℕ} {x : Above} {z : Report} (y : Mending n c a o t low x z) (damaged : walkOf n c a o .whole ≡ false) (upto : ℕ) (u : List ℕ) where
+  module _ {t : List ℕ} {low : ℕ} {x : Above} {z : Report} (y : Mending n c a o t low x z) (has : HasRoom a (walkOf n c a o)) (upto : ℕ) (u : List ℕ) where
     room : length (y .found) < a .room
-    room = climbing-room (y .climbing) damaged
+    room = climbing-room (y .climbing) has
 
     pub mending-stops : (r : Report) → nexting u (Stepped.Damaged r) ≡ nextOf upto (wayOf n c low t) (wayReport n c low t z)
         → mending u r ≡ mendedIn (walkOf n c a o)
@@ -159,10 +159,8 @@ module _ {n c : ℕ} {a : Asked} {o : List ℕ} where
     mending-stops r f = ap mendedIn (climbing-damaged (y .climbing) room upto u r f)
 
     module _ (l : Leaf) (f : nexting u (Stepped.Leaf l) ≡ nextOf upto (wayOf n c low t) (wayReport n c low t z)) where
-      -- the damaged place comes before the end of the range
       pub mending-ends : a .high ≤ l .high → mending u (l .report) ≡ mendedIn (walkOf n c a o)
-      mending-ends h =
-          absurd (not-both (sym (ap (λ (w : Walked). w .whole) (climbing-ends (y .climbing) room upto u l f h))) damaged)
+      mending-ends h = ap mendedIn (climbing-ends (y .climbing) room upto u l f h)
 
       module _ (h : l .high < a .high) where
         pub mending-on : Mending n c a o u (l .high + 1) (l .behind) (l .report)

@@ -1,5 +1,5 @@
 -- What was found as the code keeps it: two lists, and how many certificates stand in them.
-use Prim.Native.Nat.{ℕ, _+_, _-_, _*_, _≤_}
+use Prim.Native.Nat.{ℕ, _+_, _-_, _*_, _≤_, _<_}
 use mathlib.Core.Path.{_≡_}
 use mathlib.Core.Bool.{true, false}
 use mathlib.Core.List.{List}
@@ -57,6 +57,10 @@ mendedIn w = mending (w .table) (w .report)
 pub record Roomy (a : Asked) (ks xs : List ℕ) : Type 0 where
   pub keys : a .room ≤ length ks
   pub records : a .room ≤ length xs
+
+-- it is not for want of room that a walk ends
+abbrev pub HasRoom : Asked → Walked → Type 0
+HasRoom a w = w .whole ≡ true → length (w .found) < a .room
 
 -- the walk ahead meets no damaged place and would mend nothing
 pub record Calm (n : ℕ) (a : Asked) (t : List ℕ) : Type 0 where

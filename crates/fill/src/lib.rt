@@ -4,7 +4,7 @@
 // `fill` leaves the table as the rules' `walkOf` leaves it. The certificates that the rules find stand in the lists from
 // the start on, their keys in one and their records in the other, and the places behind them stay. It asks that no
 // damaged place lies ahead, which `dry` finds out before a place of the lists is written. `fill_known` does the same
-// where nothing is to be mended, over the steps of the dry walk, and `mend` goes as far as the damage and writes no list.
+// where nothing is to be mended, over the steps of the dry walk, and `mend` goes to the end, or as far as the damage, and writes no list.
 // Each is one loop from leaf to leaf.
 //
 // Below stand `leaves` and `dry`, which step from leaf to leaf, `seek`, which finds a key on a page, and `head`.
@@ -17,7 +17,7 @@ use rules::MOST;
 use rules::PAGE;
 use rules::Report;
 ghost use mathlib.Core.Path.{_≡_};
-ghost use mathlib.Core.Bool.{true, false};
+ghost use mathlib.Core.Bool.{true};
 ghost use Prim.Native.Nat.{min, _+_, _-_, _*_, _≤_};
 ghost use lib.ListN.{length};
 ghost use Rattle.rules.specs.Layout.{pageSize, leafHeader, certSize, leafRoom, lastKey};
@@ -26,7 +26,7 @@ ghost use Rattle.rules.specs.Table.{pageAt, fit0};
 ghost use Rattle.rules.specs.Walk.{walkOf};
 ghost use Rattle.entries.specs.Spot.{keysIn, spotOf, startOf};
 ghost use Rattle.dry.specs.Walk.{dryOver};
-ghost use Rattle.fill.specs.Fills.{listing, listsOf, filling, filledIn, mending, mendedIn, Roomy, Calm, certsFrom, listed, asked};
+ghost use Rattle.fill.specs.Fills.{listing, listsOf, filling, filledIn, mending, mendedIn, Roomy, HasRoom, Calm, certsFrom, listed, asked};
 
 // How many certificates were written, and what was mended on the way.
 pub struct Filled {
@@ -221,10 +221,11 @@ pub fn fill(
     }
 }
 
-// The walk that only mends, up to the damaged place that lies ahead. So there is room to the end, and nothing is counted.
+// The walk that only mends, to its end or up to the damaged place that lies ahead. There is room to the end, so nothing is
+// counted.
 pub fn mend(t: &mut [u8], n: usize, c: u32, a: Asked) -> Report
     requires { ⌜ (length (now t) ≡ n * pageSize) × (fit0 n (now t) ≡ true) × (a .low ≤ a .high) × (a .high ≤ lastKey)
-        × (walkOf n c a (now t) .whole ≡ false) ⌝ }
+        × HasRoom a (walkOf n c a (now t)) ⌝ }
     ensures { λ r. ⌜ mending (now (t .exit)) r ≡ mendedIn (walkOf n c a (now (t .entry))) ⌝ }
 {
     let mut key = a.low;

@@ -46,6 +46,13 @@ list-tight κs a pre z z′ l l′ p q =
       (λ i. (e i .left .working, (l .1 .0, (l .1 .1 .0, (l .1 .1 .1 .0, (e i .left .keys, (e i .left .records, rest))))))),
     )
 
+pub write-file-tight : Tight this.write_file.Kinds.ps this.write_file.Kinds.r this.write_file.Reads.Pre this.write_file.Reads.Post
+write-file-tight κs a pre z z′ l l′ p q =
+    let e = p ∙ sym q in (
+      (λ i. record { answer = e i .left .answer; report = e i .report; session = e i .left .session }),
+      (λ i. (e i .left .working, (l .1 .0, (l .1 .1 .0, (e i .left .out, l .1 .1 .1 .1))))),
+    )
+
 pub sync-tight : Tight this.sync.Kinds.ps this.sync.Kinds.r this.sync.Reads.Pre this.sync.Reads.Post
 sync-tight κs a pre z z′ l l′ p q =
     let e = p ∙ sym q in

@@ -13,6 +13,7 @@
 //     newest    the largest issue of a meter, and its record
 //     has_any   whether a meter has a certificate
 //     list      the certificates from a start key upwards, into two lent lists, up to the shorter one
+//     write_file  the exchange file of all certificates, into a lent output
 //     sync      stable becomes a copy of working
 //
 // What the answers mean; where more than one would do, the one named first is given:
@@ -25,9 +26,10 @@
 //     SyncFirst  insert: sync, and try again
 //     Full       insert: too few pages are free; sync, and try again
 //     Spent      open, sync: the counter is at its end
+//     Short      write_file: the output cannot hold the file
 //     Done, Found, Yes, No, Filled   none of these: the call did what it is for
 //
-// What a refused call leaves: the session as it was handed in, the stable table and the lists as they were, and in the
+// What a refused call leaves: the session as it was handed in, the stable table, the lists and the output as they were, and in the
 // working table nothing changed but pages that the call mended on its way; a mended page holds those entries of its previous
 // page that lie in its range. Pages reach the stable table in `sync`, in `format`, in one page write of `open`, and at a crash.
 //
@@ -49,6 +51,8 @@ ghost use Rattle.lookup.specs.Looks;
 ghost use Rattle.newest.specs.Newests;
 ghost use Rattle.any.specs.Anys;
 ghost use Rattle.list.specs.Lists;
+ghost use Rattle.write.specs.WriteFile.{writeReported};
+ghost use Rattle.write.specs.Calls;
 ghost use Rattle.sync.specs.Syncs;
 use rules::AnyOf;
 use rules::Formatted;
@@ -60,6 +64,7 @@ use rules::Opening;
 use rules::Session;
 use rules::Syncing;
 use rules::Withdrawing;
+use write::Writing;
 
 // Answers Done or Length. The working table is only measured.
 pub fn format(working: &[u8], stable: &mut [u8]) -> Formatted
@@ -167,6 +172,14 @@ pub fn list(
         ≡ listReported (now (working .entry)) (now (stable .entry)) session start (now (keys .entry)) (now (records .entry)) ⌝ }
 {
     list::list(working, stable, session, start, keys, records)
+}
+
+// Answers Done with the file's length, Length, Damaged or Short.
+pub fn write_file(working: &mut [u8], stable: &[u8], session: Session, out: &mut [u8]) -> Writing
+    ensures { λ r. ⌜ Calls.leaving r (now (working .exit)) (now (stable .entry)) (now (out .exit))
+        ≡ writeReported (now (working .entry)) (now (stable .entry)) session (now (out .entry)) ⌝ }
+{
+    write::write_file(working, stable, session, out)
 }
 
 // Answers Done, Length or Spent.

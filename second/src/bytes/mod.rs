@@ -122,7 +122,7 @@ pub fn try_table(seed: u64, counters: &mut Counters) -> Kept {
 
 fn try_call(store: &mut Store, rng: &Rng, counters: &mut Counters) -> Kept {
     let key = some_key(store, rng);
-    match rng.below(25) {
+    match rng.below(27) {
         0 => promises::formats(&mut store.clone(), counters),
         1..=3 => {
             let session = store.session;
@@ -143,6 +143,10 @@ fn try_call(store: &mut Store, rng: &Rng, counters: &mut Counters) -> Kept {
         }
         14..=15 => promises::has_any(store, some_meter(store, rng), counters),
         16..=18 => promises::withdraw(store, key, counters),
+        19..=20 => {
+            let room = rng.one_of(&[0, 11, 12, 30, rng.below(4000), 100_000]);
+            promises::write_file(store, room, counters)
+        }
         _ => promises::insert(store, key, rng.next() as u32, counters),
     }
 }

@@ -3,9 +3,8 @@
 
 use super::other_ways::{Climb, Entering};
 use super::Counters;
-use crate::answer::{BADKEY, DAMAGED, DONE, LENGTH, NONE, SPENT};
+use crate::answer::{BADKEY, DAMAGED, DONE, LENGTH, NONE, SHORT, SPENT};
 use crate::field::{get32, put32};
-use crate::format;
 use crate::key::{issues, key, parts, whole};
 use crate::layout::{zero, FIRST_NUMBER, LAST_FINAL, PAGE};
 use crate::page::{self, Header, LeafEntry, Page};
@@ -16,6 +15,7 @@ use crate::store::Store;
 use crate::tree::Tree;
 use crate::walk::{pages, zero_fits};
 use crate::without::taken_out;
+use crate::{file_of, format, told_by};
 use std::ops::RangeInclusive;
 
 pub type Kept = Result<(), String>;
@@ -172,6 +172,31 @@ pub fn list(store: &mut Store, start: u64, rooms: [usize; 2], counters: &mut Cou
     let filled = keys.iter().zip(&records).take(count);
     let listed = entries.iter().map(|entry| (&entry.key, &entry.record));
     must(filled.eq(listed), "climbing lists other entries")
+}
+
+/// The file of what climbing shows, with any room; 3 before 9, and mends with both.
+pub fn write_file(store: &mut Store, room: usize, counters: &mut Counters) -> Kept {
+    let before = store.clone();
+    let mut out = vec![0xA5; room];
+    let (answer, length) = store.write_file(&mut out);
+    counters.answer("write_file", answer);
+    mends(&before, store, counters)?;
+    let untouched = out[length..].iter().all(|byte| *byte == 0xA5);
+    must(untouched, "output beyond the file changed")?;
+    must(answer == DONE || length == 0, "a number beside a refusal")?;
+    let all = 0..=u64::MAX;
+    let (climbed, entries) = climbs(&before, store, all, usize::MAX, true, counters)?;
+    let file = file_of(&entries);
+    let expected = match climbed {
+        DONE if file.len() > room => SHORT,
+        other => other,
+    };
+    must(expected == answer, "climbing gives another answer")?;
+    must(answer != DONE || file == out[..length], "another file")?;
+    must(
+        answer != DONE || told_by(&file) == Some(entries),
+        "the file tells of others",
+    )
 }
 
 pub fn insert(store: &mut Store, key: u64, record: u32, counters: &mut Counters) -> Kept {

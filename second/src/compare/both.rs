@@ -155,6 +155,29 @@ impl Both {
         self.alike("list", answer, &(answer, count as u64), &listed, counters)
     }
 
+    /// An output of so many bytes, with the same marks in each.
+    pub fn write_file(&mut self, room: usize, counters: &mut Counters) -> Alike<u32> {
+        let marked: Vec<u8> = (0..room).map(|place| place as u8 ^ 0xA5).collect();
+        let (mut own, mut proved) = (marked.clone(), marked);
+        let (answer, length) = self.own.write_file(&mut own);
+        let written = self.proved.write_file(&mut proved);
+        if own != proved {
+            return Err(format!("write_file into {room} bytes: another output"));
+        }
+        let own = (answer, length as u64);
+        self.alike("write_file", answer, &own, &written, counters)
+    }
+
+    /// An output that is just as long as the file, and one that is a byte short, on copies.
+    pub fn write_files(&self, counters: &mut Counters) -> Alike<()> {
+        let mut whole = vec![0; 12 + 18 * 40 * PAGES_MOST];
+        let (_, length) = self.own.clone().write_file(&mut whole);
+        for room in [length, length.saturating_sub(1), whole.len()] {
+            self.clone().write_file(room, counters)?;
+        }
+        Ok(())
+    }
+
     pub fn sync(&mut self, counters: &mut Counters) -> Alike<u32> {
         let (own, proved) = (self.own.sync(), self.proved.sync());
         self.alike("sync", own, &own, &proved, counters)

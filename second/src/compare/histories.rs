@@ -78,7 +78,10 @@ fn step(both: &mut Both, player: &mut Player, call: &Call, counters: &mut Counte
             start,
             keys,
             records,
-        } => _ = both.list(start, keys, records, counters)?,
+        } => {
+            both.write_files(counters)?;
+            both.list(start, keys, records, counters)?;
+        }
         Call::Sync => {
             player.answer = DONE;
             if both.sync(counters)? == DONE {
@@ -134,6 +137,7 @@ fn look_around(mut both: Both, player: &Player, mix: Mix, counters: &mut Counter
         both.withdraw(key ^ 2, counters)?;
         both.withdraw(key, counters)?;
     }
+    both.write_files(counters)?;
     both.list(
         0,
         player.states.now.len() + 20,
@@ -179,6 +183,7 @@ fn misfit(mut both: Both, pages: usize, counters: &mut Counters) -> Alike<()> {
     both.newest(0, 1, counters)?;
     both.has_any(0, 1, counters)?;
     both.list(0, 1, 1, counters)?;
+    both.write_file(1, counters)?;
     both.sync(counters)?;
     both.open(counters)?;
     both.format(counters)?;

@@ -61,6 +61,7 @@ fn answers_and_lists() -> Alike<()> {
     told(both.lookup(key(7, 1, 1), counters), "answered")?;
     told(both.newest(7, 1, counters), "answered")?;
     told(both.list(0, 5, 5, counters), "lists")?;
+    told(both.write_file(100, counters), "output")?;
     debug_assert_eq!(both.own.lookup(key(7, 1, 1)).0, DONE);
     Ok(())
 }

@@ -19,7 +19,7 @@ pub fn table(seed: u64, counters: &mut Counters) -> Alike<()> {
 
 fn call(both: &mut Both, rng: &Rng, counters: &mut Counters) -> Alike<u32> {
     let key = some_key(&both.own, rng);
-    match rng.below(32) {
+    match rng.below(36) {
         0 => both.clone().format(counters),
         1..=2 => {
             let session = both.own.session;
@@ -47,6 +47,11 @@ fn call(both: &mut Both, rng: &Rng, counters: &mut Counters) -> Alike<u32> {
             both.has_any(model, serial, counters)
         }
         21..=24 => both.withdraw(key, counters),
+        25..=28 => {
+            both.write_files(counters)?;
+            let room = rng.one_of(&[0, 11, 12, 30, rng.below(4000), 100_000]);
+            both.write_file(room, counters)
+        }
         _ => both.insert(key, rng.next() as u32, counters),
     }
 }

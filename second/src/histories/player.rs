@@ -17,6 +17,7 @@ use crate::place::Place;
 use crate::report::Report;
 use crate::session::Session;
 use crate::store::Store;
+use crate::told_by;
 use crate::tree::Tree;
 use std::ops::RangeInclusive;
 
@@ -294,7 +295,26 @@ impl Player {
         must(good, || {
             format!("list from {start} answers {answer}, {count} entries")
         })?;
-        self.told(tells, answer, counters)
+        self.told(tells, answer, counters)?;
+        self.file()
+    }
+
+    /// The exchange file tells of exactly what is there; writing it leaves what a full list leaves.
+    fn file(&self) -> Played {
+        let (mut writes, mut lists) = (self.store.clone(), self.store.clone());
+        let mut out = vec![0; 12 + 18 * self.states.now.len()];
+        let (answer, length) = writes.write_file(&mut out);
+        let told = told_by(&out[..length]);
+        let same = told.is_some_and(|told| self.states.now.same(told.into_iter()));
+        must(answer == DONE && same, || {
+            format!("the file of {length} bytes, answer {answer}, tells of others")
+        })?;
+        let (mut keys, mut records) = (vec![0; 6000], vec![0; 6000]);
+        lists.list(0, &mut keys, &mut records);
+        let alike = writes == lists && writes.report == lists.report;
+        must(alike, || {
+            "writing leaves other pages than a list".to_string()
+        })
     }
 
     fn sync(&mut self, counters: &mut Counters) -> Played {

@@ -1,4 +1,4 @@
--- `fill::mend`: at each turn damage lies ahead, so there is room. Assumes nothing.
+-- `fill::mend`: at each turn there is room. Assumes nothing.
 use Prim.Native.Nat.{_+_, _-_}
 use mathlib.Core.Path.{_≡_, refl, ap, sym, _∙_}
 use lib.ListN.{length}

@@ -2,6 +2,7 @@
 use mathlib.Core.Path.{sym, _∙_}
 use borrow.Author.Tests.{not-true, not-false}
 use Rattle.rules.specs.Walk.{walkOf}
+use Rattle.rules.proofs.entries.Tests.{not-both}
 use Rattle.list.proofs.Tells.{known-ahead, calm-ahead, tell-calm, tell-damaged, tell-filled}
 use native.Mathlib.Omega.{arith}
 use borrow.Author.Needs.{needs}
@@ -19,7 +20,7 @@ mend-requires c κs =
     let slice-known = c .before .before .before .before .before .before .before .slice-known in
     let dry-of = c .before .before .before .dry-of in
     let whole = known-ahead (args .n) (args .a) (args .t .now) (pre .2) (pre .0) (pre .1) (dry-of .result) (dry-of .ensures) (args .c) (slice-known .given) (omega (arith, fits .c)) in
-    (pre .0, pre .2, pre .3, pre .4, sym whole ∙ not-true (dry-of .result .whole) (c .before .if1 .taken))
+    (pre .0, pre .2, pre .3, pre .4, λ h. absurd (not-both h (sym whole ∙ not-true (dry-of .result .whole) (c .before .if1 .taken))))
 
 same-length : tie.Need-same-length
 same-length c = search needs

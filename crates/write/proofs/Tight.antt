@@ -1,0 +1,28 @@
+-- No second outcome satisfies a contract of this crate. Assumes nothing.
+use mathlib.Core.Path.{refl, sym, _∙_}
+use Rattle.tight.specs.Tight.{Tight}
+use Rattle.write.proofs as this
+
+pub starts-of-tight : Tight this.put.starts_of.Kinds.ps this.put.starts_of.Kinds.r this.put.starts_of.Reads.Pre this.put.starts_of.Reads.Post
+starts-of-tight κs a pre z z′ l l′ p q = (p ∙ sym q, refl)
+
+pub put-counts-tight : Tight this.put.put_counts.Kinds.ps this.put.put_counts.Kinds.r this.put.put_counts.Reads.Pre this.put.put_counts.Reads.Post
+put-counts-tight κs a pre z z′ l l′ p q = (refl, λ i. ((p ∙ sym q) i, l .1))
+
+pub put-leaf-tight : Tight this.put.put_leaf.Kinds.ps this.put.put_leaf.Kinds.r this.put.put_leaf.Reads.Pre this.put.put_leaf.Reads.Post
+put-leaf-tight κs a pre z z′ l l′ p q =
+    let e = p ∙ sym q in
+    ((λ i. e i .tally), (λ i. (l .0, (l .1 .0, (l .1 .1 .0, (l .1 .1 .1 .0, (l .1 .1 .1 .1 .0, (l .1 .1 .1 .1 .1 .0, (l .1 .1 .1 .1 .1 .1 .0, (e i .out, l .1 .1 .1 .1 .1 .1 .1 .1))))))))))
+
+pub number-of-tight : Tight this.number_of.Kinds.ps this.number_of.Kinds.r this.number_of.Reads.Pre this.number_of.Reads.Post
+number-of-tight κs a pre z z′ l l′ p q = (p ∙ sym q, refl)
+
+pub length-of-tight : Tight this.length_of.Kinds.ps this.length_of.Kinds.r this.length_of.Reads.Pre this.length_of.Reads.Post
+length-of-tight κs a pre z z′ l l′ p q = (p ∙ sym q, refl)
+
+pub write-file-tight : Tight this.write_file.Kinds.ps this.write_file.Kinds.r this.write_file.Reads.Pre this.write_file.Reads.Post
+write-file-tight κs a pre z z′ l l′ p q =
+    let e = p ∙ sym q in (
+      (λ i. record { answer = e i .left .answer; report = e i .report; session = e i .left .session }),
+      (λ i. (e i .left .working, (tt, (tt, (e i .left .out, tt))))),
+    )

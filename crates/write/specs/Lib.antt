@@ -1,0 +1,5 @@
+-- The rule of the call, and the file as the code writes it.
+pub mod WriteFile
+pub mod Puts
+pub mod Calls
+pub mod Promises
