@@ -1,12 +1,12 @@
 -- The loop of the walk that counts: the tally of what was seen, and what is left to walk. Assumes nothing.
 use Prim.Native.Nat.{ℕ, _+_, _*_, _-_, _≤_, _<_}
 use native.Mathlib.Omega.{arith}
-use mathlib.Core.Path.{_≡_, refl, ap, sym, subst, _∙_}
+use mathlib.Core.Path.{_≡_, ap, sym, subst, _∙_}
 use mathlib.Core.Bool.{Bool, true, false}
 use mathlib.Core.List.{List, [], _++_}
-use lib.ListN.{length, length-append, take, drop, replicate}
+use lib.ListN.{length, take, drop, replicate}
 use lib.Seq.{take-all}
-use Rattle.rules.specs.Layout.{pageSize, leafHeader, certSize, leafRoom, leafKind, mostPages, lastKey}
+use Rattle.rules.specs.Layout.{pageSize, leafHeader, certSize, leafRoom, mostPages, lastKey}
 use Rattle.rules.specs.Entry.{Cert, cut}
 use Rattle.rules.specs.Page.{readEach, certIn}
 use Rattle.rules.specs.Table.{pageAt, read, fit0}
@@ -16,10 +16,10 @@ use Rattle.rules.proofs.entries.Entries.{cut-wider, length-cut}
 use Rattle.rules.proofs.bytes.Each.{length-readEach}
 use Rattle.head.specs.Head.{headIn}
 use Rattle.head.specs.declared.Head.{Head}
-use Rattle.head.proofs.Headers.{headOf, headIn-page, certs-leaf}
-use Rattle.dry.specs.Walk.{Sighted, sighted, asks, dryOver}
+use Rattle.head.proofs.Headers.{headIn-page, certs-leaf}
+use Rattle.dry.specs.Walk.{sighted, asks, dryOver}
 use Rattle.dry.specs.Count.{Leaf}
-use Rattle.dry.specs.Cursor.{noRun, atRoot, stepping, stepOf, ahead}
+use Rattle.dry.specs.Cursor.{noRun, atRoot, stepping, stepOf}
 use Rattle.dry.specs.declared.Cursor.{Cursor}
 use Rattle.dry.specs.declared.LeafAt.{LeafAt}
 use Rattle.dry.specs.declared.Step.{Step}

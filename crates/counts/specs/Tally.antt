@@ -1,6 +1,6 @@
 -- Models, meters and certificates counted in key order, from certificate to certificate.
-use Prim.Native.Nat.{ℕ, _+_, _/_, _^_, _≤_}
-use mathlib.Core.Bool.{Bool, true, false}
+use Prim.Native.Nat.{ℕ, _+_, _/_, _≤_}
+use mathlib.Core.Bool.{true, false}
 use mathlib.Core.List.{List, [], _∷_}
 use lib.Dec.{eqb}
 use Rattle.rules.specs.Layout.{lastKey}

@@ -8,7 +8,6 @@ use mathlib.Core.Bool.{Bool, true, false}
 use mathlib.Core.List.{List, [], _∷_, _++_, append-nil, append-assoc}
 use mathlib.Core.Option.{Option, some, none, Option·some-injective, Option·none-ne-some}
 use lib.ListN.{length, length-append, length-take, take}
-use lib.Seq.{length-take-le}
 use Rattle.rules.specs.Layout.{topKind}
 use Rattle.rules.specs.Test.{mem}
 use Rattle.rules.specs.Entry.{Cert, Child, cut}

@@ -1,5 +1,5 @@
 -- The walk that writes: what was put and what is left to climb to come to what the rules' walk finds. Assumes nothing.
-use Prim.Native.Nat.{ℕ, _+_, _-_, _*_, _≤_, _<_}
+use Prim.Native.Nat.{ℕ, _+_, _-_, _≤_, _<_}
 use native.Mathlib.Omega.{arith}
 use mathlib.Core.Path.{_≡_, refl, sym, ap, subst, _∙_}
 use mathlib.Core.Bool.{Bool, true, false}
@@ -8,7 +8,7 @@ use lib.Dec.{leb}
 use lib.ListN.{length, length-append, take, drop}
 use lib.Seq.{take-all, length-take-le}
 use borrow.Author.Tests.{leb-true, leb-false}
-use Rattle.rules.specs.Layout.{pageSize, leafHeader, certSize, lastKey}
+use Rattle.rules.specs.Layout.{leafHeader, certSize, lastKey}
 use Rattle.rules.specs.Entry.{Cert, cut}
 use Rattle.rules.specs.Page.{readEach, certIn}
 use Rattle.rules.specs.Table.{pageAt, read}
@@ -30,9 +30,10 @@ use Rattle.fill.proofs.Fills.{from, reached-certs}
 use Rattle.counts.specs.Tally.{noTally, countedAll, Few}
 use Rattle.counts.specs.declared.Tally.{Tally}
 use Rattle.counts.proofs.Tallies.{few-none, few-all, all-append, all-grows}
-use Rattle.write.specs.Puts.{Put, putting, putAll, Lies, wrote, wroteIn}
-use Rattle.write.specs.declared.put.Starts.{Starts}
-use Rattle.write.proofs.Puts.{lies-fewer, put-append, put-tally}
+use Rattle.sections.specs.Puts.{Put, putting, putAll, Lies}
+use Rattle.write.specs.Calls.{wrote, wroteIn}
+use Rattle.sections.specs.declared.Starts.{Starts}
+use Rattle.sections.proofs.Puts.{lies-fewer, put-append, put-tally}
 use Rattle.write.proofs.Extends.{Extends, rest-more}
 
 -- a part that is shorter than it might be is the whole

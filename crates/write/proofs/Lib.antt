@@ -1,12 +1,8 @@
 -- Each file uses only those above it.
-pub mod Puts
 pub mod Extends
 pub mod Filling
 pub mod Rooms
 pub mod Listing
-pub mod Runs
-pub mod Overs
-pub mod File
 pub mod Tells
 pub mod Calls
 pub mod Promises

@@ -11,10 +11,9 @@ use lib.Dec.{ltb}
 use lib.ListN.{length, take, drop, take-append-drop}
 use borrow.Author.Tests.{ltb-true, ltb-false, lt-ltb}
 use Rattle.rules.specs.Layout.{lastKey}
-use Rattle.rules.specs.Test.{between, every, all, mem}
+use Rattle.rules.specs.Test.{between, all, mem}
 use Rattle.rules.specs.Key.{goodKey}
 use Rattle.rules.specs.Entry.{Cert, keys, cut, rising}
-use Rattle.rules.specs.Page.{Page, View}
 use Rattle.rules.specs.Walk.{Step, Way, wayOf, Walked, unwalked, finds, stops, walkOf}
 use Rattle.rules.specs.declared.Asked.{Asked}
 use Rattle.rules.proofs.entries.Tests as tests

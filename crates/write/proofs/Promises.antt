@@ -1,9 +1,9 @@
 -- What the rule comes to, for every table. Assumes nothing.
-use Prim.Native.Nat.{ℕ, min, _^_, _≤_, _<_}
+use Prim.Native.Nat.{ℕ, min, _^_, _<_}
 use native.Mathlib.Omega.{arith}
-use mathlib.Core.Path.{_≡_, refl, sym, ap, subst, _∙_}
+use mathlib.Core.Path.{_≡_, refl, sym, ap, _∙_}
 use mathlib.Core.Bool.{Bool, true, false}
-use mathlib.Core.List.{List, [], _∷_, _++_}
+use mathlib.Core.List.{List}
 use lib.Dec.{leb, lit<}
 use lib.ListN.{length, take, drop}
 use lib.Seq.{take-at}
@@ -15,7 +15,6 @@ use Rattle.rules.specs.Call.{lengthsFor}
 use Rattle.rules.specs.Walk.{Walked, walkOf}
 use Rattle.rules.specs.Reports.{onceTested, listReported}
 use Rattle.rules.specs.List.{upFrom, listDone, listRefused, listFrom, list}
-use Rattle.rules.specs.declared.Asked.{Asked}
 use Rattle.rules.specs.declared.Session.{Session}
 use Rattle.rules.proofs.bytes.Lengths.{lengthsFor-true}
 use Rattle.exchange.specs.Written.{fileOf}

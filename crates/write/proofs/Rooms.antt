@@ -7,7 +7,7 @@ use mathlib.Core.Bool.{Bool, true, false}
 use mathlib.Core.List.{List, [], _∷_, _++_}
 use mathlib.Core.Option.{Option, some, none}
 use lib.Dec.{ltb, leb}
-use lib.ListN.{length, length-append, take}
+use lib.ListN.{length, length-append}
 use lib.Seq.{take-all}
 use borrow.Author.Tests.{lt-ltb}
 use Rattle.rules.specs.Layout.{topKind}
@@ -16,11 +16,11 @@ use Rattle.rules.specs.Entry.{Cert, cut}
 use Rattle.rules.specs.Page.{Page, View}
 use Rattle.rules.specs.Place.{rootPlace, kids}
 use Rattle.rules.specs.Enter.{enter}
-use Rattle.rules.specs.Walk.{Walked, unwalked, noted, enters, finds, stops, walkEach, walk, walkOf}
+use Rattle.rules.specs.Walk.{Walked, unwalked, noted, enters, finds, walkEach, walk, walkOf}
 use Rattle.rules.specs.declared.Place.{Place}
 use Rattle.rules.specs.declared.Asked.{Asked}
 use Rattle.rules.proofs.entries.Entries.{length-cut}
-use Rattle.write.proofs.Extends.{Extends, Small, entered-small, under, finds-more, walk-more}
+use Rattle.write.proofs.Extends.{Extends, entered-small, under, finds-more, walk-more}
 
 module _ (low high r q : ℕ) where
   abbrev a : Asked

@@ -1,10 +1,9 @@
 -- What the walks give to tell: the walk that counts knows beforehand whether the output is written. Assumes nothing.
-use mathlib.Core.Path.{_≡_, refl, sym, ap, subst, _∙_}
-use mathlib.Core.Bool.{Bool, true, false}
+use mathlib.Core.Path.{_≡_, sym, ap, subst, _∙_}
+use mathlib.Core.Bool.{true, false}
 use mathlib.Core.List.{List}
 use Prim.Native.Nat.{ℕ, _*_, _^_, _≤_, _<_}
 use native.Mathlib.Omega.{arith}
-use lib.Dec.{leb}
 use lib.ListN.{length}
 use borrow.Author.Tests.{le-leb, lt-leb}
 use Rattle.fields.specs.Field.{Bytes}
@@ -24,14 +23,14 @@ use Rattle.counts.specs.Tally.{everything, noTally, countedAll, Few, aheadBy, a
 use Rattle.counts.specs.declared.Ahead.{Ahead}
 use Rattle.counts.specs.declared.Tally.{Tally}
 use Rattle.counts.proofs.Tallies.{few-none, few-all, certs-found}
-use Rattle.write.specs.Puts.{startsOf, putCounts, putAll, Lies, Wrote, wrote, wroteIn}
-use Rattle.write.specs.Calls.{Told, telling, telled, told}
+use Rattle.sections.specs.Puts.{startsOf, putCounts, putAll, Lies}
+use Rattle.write.specs.Calls.{telling, telled, told, Wrote, wrote, wroteIn}
 use Rattle.write.specs.declared.Written.{Written}
 use Rattle.write.specs.declared.Sought.{Sought}
-use Rattle.write.specs.declared.put.Starts.{Starts}
+use Rattle.sections.specs.declared.Starts.{Starts}
 use Rattle.write.proofs.Extends.{walk-few}
 use Rattle.write.proofs.Listing.{listing-set}
-use Rattle.write.proofs.File.{file-end, file-written, file-lies}
+use Rattle.sections.proofs.File.{file-end, file-written, file-lies}
 
 -- every key is asked for
 pub asks-low : {a : Asked} → a ≡ everything → a .low ≤ a .high

@@ -3,17 +3,6 @@ use mathlib.Core.Path.{refl, sym, _∙_}
 use Rattle.tight.specs.Tight.{Tight}
 use Rattle.write.proofs as this
 
-pub starts-of-tight : Tight this.put.starts_of.Kinds.ps this.put.starts_of.Kinds.r this.put.starts_of.Reads.Pre this.put.starts_of.Reads.Post
-starts-of-tight κs a pre z z′ l l′ p q = (p ∙ sym q, refl)
-
-pub put-counts-tight : Tight this.put.put_counts.Kinds.ps this.put.put_counts.Kinds.r this.put.put_counts.Reads.Pre this.put.put_counts.Reads.Post
-put-counts-tight κs a pre z z′ l l′ p q = (refl, λ i. ((p ∙ sym q) i, l .1))
-
-pub put-leaf-tight : Tight this.put.put_leaf.Kinds.ps this.put.put_leaf.Kinds.r this.put.put_leaf.Reads.Pre this.put.put_leaf.Reads.Post
-put-leaf-tight κs a pre z z′ l l′ p q =
-    let e = p ∙ sym q in
-    ((λ i. e i .tally), (λ i. (l .0, (l .1 .0, (l .1 .1 .0, (l .1 .1 .1 .0, (l .1 .1 .1 .1 .0, (l .1 .1 .1 .1 .1 .0, (l .1 .1 .1 .1 .1 .1 .0, (e i .out, l .1 .1 .1 .1 .1 .1 .1 .1))))))))))
-
 pub number-of-tight : Tight this.number_of.Kinds.ps this.number_of.Kinds.r this.number_of.Reads.Pre this.number_of.Reads.Post
 number-of-tight κs a pre z z′ l l′ p q = (p ∙ sym q, refl)
 

@@ -9,6 +9,9 @@ use Rattle.rules.specs.Report.{Reported}
 use Rattle.rules.specs.Walk.{Walked}
 use Rattle.rules.specs.declared.Report.{Report}
 use Rattle.exchange.specs.Written.{fileOf}
+use Rattle.counts.specs.Tally.{noTally}
+use Rattle.sections.specs.Puts.{putAll}
+use Rattle.sections.specs.declared.Starts.{Starts}
 use Rattle.write.specs.WriteFile.{WriteLeft}
 use Rattle.write.specs.declared.Written.{Written}
 use Rattle.write.specs.declared.Writing.{Writing}
@@ -49,3 +52,15 @@ told out w =
         | false ↦ telled Written.Short w out
       ]
     ]
+
+-- what the walk that writes leaves
+pub record Wrote : Type 0 where
+  pub table : List ℕ
+  pub out : List ℕ
+  pub report : Report
+
+abbrev pub wrote : List ℕ → List ℕ → Report → Wrote
+wrote t out x = record { table = t; out = out; report = x }
+
+unfoldable pub wroteIn : Starts → List ℕ → Walked → Wrote
+wroteIn s out w = wrote (w .table) (putAll s noTally (w .found) out .out) (w .report)

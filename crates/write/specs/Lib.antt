@@ -1,5 +1,4 @@
--- The rule of the call, and the file as the code writes it.
+-- The rule of the call, what the code hands back, and what the rule comes to.
 pub mod WriteFile
-pub mod Puts
 pub mod Calls
 pub mod Promises

@@ -6,20 +6,18 @@
 // output as it is, and each section stands behind its count: so the dry walk counts models, meters and certificates first,
 // and one walk then fills the three sections. Where the output is not touched the pages are only mended.
 //
-// Below stand `tables`, which tests lengths, `counts`, which counts, `fill`, whose walk only mends, `leaves`, which steps
-// from leaf to leaf, and `exchange`, the form of the file.
-mod put;
-
+// Below stand `tables`, which tests lengths, `counts`, which counts, `sections`, which writes a leaf's certificates,
+// `fill`, whose walk only mends, `leaves`, which steps from leaf to leaf, and `exchange`, the form of the file.
 use counts::everything;
 use counts::no_tally;
 use leaves::Stepped;
-use put::Starts;
-use put::put_counts;
-use put::put_leaf;
-use put::starts_of;
 use rules::Asked;
 use rules::Report;
 use rules::Session;
+use sections::Starts;
+use sections::put_counts;
+use sections::put_leaf;
+use sections::starts_of;
 ghost use mathlib.Core.Path.{_≡_};
 ghost use mathlib.Core.Bool.{true};
 ghost use Prim.Native.Nat.{_*_, _≤_};
@@ -30,8 +28,8 @@ ghost use Rattle.rules.specs.Walk.{walkOf};
 ghost use Rattle.fill.specs.Fills.{HasRoom};
 ghost use Rattle.counts.specs.Tally.{everything, noTally, countedAll};
 ghost use Rattle.write.specs.WriteFile.{writeReported, writtenNo, writtenLength};
-ghost use Rattle.write.specs.Puts.{Lies, wrote, wroteIn};
-ghost use Rattle.write.specs.Calls.{leaving, telling, told};
+ghost use Rattle.sections.specs.Puts.{Lies};
+ghost use Rattle.write.specs.Calls.{leaving, telling, told, wrote, wroteIn};
 
 // The file's length, or why there is none.
 pub enum Written {

@@ -1,3 +1,4 @@
+-- `counts::count_leaf`: at each turn the tally and the certificates left come to what all come to. Assumes nothing.
 use Prim.Native.Nat.{_+_, _-_, _≤_}
 use mathlib.Core.Path.{_≡_, refl, sym, subst, _∙_}
 use Rattle.rules.specs.Table.{pageAt}
@@ -8,10 +9,6 @@ use borrow.Author.Needs.{needs}
 use native.Mathlib.Omega.{arith}
 use Rattle.counts.proofs.count_leaf.Statement.{statement}
 use Rattle.counts.proofs.count_leaf.Tie as tie
-use Rattle.counts.proofs.count_leaf.Reads as reads
-use Rattle.counts.proofs.count_leaf.Lts as lts
-use Rattle.counts.proofs.counted_in.Reads as counted-in-reads
-use Rattle.head.proofs.cert_key_at.Reads as cert-key-at-reads
 
 abbrev Inv-loop : tie.InvT-loop
 Inv-loop table page entries low high t₀ j₀ t j = (j ≤ entries) × Few t × (t .certs ≤ t₀ .certs + j) × (counts low high (pageAt table page) entries j t ≡ counts low high (pageAt table page) entries 0 t₀)
@@ -19,27 +16,21 @@ Inv-loop table page entries low high t₀ j₀ t j = (j ≤ entries) × Few t ×
 abbrev μ-loop : tie.MeasureT-loop
 μ-loop table page entries low high t₀ j₀ t j = entries - j
 
--- src/lib.rt:116:5
 loop-holds : tie.Need-loop-holds Inv-loop μ-loop
 loop-holds c = (omega arith, c .before .pre .2, omega arith, refl)
 
--- src/lib.rt:117:38
 cert-key-at-requires : tie.Need-cert-key-at-requires Inv-loop μ-loop
 cert-key-at-requires c κs = (c .before .before .before .pre .0, omega (arith, c .loop-test .taken, c .before .before .before .pre .1))
 
--- src/lib.rt:117:9
 counted-in-requires : tie.Need-counted-in-requires Inv-loop μ-loop
 counted-in-requires c κs = (c .before .before .loop .inv .1, omega (arith, c .before .before .loop .inv .2, c .before .loop-test .taken, c .before .before .before .before .pre .1, c .before .before .before .before .pre .3))
 
--- src/lib.rt:118:9
 add-j : tie.Need-add-j Inv-loop μ-loop
 add-j c = search needs
 
--- src/lib.rt:116:5
 loop-less : tie.Need-loop-less Inv-loop μ-loop
 loop-less c = search needs
 
--- src/lib.rt:116:5
 loop-again : tie.Need-loop-again Inv-loop μ-loop
 loop-again c =
     let args = c .before .before .before .before .before .args in
@@ -52,7 +43,6 @@ loop-again c =
       counts-turn (args .low) (args .high) (pageAt (args .table .now) (args .page)) (args .entries) (loop .j) (cert-key-at .result) (loop .t) (counted-in .result) (c .before .before .loop-test .taken) (cert-key-at .ensures) (counted-in .ensures) ∙ loop .inv .3,
     )
 
--- src/lib.rt:110:1
 returns : tie.Need-returns Inv-loop μ-loop
 returns c =
     let args = c .before .before .before .args in

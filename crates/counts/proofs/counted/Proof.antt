@@ -1,24 +1,18 @@
+-- `counts::counted`: each number by itself. Assumes nothing.
 use Rattle.counts.specs.Tally.{counted}
 use borrow.Author.Needs.{needs}
 use Rattle.counts.proofs.counted.Statement.{statement}
 use Rattle.counts.proofs.counted.Tie as tie
-use Rattle.counts.proofs.counted.Reads as reads
-use Rattle.counts.proofs.counted.Lts as lts
-use Rattle.counts.proofs.one_more.Reads as one-more-reads
 
--- src/lib.rt:84:9
 one-more-requires : tie.Need-one-more-requires
 one-more-requires c κs = search needs
 
--- src/lib.rt:85:9
 one-more-requires-2 : tie.Need-one-more-requires-2
 one-more-requires-2 c κs = search needs
 
--- src/lib.rt:86:17
 add-certs : tie.Need-add-certs
 add-certs c = search needs
 
--- src/lib.rt:80:1
 returns : tie.Need-returns
 unfolding counted
 returns c = rw (c .before .before .one-more .ensures, c .before .one-more2 .ensures)

@@ -1,21 +1,15 @@
+-- `write::fill`: at each turn, what was put and what is left to climb to come to what the rules' walk finds. Assumes nothing.
 use Prim.Native.Nat.{_+_, _-_}
 use mathlib.Core.Path.{_≡_, refl, ap, sym, subst, _∙_}
 use lib.ListN.{length}
 use Rattle.leaves.specs.Cursors.{nexting}
 use Rattle.fill.proofs.Fills.{reached-inside, reached-count}
-use Rattle.write.specs.Puts.{Lies}
+use Rattle.sections.specs.Puts.{Lies}
 use Rattle.write.proofs.Filling.{Filling, filling-begins, filling-few, filling-damaged, filling-reached, filling-lies, filling-ends, filling-on, filling-less}
 use borrow.Author.Needs.{needs}
 use native.Mathlib.Omega.{arith}
 use Rattle.write.proofs.fill.Statement.{statement}
 use Rattle.write.proofs.fill.Tie as tie
-use Rattle.write.proofs.fill.Reads as reads
-use Rattle.write.proofs.fill.Lts as lts
-use Rattle.counts.proofs.no_tally.Reads as no-tally-reads
-use Rattle.leaves.proofs.next.Reads as next-reads
-use Rattle.leaves.proofs.start.Reads as start-reads
-use Rattle.rules.proofs.Report.nothing.Reads as nothing-reads
-use Rattle.write.proofs.put.put_leaf.Reads as put-leaf-reads
 
 abbrev Inv-loop : tie.InvT-loop
 Inv-loop t₀ n c a s out₀ key₀ cursor₀ tally₀ report₀ t out key cursor tally report = (length t ≡ length t₀) × (length out ≡ length out₀) × Filling n c a s t₀ out₀ t key cursor tally out report
@@ -23,93 +17,71 @@ Inv-loop t₀ n c a s out₀ key₀ cursor₀ tally₀ report₀ t out key curso
 abbrev μ-loop : tie.MeasureT-loop
 μ-loop t₀ n c a s out₀ key₀ cursor₀ tally₀ report₀ t out key cursor tally report = a .high + 1 - key
 
--- src/lib.rt:89:9
 start-requires : tie.Need-start-requires Inv-loop μ-loop
 start-requires c κs = search needs
 
--- src/lib.rt:90:9
 no-tally-requires : tie.Need-no-tally-requires Inv-loop μ-loop
 no-tally-requires c κs = search needs
 
--- src/lib.rt:91:9
 nothing-requires : tie.Need-nothing-requires Inv-loop μ-loop
 nothing-requires c κs = search needs
 
--- src/lib.rt:92:5
 loop-holds : tie.Need-loop-holds Inv-loop μ-loop
 loop-holds c = (refl, refl, filling-begins (record { long = c .before .before .before .before .before .pre .0; bytes = c .before .before .before .before .slice-known .given; fit = c .before .before .before .before .before .pre .1; counter = omega (arith, c .before .before .before .before .before .fits .c) }) (c .before .before .before .before .before .pre .2) (c .before .before .before .before .before .pre .3) (c .before .before .start .result) (c .before .before .start .ensures) (c .before .no-tally .result) (c .before .no-tally .ensures) (c .nothing .result) (c .nothing .ensures))
 
--- src/lib.rt:93:35
 next-requires : tie.Need-next-requires Inv-loop μ-loop
 next-requires c κs = (omega (arith, c .before .before .before .loop .inv .0, c .before .before .before .before .before .before .before .before .before .pre .0), c .before .before .before .loop .inv .2 .climbing .ground .fit, c .before .before .before .loop .inv .2 .climbing .kept)
 
--- src/lib.rt:93:27
 enum-known-leaf : tie.Need-enum-known-leaf Inv-loop μ-loop
 enum-known-leaf c = search needs
 
--- src/lib.rt:94:13
 enum-told : tie.Need-enum-told Inv-loop μ-loop
 enum-told c = search needs
 
--- src/lib.rt:94:13
 same-length : tie.Need-same-length Inv-loop μ-loop
 same-length c = omega (arith, c .before .before .before .before .next .kept .0, c .before .before .before .before .before .before .before .before .loop .inv .0)
 
--- src/lib.rt:94:13
 same-length-2 : tie.Need-same-length-2 Inv-loop μ-loop
 same-length-2 c = c .before .before .before .before .before .before .before .before .loop .inv .1
 
--- src/lib.rt:94:13
 returns : tie.Need-returns Inv-loop μ-loop
 returns c = absurd (filling-damaged (c .before .before .before .before .before .before .before .before .loop .inv .2) (c .before .before .before .before .before .before .before .before .before .before .before .before .before .before .pre .5) (c .before .before .before .before .before .before .before .before .before .before .before .before .before .before .pre .4) (c .before .before .before .before .before .before .before .before .loop .key) (c .before .before .before .before .next .last .0) (c .enum-told .given .0 .0) (ap (nexting (c .before .before .before .before .next .last .0)) (sym (c .enum-told .given .1)) ∙ c .before .before .before .before .next .ensures))
 
--- src/lib.rt:97:20
 cast-page : tie.Need-cast-page Inv-loop μ-loop
 cast-page c = search needs
 
--- src/lib.rt:98:35
 cast-put-leaf : tie.Need-cast-put-leaf Inv-loop μ-loop
 cast-put-leaf c = search needs
 
--- src/lib.rt:98:9
 put-leaf-requires : tie.Need-put-leaf-requires Inv-loop μ-loop
 put-leaf-requires c κs =
     let r = filling-reached (c .before .before .before .before .before .before .before .before .before .before .before .before .before .before .loop .inv .2) (c .before .before .before .before .before .before .before .before .before .before .before .before .before .before .before .before .before .before .before .before .pre .5) (c .before .before .before .before .before .before .before .before .before .before .before .before .before .before .before .before .before .before .before .before .pre .4) (c .before .before .before .before .before .before .before .before .before .before .before .before .before .before .loop .key) (c .before .before .before .before .before .before .before .before .before .before .next .last .0) (c .before .before .before .before .before .before .leaf .given .0 .0) (ap (nexting (c .before .before .before .before .before .before .before .before .before .before .next .last .0)) (sym (c .before .before .before .before .before .before .leaf .given .1)) ∙ c .before .before .before .before .before .before .before .before .before .before .next .ensures) in
     (reached-inside r, reached-count r, filling-few (c .before .before .before .before .before .before .before .before .before .before .before .before .before .before .loop .inv .2), subst (Lies (c .before .before .before .before .before .before .before .before .before .before .before .before .before .before .before .before .before .before .before .before .args .s) _) (sym (c .before .before .before .before .before .before .before .before .before .before .before .before .before .before .loop .inv .1)) (filling-lies (c .before .before .before .before .before .before .before .before .before .before .before .before .before .before .loop .inv .2) (c .before .before .before .before .before .before .before .before .before .before .before .before .before .before .before .before .before .before .before .before .pre .5) (c .before .before .before .before .before .before .before .before .before .before .before .before .before .before .before .before .before .before .before .before .pre .4) (c .before .before .before .before .before .before .before .before .before .before .before .before .before .before .loop .key) (c .before .before .before .before .before .before .before .before .before .before .next .last .0) (c .before .before .before .before .before .before .leaf .given .0 .0) (ap (nexting (c .before .before .before .before .before .before .before .before .before .before .next .last .0)) (sym (c .before .before .before .before .before .before .leaf .given .1)) ∙ c .before .before .before .before .before .before .before .before .before .before .next .ensures) (c .before .before .before .before .before .before .before .before .before .before .before .before .before .before .before .before .before .before .before .before .pre .6)))
 
--- src/lib.rt:100:13
 same-length-3 : tie.Need-same-length-3 Inv-loop μ-loop
 same-length-3 c = omega (arith, c .before .before .before .before .before .before .before .before .before .before .before .before .before .before .before .before .next .kept .0, c .before .before .before .before .before .before .before .before .before .before .before .before .before .before .before .before .before .before .before .before .loop .inv .0)
 
--- src/lib.rt:100:13
 same-length-4 : tie.Need-same-length-4 Inv-loop μ-loop
 same-length-4 c = omega (arith, c .before .before .before .before .before .put-leaf .kept .1 .1 .1 .1 .1 .1 .1 .0, c .before .before .before .before .before .before .before .before .before .before .before .before .before .before .before .before .before .before .before .before .loop .inv .1)
 
--- src/lib.rt:100:13
 returns-2 : tie.Need-returns-2 Inv-loop μ-loop
 returns-2 c = filling-ends (c .before .before .before .before .before .before .before .before .before .before .before .before .before .before .before .before .before .before .before .before .loop .inv .2) (c .before .before .before .before .before .before .before .before .before .before .before .before .before .before .before .before .before .before .before .before .before .before .before .before .before .before .pre .5) (c .before .before .before .before .before .before .before .before .before .before .before .before .before .before .before .before .before .before .before .before .before .before .before .before .before .before .pre .4) (c .before .before .before .before .before .before .before .before .before .before .before .before .before .before .before .before .before .before .before .before .loop .key) (c .before .before .before .before .before .before .before .before .before .before .before .before .before .before .before .before .next .last .0) (c .before .before .before .before .before .before .before .before .before .before .before .before .leaf .given .0 .0) (ap (nexting (c .before .before .before .before .before .before .before .before .before .before .before .before .before .before .before .before .next .last .0)) (sym (c .before .before .before .before .before .before .before .before .before .before .before .before .leaf .given .1)) ∙ c .before .before .before .before .before .before .before .before .before .before .before .before .before .before .before .before .next .ensures) (c .before .before .before .before .before .put-leaf .result) (c .before .before .before .before .before .put-leaf .last .1 .1 .1 .1 .1 .1 .1 .0) (c .before .before .before .before .before .put-leaf .ensures) (omega (arith, c .if2 .taken))
 
--- src/lib.rt:102:15
 add-key : tie.Need-add-key Inv-loop μ-loop
 add-key c = search needs
 
--- src/lib.rt:92:5
 loop-less : tie.Need-loop-less Inv-loop μ-loop
 loop-less c = filling-less (c .before .before .before .before .before .before .before .before .before .before .before .before .before .before .before .before .before .before .before .before .before .before .loop .inv .2) (c .before .before .before .before .before .before .before .before .before .before .before .before .before .before .before .before .before .before .before .before .before .before .before .before .before .before .before .before .pre .5) (c .before .before .before .before .before .before .before .before .before .before .before .before .before .before .before .before .before .before .before .before .before .before .before .before .before .before .before .before .pre .4) (c .before .before .before .before .before .before .before .before .before .before .before .before .before .before .before .before .before .before .before .before .before .before .loop .key) (c .before .before .before .before .before .before .before .before .before .before .before .before .before .before .before .before .before .before .next .last .0) (c .before .before .before .before .before .before .before .before .before .before .before .before .before .before .leaf .given .0 .0) (ap (nexting (c .before .before .before .before .before .before .before .before .before .before .before .before .before .before .before .before .before .before .next .last .0)) (sym (c .before .before .before .before .before .before .before .before .before .before .before .before .before .before .leaf .given .1)) ∙ c .before .before .before .before .before .before .before .before .before .before .before .before .before .before .before .before .before .before .next .ensures) (omega (arith, c .before .before .if2 .left))
 
--- src/lib.rt:92:5
 loop-again : tie.Need-loop-again Inv-loop μ-loop
 loop-again c = (omega (arith, c .before .before .before .before .before .before .before .before .before .before .before .before .before .before .before .before .before .before .next .kept .0, c .before .before .before .before .before .before .before .before .before .before .before .before .before .before .before .before .before .before .before .before .before .before .loop .inv .0), omega (arith, c .before .before .before .before .before .before .before .put-leaf .kept .1 .1 .1 .1 .1 .1 .1 .0, c .before .before .before .before .before .before .before .before .before .before .before .before .before .before .before .before .before .before .before .before .before .before .loop .inv .1), filling-on (c .before .before .before .before .before .before .before .before .before .before .before .before .before .before .before .before .before .before .before .before .before .before .loop .inv .2) (c .before .before .before .before .before .before .before .before .before .before .before .before .before .before .before .before .before .before .before .before .before .before .before .before .before .before .before .before .pre .5) (c .before .before .before .before .before .before .before .before .before .before .before .before .before .before .before .before .before .before .before .before .before .before .before .before .before .before .before .before .pre .4) (c .before .before .before .before .before .before .before .before .before .before .before .before .before .before .before .before .before .before .before .before .before .before .loop .key) (c .before .before .before .before .before .before .before .before .before .before .before .before .before .before .before .before .before .before .next .last .0) (c .before .before .before .before .before .before .before .before .before .before .before .before .before .before .leaf .given .0 .0) (ap (nexting (c .before .before .before .before .before .before .before .before .before .before .before .before .before .before .before .before .before .before .next .last .0)) (sym (c .before .before .before .before .before .before .before .before .before .before .before .before .before .before .leaf .given .1)) ∙ c .before .before .before .before .before .before .before .before .before .before .before .before .before .before .before .before .before .before .next .ensures) (c .before .before .before .before .before .before .before .put-leaf .result) (c .before .before .before .before .before .before .before .put-leaf .last .1 .1 .1 .1 .1 .1 .1 .0) (c .before .before .before .before .before .before .before .put-leaf .ensures) (omega (arith, c .before .before .if2 .left)))
 
--- src/lib.rt:82:1
 same-length-5 : tie.Need-same-length-5 Inv-loop μ-loop
 same-length-5 c = c .before .before .loop .inv .0
 
--- src/lib.rt:82:1
 same-length-6 : tie.Need-same-length-6 Inv-loop μ-loop
 same-length-6 c = c .before .before .loop .inv .1
 
--- src/lib.rt:82:1
 returns-3 : tie.Need-returns-3 Inv-loop μ-loop
 returns-3 c = absurd (omega (arith, c .if1 .left, c .before .before .loop .inv .2 .climbing .low))
 

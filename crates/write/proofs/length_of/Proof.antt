@@ -1,42 +1,33 @@
+-- `write::length_of`: answer by answer. Assumes nothing.
 use Rattle.write.specs.WriteFile.{writtenLength}
 use borrow.Author.Needs.{needs}
 use Rattle.write.proofs.length_of.Statement.{statement}
 use Rattle.write.proofs.length_of.Tie as tie
-use Rattle.write.proofs.length_of.Reads as reads
-use Rattle.write.proofs.length_of.Lts as lts
 
--- src/lib.rt:74:23
 enum-known-w : tie.Need-enum-known-w
 enum-known-w c = search needs
 
--- src/lib.rt:75:28
 enum-told : tie.Need-enum-told
 enum-told c = search needs
 
--- src/lib.rt:76:29
 enum-told-2 : tie.Need-enum-told-2
 enum-told-2 c = search needs
 
--- src/lib.rt:77:27
 enum-told-3 : tie.Need-enum-told-3
 enum-told-3 c = search needs
 
--- src/lib.rt:70:1
 returns : tie.Need-returns
 unfolding writtenLength
 returns c = search needs
 
--- src/lib.rt:70:1
 returns-2 : tie.Need-returns-2
 unfolding writtenLength
 returns-2 c = search needs
 
--- src/lib.rt:70:1
 returns-3 : tie.Need-returns-3
 unfolding writtenLength
 returns-3 c = search needs
 
--- src/lib.rt:70:1
 returns-4 : tie.Need-returns-4
 unfolding writtenLength
 returns-4 c = search needs

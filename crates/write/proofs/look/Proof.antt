@@ -1,82 +1,58 @@
-use mathlib.Core.Path.{sym, _∙_}
+-- `write::look`: the walk that counts tells which of the walks is right. Assumes nothing.
 use borrow.Author.Tests.{not-true, not-false}
 use Rattle.write.proofs.Tells.{asks-low, asks-high, asks-room, known-few, known-certs, known-room, known-lies, known-all, kept-lies, tell-damaged, tell-short, tell-written}
 use native.Mathlib.Omega.{arith}
 use borrow.Author.Needs.{needs}
 use Rattle.write.proofs.look.Statement.{statement}
 use Rattle.write.proofs.look.Tie as tie
-use Rattle.write.proofs.look.Reads as reads
-use Rattle.write.proofs.look.Lts as lts
-use Rattle.counts.proofs.count_of.Reads as count-of-reads
-use Rattle.counts.proofs.everything.Reads as everything-reads
-use Rattle.fill.proofs.mend.Reads as mend-reads
-use Rattle.write.proofs.fill.Reads as fill-reads
-use Rattle.write.proofs.put.put_counts.Reads as put-counts-reads
-use Rattle.write.proofs.put.starts_of.Reads as starts-of-reads
 
--- src/lib.rt:113:9
 count-of-requires : tie.Need-count-of-requires
 count-of-requires c κs = search needs
 
--- src/lib.rt:115:42
 everything-requires : tie.Need-everything-requires
 everything-requires c κs = search needs
 
--- src/lib.rt:115:13
 mend-requires : tie.Need-mend-requires
 mend-requires c κs = (c .before .before .before .before .before .before .before .before .pre .0, c .before .before .before .before .before .before .before .before .pre .2, asks-low (c .everything .ensures), asks-high (c .everything .ensures), asks-room (c .before .before .before .before .before .before .before .before .args .n) (c .before .before .before .before .before .before .before .before .args .c) (c .before .before .before .before .before .before .before .before .args .t .now) (c .everything .ensures))
 
--- src/lib.rt:116:9
 same-length : tie.Need-same-length
 same-length c = search needs
 
--- src/lib.rt:116:9
 returns : tie.Need-returns
 returns c = tell-damaged (c .before .before .before .before .before .before .before .before .before .before .before .args .n) (c .before .before .before .before .before .before .before .before .before .before .before .args .c) (c .before .before .before .before .before .before .before .before .before .before .before .args .t .now) (c .before .before .before .before .before .before .before .before .before .before .before .pre .0) (c .before .before .before .before .before .before .before .before .before .before .before .pre .1) (c .before .before .before .before .before .before .before .before .before .before .before .pre .2) (c .before .before .before .before .before .before .before .before .before .before .slice-known .given) (omega (arith, c .before .before .before .before .before .before .before .before .before .before .before .fits .c)) (c .before .before .before .before .before .before .before .count-of .result) (c .before .before .before .before .before .before .before .count-of .ensures) (c .before .before .before .everything .ensures) (c .before .before .mend .last .0) (c .before .before .mend .result) (c .before .before .mend .ensures) (c .before .before .before .before .before .before .before .before .before .before .before .args .out .now) (not-true (c .before .before .before .before .before .before .before .count-of .result .whole) (c .before .before .before .before .before .if1 .taken))
 
--- src/lib.rt:121:9
 starts-of-requires : tie.Need-starts-of-requires
 starts-of-requires c κs = (known-few (c .before .before .before .before .before .before .args .n) (c .before .before .before .before .before .before .args .c) (c .before .before .before .before .before .before .args .t .now) (c .before .before .before .before .before .before .pre .0) (c .before .before .before .before .before .before .pre .1) (c .before .before .before .before .before .before .pre .2) (c .before .before .before .before .before .slice-known .given) (omega (arith, c .before .before .before .before .before .before .fits .c)) (c .before .before .count-of .result) (c .before .before .count-of .ensures), known-certs (c .before .before .before .before .before .before .args .n) (c .before .before .before .before .before .before .args .c) (c .before .before .before .before .before .before .args .t .now) (c .before .before .before .before .before .before .pre .0) (c .before .before .before .before .before .before .pre .1) (c .before .before .before .before .before .before .pre .2) (c .before .before .before .before .before .slice-known .given) (omega (arith, c .before .before .before .before .before .before .fits .c)) (c .before .before .count-of .result) (c .before .before .count-of .ensures))
 
--- src/lib.rt:123:42
 everything-requires-2 : tie.Need-everything-requires-2
 everything-requires-2 c κs = search needs
 
--- src/lib.rt:123:13
 mend-requires-2 : tie.Need-mend-requires-2
 mend-requires-2 c κs = (c .before .before .before .before .before .before .before .before .before .before .before .pre .0, c .before .before .before .before .before .before .before .before .before .before .before .pre .2, asks-low (c .everything2 .ensures), asks-high (c .everything2 .ensures), asks-room (c .before .before .before .before .before .before .before .before .before .before .before .args .n) (c .before .before .before .before .before .before .before .before .before .before .before .args .c) (c .before .before .before .before .before .before .before .before .before .before .before .args .t .now) (c .everything2 .ensures))
 
--- src/lib.rt:124:9
 same-length-2 : tie.Need-same-length-2
 same-length-2 c = search needs
 
--- src/lib.rt:124:9
 returns-2 : tie.Need-returns-2
 returns-2 c = tell-short (c .before .before .before .before .before .before .before .before .before .before .before .before .before .before .args .n) (c .before .before .before .before .before .before .before .before .before .before .before .before .before .before .args .c) (c .before .before .before .before .before .before .before .before .before .before .before .before .before .before .args .t .now) (c .before .before .before .before .before .before .before .before .before .before .before .before .before .before .pre .0) (c .before .before .before .before .before .before .before .before .before .before .before .before .before .before .pre .1) (c .before .before .before .before .before .before .before .before .before .before .before .before .before .before .pre .2) (c .before .before .before .before .before .before .before .before .before .before .before .before .before .slice-known .given) (omega (arith, c .before .before .before .before .before .before .before .before .before .before .before .before .before .before .fits .c)) (c .before .before .before .before .before .before .before .before .before .before .count-of .result) (c .before .before .before .before .before .before .before .before .before .before .count-of .ensures) (c .before .before .before .everything2 .ensures) (c .before .before .mend2 .last .0) (c .before .before .mend2 .result) (c .before .before .mend2 .ensures) (c .before .before .before .before .before .before .before .before .before .before .before .before .before .before .args .out .now) (c .before .before .before .before .before .before .before .starts-of .result) (c .before .before .before .before .before .before .before .starts-of .ensures) (not-false (c .before .before .before .before .before .before .before .before .before .before .count-of .result .whole) (c .before .before .before .before .before .before .before .before .if1 .left)) (c .before .before .before .before .before .if2 .taken)
 
--- src/lib.rt:129:5
 put-counts-requires : tie.Need-put-counts-requires
 put-counts-requires c κs = (known-few (c .before .before .before .before .before .before .before .before .before .before .args .n) (c .before .before .before .before .before .before .before .before .before .before .args .c) (c .before .before .before .before .before .before .before .before .before .before .args .t .now) (c .before .before .before .before .before .before .before .before .before .before .pre .0) (c .before .before .before .before .before .before .before .before .before .before .pre .1) (c .before .before .before .before .before .before .before .before .before .before .pre .2) (c .before .before .before .before .before .before .before .before .before .slice-known .given) (omega (arith, c .before .before .before .before .before .before .before .before .before .before .fits .c)) (c .before .before .before .before .before .before .count-of .result) (c .before .before .before .before .before .before .count-of .ensures), known-certs (c .before .before .before .before .before .before .before .before .before .before .args .n) (c .before .before .before .before .before .before .before .before .before .before .args .c) (c .before .before .before .before .before .before .before .before .before .before .args .t .now) (c .before .before .before .before .before .before .before .before .before .before .pre .0) (c .before .before .before .before .before .before .before .before .before .before .pre .1) (c .before .before .before .before .before .before .before .before .before .before .pre .2) (c .before .before .before .before .before .before .before .before .before .slice-known .given) (omega (arith, c .before .before .before .before .before .before .before .before .before .before .fits .c)) (c .before .before .before .before .before .before .count-of .result) (c .before .before .before .before .before .before .count-of .ensures), c .before .before .before .starts-of .ensures, known-room (c .before .before .before .before .before .before .before .before .before .before .args .n) (c .before .before .before .before .before .before .before .before .before .before .args .c) (c .before .before .before .before .before .before .before .before .before .before .args .t .now) (c .before .before .before .before .before .before .before .before .before .before .pre .0) (c .before .before .before .before .before .before .before .before .before .before .pre .1) (c .before .before .before .before .before .before .before .before .before .before .pre .2) (c .before .before .before .before .before .before .before .before .before .slice-known .given) (omega (arith, c .before .before .before .before .before .before .before .before .before .before .fits .c)) (c .before .before .before .before .before .before .count-of .result) (c .before .before .before .before .before .before .count-of .ensures) (c .before .before .before .starts-of .result) (c .before .before .before .starts-of .ensures) (c .before .before .before .before .before .before .before .before .before .before .args .out .now) (omega (arith, c .before .if2 .left)))
 
--- src/lib.rt:130:32
 everything-requires-3 : tie.Need-everything-requires-3
 everything-requires-3 c κs = search needs
 
--- src/lib.rt:130:9
 fill-requires : tie.Need-fill-requires
 fill-requires c κs =
     let room = known-lies (c .before .before .before .before .before .before .before .before .before .before .before .before .before .before .before .before .args .n) (c .before .before .before .before .before .before .before .before .before .before .before .before .before .before .before .before .args .c) (c .before .before .before .before .before .before .before .before .before .before .before .before .before .before .before .before .args .t .now) (c .before .before .before .before .before .before .before .before .before .before .before .before .before .before .before .before .pre .0) (c .before .before .before .before .before .before .before .before .before .before .before .before .before .before .before .before .pre .1) (c .before .before .before .before .before .before .before .before .before .before .before .before .before .before .before .before .pre .2) (c .before .before .before .before .before .before .before .before .before .before .before .before .before .before .before .slice-known .given) (omega (arith, c .before .before .before .before .before .before .before .before .before .before .before .before .before .before .before .before .fits .c)) (c .before .before .before .before .before .before .before .before .before .before .before .before .count-of .result) (c .before .before .before .before .before .before .before .before .before .before .before .before .count-of .ensures) (c .before .before .before .before .before .before .before .before .before .starts-of .result) (c .before .before .before .before .before .before .before .before .before .starts-of .ensures) (c .before .before .before .before .before .before .before .before .before .before .before .before .before .before .before .before .args .out .now) (omega (arith, c .before .before .before .before .before .before .before .if2 .left)) (c .before .everything3 .ensures) in
     (c .before .before .before .before .before .before .before .before .before .before .before .before .before .before .before .before .pre .0, c .before .before .before .before .before .before .before .before .before .before .before .before .before .before .before .before .pre .2, asks-low (c .before .everything3 .ensures), asks-high (c .before .everything3 .ensures), known-all (c .before .before .before .before .before .before .before .before .before .before .before .before .before .before .before .before .args .n) (c .before .before .before .before .before .before .before .before .before .before .before .before .before .before .before .before .args .c) (c .before .before .before .before .before .before .before .before .before .before .before .before .before .before .before .before .args .t .now) (c .before .before .before .before .before .before .before .before .before .before .before .before .before .before .before .before .pre .0) (c .before .before .before .before .before .before .before .before .before .before .before .before .before .before .before .before .pre .1) (c .before .before .before .before .before .before .before .before .before .before .before .before .before .before .before .before .pre .2) (c .before .before .before .before .before .before .before .before .before .before .before .before .before .before .before .slice-known .given) (omega (arith, c .before .before .before .before .before .before .before .before .before .before .before .before .before .before .before .before .fits .c)) (c .before .before .before .before .before .before .before .before .before .before .before .before .count-of .result) (c .before .before .before .before .before .before .before .before .before .before .before .before .count-of .ensures) (c .before .before .before .before .before .before .before .before .before .starts-of .result) (c .before .before .before .before .before .before .before .before .before .starts-of .ensures) (c .before .before .before .before .before .before .before .before .before .before .before .before .before .before .before .before .args .out .now) (omega (arith, c .before .before .before .before .before .before .before .if2 .left)) (c .before .everything3 .ensures) (not-false (c .before .before .before .before .before .before .before .before .before .before .before .before .count-of .result .whole) (c .before .before .before .before .before .before .before .before .before .before .if1 .left)), asks-room (c .before .before .before .before .before .before .before .before .before .before .before .before .before .before .before .before .args .n) (c .before .before .before .before .before .before .before .before .before .before .before .before .before .before .before .before .args .c) (c .before .before .before .before .before .before .before .before .before .before .before .before .before .before .before .before .args .t .now) (c .before .everything3 .ensures), kept-lies (c .before .before .before .before .before .put-counts .kept .0) room)
 
--- src/lib.rt:109:1
 same-length-3 : tie.Need-same-length-3
 same-length-3 c = search needs
 
--- src/lib.rt:109:1
 same-length-4 : tie.Need-same-length-4
 same-length-4 c = search needs
 
--- src/lib.rt:109:1
 returns-3 : tie.Need-returns-3
 returns-3 c = tell-written (c .before .before .before .before .before .before .before .before .before .before .before .before .before .before .before .before .before .before .before .before .before .args .n) (c .before .before .before .before .before .before .before .before .before .before .before .before .before .before .before .before .before .before .before .before .before .args .c) (c .before .before .before .before .before .before .before .before .before .before .before .before .before .before .before .before .before .before .before .before .before .args .t .now) (c .before .before .before .before .before .before .before .before .before .before .before .before .before .before .before .before .before .before .before .before .before .pre .0) (c .before .before .before .before .before .before .before .before .before .before .before .before .before .before .before .before .before .before .before .before .before .pre .1) (c .before .before .before .before .before .before .before .before .before .before .before .before .before .before .before .before .before .before .before .before .before .pre .2) (c .before .before .before .before .before .before .before .before .before .before .before .before .before .before .before .before .before .before .before .before .slice-known .given) (omega (arith, c .before .before .before .before .before .before .before .before .before .before .before .before .before .before .before .before .before .before .before .before .before .fits .c)) (c .before .before .before .before .before .before .before .before .before .before .before .before .before .before .before .before .before .count-of .result) (c .before .before .before .before .before .before .before .before .before .before .before .before .before .before .before .before .before .count-of .ensures) (c .before .before .before .before .before .before .before .before .before .before .before .before .before .before .starts-of .result) (c .before .before .before .before .before .before .before .before .before .before .before .before .before .before .starts-of .ensures) (c .before .before .before .before .before .before .before .before .before .before .before .before .before .before .before .before .before .before .before .before .before .args .out .now) (omega (arith, c .before .before .before .before .before .before .before .before .before .before .before .before .if2 .left)) (c .before .before .before .before .before .before .everything3 .ensures) (c .before .before .before .before .before .before .before .before .before .before .put-counts .last .0) (c .before .before .before .before .before .before .before .before .before .before .put-counts .ensures) (c .before .before .before .before .fill .last .0) (c .before .before .before .before .fill .last .1 .1 .1 .1 .1 .0) (c .before .before .before .before .fill .result) (c .before .before .before .before .fill .ensures) (not-false (c .before .before .before .before .before .before .before .before .before .before .before .before .before .before .before .before .before .count-of .result .whole) (c .before .before .before .before .before .before .before .before .before .before .before .before .before .before .before .if1 .left))
 

@@ -1,47 +1,33 @@
-use Rattle.write.specs.Puts.{startsOf}
-use native.Mathlib.Omega.{arith}
-use mathlib.Core.Path.{_≡_}
-use Prim.Native.Nat.{_+_, _*_}
-use Rattle.write.proofs.Puts.{starts-made}
+-- `sections::starts_of`: the sections' bytes add up. Assumes nothing.
+use Rattle.sections.proofs.Puts.{starts-made}
 use borrow.Author.Needs.{needs}
-use Rattle.write.proofs.put.starts_of.Statement.{statement}
-use Rattle.write.proofs.put.starts_of.Tie as tie
-use Rattle.write.proofs.put.starts_of.Reads as reads
-use Rattle.write.proofs.put.starts_of.Lts as lts
+use Rattle.sections.proofs.starts_of.Statement.{statement}
+use Rattle.sections.proofs.starts_of.Tie as tie
 
--- src/put.rt:41:18
 add-meters : tie.Need-add-meters
 add-meters c = search needs
 
--- src/put.rt:41:35
 mul-meters : tie.Need-mul-meters
 mul-meters c = search needs
 
--- src/put.rt:41:18
 add-meters-2 : tie.Need-add-meters-2
 add-meters-2 c = search needs
 
--- src/put.rt:42:17
 add-certs : tie.Need-add-certs
 add-certs c = search needs
 
--- src/put.rt:42:34
 mul-certs : tie.Need-mul-certs
 mul-certs c = search needs
 
--- src/put.rt:42:17
 add-certs-2 : tie.Need-add-certs-2
 add-certs-2 c = search needs
 
--- src/put.rt:46:22
 mul-t4 : tie.Need-mul-t4
 mul-t4 c = search needs
 
--- src/put.rt:46:14
 add-t5 : tie.Need-add-t5
 add-t5 c = search needs
 
--- src/put.rt:37:1
 returns : tie.Need-returns
 returns c = starts-made (c .before .before .before .args .c)
 

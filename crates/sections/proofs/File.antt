@@ -1,36 +1,35 @@
 -- Certificate by certificate, the file of a set is written. Assumes nothing.
-use Prim.Native.Nat.{ℕ, suc, _+_, _-_, _*_, _/_, _%_, _^_, _≤_, _<_}
+use Prim.Native.Nat.{ℕ, _+_, _-_, _*_, _/_, _%_, _≤_, _<_}
 use native.Mathlib.Omega.{arith}
 use mathlib.Core.Path.{_≡_, refl, sym, ap, subst, _∙_}
 use mathlib.Core.Bool.{Bool, true, false}
 use mathlib.Core.List.{List, [], _∷_, _++_, append-nil, append-assoc}
 use lib.Dec.{eqb}
 use lib.ListN.{length, length-append}
-use lib.Seq.{sets}
-use borrow.Author.Tests.{eqb-true, eqb-false, eq-eqb}
+use borrow.Author.Tests.{eqb-true, eqb-false}
 use Rattle.fields.specs.Field.{le, putAt}
 use Rattle.fields.proofs.Number.{length-le}
 use Rattle.rules.specs.Test.{all}
 use Rattle.rules.specs.Entry.{Cert, keys, rising}
 use Rattle.rules.specs.Page.{over}
 use Rattle.rules.proofs.entries.Tests as tests
-use Rattle.rules.proofs.entries.Rises.{rising-of-rises, keys-append}
+use Rattle.rules.proofs.entries.Rises.{rising-of-rises}
 use Rattle.exchange.specs.Item.{Item, itemFor, size, span, itemBytes, itemsBytes, sectionBytes, putItem}
-use Rattle.exchange.specs.Written.{isSet, metersOf, modelsOf, placeIn, itemOf, itemsOf, bare, sectionOf, roof, fileOf}
+use Rattle.exchange.specs.Written.{metersOf, modelsOf, placeIn, itemOf, itemsOf, bare, sectionOf, roof, fileOf}
 use Rattle.exchange.specs.declared.Section.{Section}
 use Rattle.exchange.proofs.Sizes.{size-models, size-meters, size-certs}
 use Rattle.exchange.proofs.Runs.{length-item, length-items}
 use Rattle.exchange.proofs.Sections.{length-bare, length-itemsOf}
-use Rattle.exchange.proofs.Sets.{keyTest, KeyFacts, key-facts, SetFacts, set-facts, OverFacts, over-facts}
+use Rattle.exchange.proofs.Sets.{keyTest, KeyFacts, key-facts, SetFacts, OverFacts, over-facts}
 use Rattle.exchange.proofs.Puts.{items-append}
 use Rattle.counts.specs.Tally.{noTally, counted, countedAll}
 use Rattle.counts.specs.declared.Tally.{Tally}
 use Rattle.counts.proofs.Tallies.{more-same, more-other, certs-found, all-append, all-grows, Grows}
-use Rattle.write.specs.Puts.{startsOf, putCounts, putModel, putMeter, putCert, putNext, putAll, Lies}
-use Rattle.write.specs.declared.put.Starts.{Starts}
-use Rattle.write.proofs.Puts.{model-same, model-new, meter-same, meter-new, starts-at}
-use Rattle.write.proofs.Runs.{three, first-more, second-more, third-more, three-over}
-use Rattle.write.proofs.Overs.{underBy, under-none, under-old, under-new, under-append, last-place, tally-meters, tally-models, meters-are, models-are}
+use Rattle.sections.specs.Puts.{startsOf, putCounts, putModel, putMeter, putCert, putNext, putAll, Lies}
+use Rattle.sections.specs.declared.Starts.{Starts}
+use Rattle.sections.proofs.Puts.{model-same, model-new, meter-same, meter-new, starts-at}
+use Rattle.sections.proofs.Runs.{three, first-more, second-more, third-more, three-over}
+use Rattle.sections.proofs.Overs.{underBy, under-none, under-old, under-new, under-append, last-place, tally-meters, tally-models, meters-are, models-are}
 
 -- ── Items of a list and one more ────────────────────────────────────────────────────────────────────────────────
 

@@ -1,49 +1,37 @@
+-- `sections::put_meter`: a meter that is there already is not written. Assumes nothing.
 use mathlib.Core.Path.{sym, ap, _∙_}
 use Prim.Native.Nat.{ℕ, _+_, _*_, _/_, _%_}
 use Rattle.exchange.specs.Item.{itemFor, putItem}
 use Rattle.exchange.specs.declared.Section.{Section}
-use Rattle.write.proofs.Puts.{meter-same, meter-new}
+use Rattle.sections.proofs.Puts.{meter-same, meter-new}
 use borrow.Author.Needs.{needs}
-use Rattle.write.proofs.put.put_meter.Statement.{statement}
-use Rattle.write.proofs.put.put_meter.Tie as tie
-use Rattle.write.proofs.put.put_meter.Reads as reads
-use Rattle.write.proofs.put.put_meter.Lts as lts
-use Rattle.exchange.proofs.put_meter.Reads as put-meter-reads
-use Rattle.write.proofs.put.last_of.Reads as last-of-reads
+use Rattle.sections.proofs.put_meter.Statement.{statement}
+use Rattle.sections.proofs.put_meter.Tie as tie
 
--- src/put.rt:87:9
 returns : tie.Need-returns
 returns c = sym (meter-same (c .before .before .before .before .args .c) (c .before .before .before .before .args .d) (c .before .before .before .before .args .key) (c .before .before .before .before .args .out .now) (c .before .before .before .before .args .s) (c .if1 .taken))
 
--- src/put.rt:89:17
 last-of-requires : tie.Need-last-of-requires
 last-of-requires c κs = search needs
 
--- src/put.rt:89:17
 cast-place : tie.Need-cast-place
 cast-place c = search needs
 
--- src/put.rt:90:18
 cast-serial : tie.Need-cast-serial
 cast-serial c = search needs
 
--- src/put.rt:91:41
 mul-put-meter : tie.Need-mul-put-meter
 mul-put-meter c = search needs
 
--- src/put.rt:91:30
 add-put-meter : tie.Need-add-put-meter
 add-put-meter c = search needs
 
--- src/put.rt:91:5
 put-meter-requires : tie.Need-put-meter-requires
 put-meter-requires c κs = search needs
 
--- src/put.rt:82:1
 same-length : tie.Need-same-length
 same-length c = search needs
 
--- src/put.rt:82:1
 returns-2 : tie.Need-returns-2
 returns-2 c = c .before .before .put-meter .ensures ∙ ap (λ (p : ℕ). putItem Section.Meters (c .before .before .before .before .before .before .before .before .before .before .before .args .out .now) (c .before .before .before .before .before .before .before .before .before .before .before .args .s .meters + 6 * c .before .before .before .before .before .before .before .before .before .before .before .args .c .meters) (itemFor p (c .before .before .before .before .before .before .before .before .before .before .before .args .key / 65536 % 4294967296) 0)) (c .before .before .before .before .before .before .last-of .ensures) ∙ sym (meter-new (c .before .before .before .before .before .before .before .before .before .before .before .args .c) (c .before .before .before .before .before .before .before .before .before .before .before .args .d) (c .before .before .before .before .before .before .before .before .before .before .before .args .key) (c .before .before .before .before .before .before .before .before .before .before .before .args .out .now) (c .before .before .before .before .before .before .before .before .before .before .before .args .s) (c .before .before .before .before .before .before .before .if1 .left))
 

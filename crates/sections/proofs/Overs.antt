@@ -1,8 +1,8 @@
 -- The tally counts what the file's sections hold, and the last model and meter counted are those of the last certificate.
 -- Assumes nothing.
-use Prim.Native.Nat.{ℕ, suc, _+_, _-_, _*_, _/_, _≤_, _<_}
+use Prim.Native.Nat.{ℕ, _+_, _-_, _/_, _<_}
 use native.Mathlib.Omega.{arith}
-use mathlib.Core.Path.{_≡_, refl, sym, ap, subst, _∙_}
+use mathlib.Core.Path.{_≡_, refl, sym, ap, _∙_}
 use mathlib.Core.Logic.{_⊎_, inl, inr}
 use mathlib.Core.Bool.{Bool, true, false}
 use mathlib.Core.List.{List, [], _∷_, _++_, append-assoc}
@@ -13,8 +13,7 @@ use borrow.Author.Tests.{eqb-true, eqb-false}
 use Rattle.rules.specs.Entry.{Cert, keys, rising}
 use Rattle.exchange.specs.Item.{span}
 use Rattle.exchange.specs.Written.{overFrom, placeIn, metersOf, modelsOf}
-use Rattle.exchange.proofs.Overs.{Placed, placed-rising, over-same, over-next, over-nil}
-use Rattle.exchange.specs.declared.Section.{Section}
+use Rattle.exchange.proofs.Overs.{placed-rising, over-same, over-next, over-nil}
 use Rattle.counts.specs.Tally.{noTally, counted, countedAll}
 use Rattle.counts.specs.declared.Tally.{Tally}
 use Rattle.counts.proofs.Tallies.{more-same, more-other}

@@ -1,37 +1,28 @@
+-- `sections::put_model`: a model that is there already is not written. Assumes nothing.
 use mathlib.Core.Path.{sym, _∙_}
-use Rattle.write.proofs.Puts.{model-same, model-new}
+use Rattle.sections.proofs.Puts.{model-same, model-new}
 use borrow.Author.Needs.{needs}
-use Rattle.write.proofs.put.put_model.Statement.{statement}
-use Rattle.write.proofs.put.put_model.Tie as tie
-use Rattle.write.proofs.put.put_model.Reads as reads
-use Rattle.write.proofs.put.put_model.Lts as lts
-use Rattle.exchange.proofs.put_model.Reads as put-model-reads
+use Rattle.sections.proofs.put_model.Statement.{statement}
+use Rattle.sections.proofs.put_model.Tie as tie
 
--- src/put.rt:76:9
 returns : tie.Need-returns
 returns c = sym (model-same (c .before .before .before .before .args .c) (c .before .before .before .before .args .d) (c .before .before .before .before .args .key) (c .before .before .before .before .args .out .now) (c .if1 .taken))
 
--- src/put.rt:78:39
 mul-put-model : tie.Need-mul-put-model
 mul-put-model c = search needs
 
--- src/put.rt:78:30
 add-put-model : tie.Need-add-put-model
 add-put-model c = search needs
 
--- src/put.rt:78:57
 cast-put-model : tie.Need-cast-put-model
 cast-put-model c = search needs
 
--- src/put.rt:78:5
 put-model-requires : tie.Need-put-model-requires
 put-model-requires c κs = search needs
 
--- src/put.rt:71:1
 same-length : tie.Need-same-length
 same-length c = search needs
 
--- src/put.rt:71:1
 returns-2 : tie.Need-returns-2
 returns-2 c = c .before .before .put-model .ensures ∙ sym (model-new (c .before .before .before .before .before .before .before .before .before .args .c) (c .before .before .before .before .before .before .before .before .before .args .d) (c .before .before .before .before .before .before .before .before .before .args .key) (c .before .before .before .before .before .before .before .before .before .args .out .now) (c .before .before .before .before .before .if1 .left))
 

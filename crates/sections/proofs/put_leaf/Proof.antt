@@ -1,21 +1,17 @@
-use Prim.Native.Nat.{_+_, _-_, _≤_}
-use mathlib.Core.Path.{_≡_, refl, sym, ap, subst, _∙_}
+-- `sections::put_leaf`: at each turn, what was put and the certificates left come to what all come to. Assumes nothing.
+use Prim.Native.Nat.{_-_, _≤_}
+use mathlib.Core.Path.{_≡_, refl, sym, subst, _∙_}
 use lib.ListN.{length}
 use Rattle.rules.specs.Table.{pageAt}
 use Rattle.counts.specs.Tally.{Few}
 use Rattle.counts.specs.declared.Tally.{Tally}
-use Rattle.counts.proofs.Tallies.{counts, counts-turn, counts-start, in-few, all-grows}
-use Rattle.write.specs.Puts.{Lies, Put}
-use Rattle.write.proofs.Puts.{puts, puts-turn, puts-end, puts-start, turn-lies, turn-tally, lies-fewer, left-lies}
+use Rattle.counts.proofs.Tallies.{counts, counts-turn, counts-start, in-few}
+use Rattle.sections.specs.Puts.{Lies}
+use Rattle.sections.proofs.Puts.{puts, puts-turn, puts-end, puts-start, turn-lies, turn-tally, left-lies}
 use borrow.Author.Needs.{needs}
 use native.Mathlib.Omega.{arith}
-use Rattle.write.proofs.put.put_leaf.Statement.{statement}
-use Rattle.write.proofs.put.put_leaf.Tie as tie
-use Rattle.write.proofs.put.put_leaf.Reads as reads
-use Rattle.write.proofs.put.put_leaf.Lts as lts
-use Rattle.head.proofs.cert_key_at.Reads as cert-key-at-reads
-use Rattle.head.proofs.cert_record_at.Reads as cert-record-at-reads
-use Rattle.write.proofs.put.put_from.Reads as put-from-reads
+use Rattle.sections.proofs.put_leaf.Statement.{statement}
+use Rattle.sections.proofs.put_leaf.Tie as tie
 
 abbrev Inv-loop : tie.InvT-loop
 Inv-loop table page entries low high s out₀ t₀ j₀ out t j = (length out ≡ length out₀) × (j ≤ entries) × Few t × Lies s (counts low high (pageAt table page) entries j t) (length out₀) × (puts s low high (pageAt table page) entries j t out ≡ puts s low high (pageAt table page) entries 0 t₀ out₀)
@@ -23,19 +19,15 @@ Inv-loop table page entries low high s out₀ t₀ j₀ out t j = (length out �
 abbrev μ-loop : tie.MeasureT-loop
 μ-loop table page entries low high s out₀ t₀ j₀ out t j = entries - j
 
--- src/put.rt:156:5
 loop-holds : tie.Need-loop-holds Inv-loop μ-loop
 loop-holds c = (refl, omega arith, c .before .before .pre .2, subst (λ (d : Tally). Lies (c .before .before .args .s) d (length (c .before .before .args .out .now))) (sym (counts-start (c .before .before .args .low) (c .before .before .args .high) (pageAt (c .before .before .args .table .now) (c .before .before .args .page)) (c .before .before .args .entries) (c .before .before .args .c))) (c .before .before .pre .3), refl)
 
--- src/put.rt:157:13
 cert-key-at-requires : tie.Need-cert-key-at-requires Inv-loop μ-loop
 cert-key-at-requires c κs = (c .before .before .before .before .pre .0, omega (arith, c .loop-test .taken, c .before .before .before .before .pre .1))
 
--- src/put.rt:158:13
 cert-record-at-requires : tie.Need-cert-record-at-requires Inv-loop μ-loop
 cert-record-at-requires c κs = (c .before .before .before .before .before .pre .0, omega (arith, c .before .loop-test .taken, c .before .before .before .before .before .pre .1))
 
--- src/put.rt:159:9
 put-from-requires : tie.Need-put-from-requires Inv-loop μ-loop
 put-from-requires c κs =
     let args = c .before .before .before .before .before .before .before .args in
@@ -46,15 +38,12 @@ put-from-requires c κs =
       subst (Lies (args .s) _) (sym (loop .inv .0)) (turn-lies (args .s) (args .low) (args .high) b (args .entries) (loop .j) (c .before .before .cert-key-at .result) (loop .t) (length (args .out .now)) (c .before .before .before .loop-test .taken) (c .before .before .cert-key-at .ensures) (loop .inv .3)),
     )
 
--- src/put.rt:160:9
 add-j : tie.Need-add-j Inv-loop μ-loop
 add-j c = search needs
 
--- src/put.rt:156:5
 loop-less : tie.Need-loop-less Inv-loop μ-loop
 loop-less c = search needs
 
--- src/put.rt:156:5
 loop-again : tie.Need-loop-again Inv-loop μ-loop
 loop-again c =
     let args = c .before .before .before .before .before .before .before .before .before .before .args in
@@ -71,11 +60,9 @@ loop-again c =
       puts-turn (args .s) (args .low) (args .high) b (args .entries) (loop .j) (key .result) (value .result) (loop .t) (put-from .result) (loop .out) (put-from .last .0) (c .before .before .before .before .before .before .loop-test .taken) (key .ensures) (value .ensures) (put-from .ensures) ∙ loop .inv .4,
     )
 
--- src/put.rt:139:1
 same-length : tie.Need-same-length Inv-loop μ-loop
 same-length c = c .before .loop .inv .0
 
--- src/put.rt:139:1
 returns : tie.Need-returns Inv-loop μ-loop
 returns c =
     let args = c .before .before .before .before .args in

@@ -6,13 +6,11 @@ use lib.Dec.{eqb}
 use Rattle.fields.specs.Field.{putAt}
 use Rattle.rules.specs.Test.{between}
 use Rattle.rules.specs.Entry.{Cert}
-use Rattle.rules.specs.Walk.{Walked}
-use Rattle.rules.specs.declared.Report.{Report}
 use Rattle.exchange.specs.Item.{itemFor, putItem}
 use Rattle.exchange.specs.declared.Section.{Section}
-use Rattle.counts.specs.Tally.{noTally, counted}
+use Rattle.counts.specs.Tally.{counted}
 use Rattle.counts.specs.declared.Tally.{Tally}
-use Rattle.write.specs.declared.put.Starts.{Starts}
+use Rattle.sections.specs.declared.Starts.{Starts}
 
 -- where the items of a file with so many of each begin, and where it ends
 unfoldable pub startsOf : Tally → Starts
@@ -80,15 +78,3 @@ pub record Lies (s : Starts) (d : Tally) (long : ℕ) : Type 0 where
   pub certs : s .certs + 10 * d .certs ≤ long
   pub names : d .models ≤ 65536
   pub counts : d .certs ≤ 4294967295
-
--- what the walk that writes leaves
-pub record Wrote : Type 0 where
-  pub table : List ℕ
-  pub out : List ℕ
-  pub report : Report
-
-abbrev pub wrote : List ℕ → List ℕ → Report → Wrote
-wrote t out x = record { table = t; out = out; report = x }
-
-unfoldable pub wroteIn : Starts → List ℕ → Walked → Wrote
-wroteIn s out w = wrote (w .table) (putAll s noTally (w .found) out .out) (w .report)

@@ -4,7 +4,7 @@ use native.Mathlib.Omega.{arith}
 use mathlib.Core.Path.{_≡_, refl, ap, sym, subst, _∙_}
 use mathlib.Core.Bool.{Bool, true, false}
 use mathlib.Core.List.{List, [], _∷_, _++_}
-use lib.ListN.{length, drop}
+use lib.ListN.{drop}
 use borrow.Author.Tests.{eq-eqb, ne-eqb}
 use Rattle.rules.specs.Layout.{leafHeader, certSize}
 use Rattle.rules.specs.Test.{between}
@@ -18,10 +18,10 @@ use Rattle.exchange.specs.Item.{itemFor, putItem}
 use Rattle.exchange.specs.declared.Section.{Section}
 use Rattle.counts.specs.Tally.{counted, countedIn, countedAll, Few}
 use Rattle.counts.specs.declared.Tally.{Tally}
-use Rattle.counts.proofs.Tallies.{more-up, few-counted, all-grows, Grows, counts, counts-turn, counts-end, counts-start}
+use Rattle.counts.proofs.Tallies.{more-up, few-counted, all-grows, Grows, counts, counts-turn}
 use Rattle.fields.specs.Field.{putAt}
-use Rattle.write.specs.Puts.{startsOf, putCounts, putModel, putMeter, putCert, putNext, putFrom, Put, putting, putAll, Lies}
-use Rattle.write.specs.declared.put.Starts.{Starts}
+use Rattle.sections.specs.Puts.{startsOf, putCounts, putModel, putMeter, putNext, putFrom, Put, putting, putAll, Lies}
+use Rattle.sections.specs.declared.Starts.{Starts}
 
 -- ── A model, a meter ────────────────────────────────────────────────────────────────────────────────────────────
 

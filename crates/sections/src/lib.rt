@@ -1,5 +1,8 @@
-// The file's bytes, certificate by certificate, in key order. Each of the three sections grows behind what stands in it: the
-// first certificate of a model or meter writes that too.
+// The exchange file's bytes, certificate by certificate, in key order.
+//
+// Each of the three sections grows behind what stands in it: the first certificate of a model or meter writes that too, and
+// the places that items name are those of the last model and meter. proofs/File shows that the certificates of a set, put
+// one after the other behind the counts, leave the set's file over the output.
 //
 // Below stand `exchange`, which writes one item, `counts`, which keeps the tally, `head` and `fields`.
 use counts::BY_METER;
@@ -17,7 +20,7 @@ ghost use Rattle.rules.specs.Entry.{cut};
 ghost use Rattle.rules.specs.Page.{readEach, certIn};
 ghost use Rattle.rules.specs.Table.{pageAt};
 ghost use Rattle.counts.specs.Tally.{counted, countedIn, countedAll, Few};
-ghost use Rattle.write.specs.Puts.{startsOf, putCounts, putModel, putMeter, putCert, putNext, putFrom, putting, putAll, Lies};
+ghost use Rattle.sections.specs.Puts.{startsOf, putCounts, putModel, putMeter, putCert, putNext, putFrom, putting, putAll, Lies};
 
 // Where the items of the last two sections begin, and where the file ends. The models begin behind the first count.
 pub struct Starts {

@@ -1,41 +1,30 @@
-use Rattle.write.specs.Puts.{putCert}
+-- `sections::put_cert`: its meter's place, its issue and its record. Assumes nothing.
+use Rattle.sections.specs.Puts.{putCert}
 use borrow.Author.Needs.{needs}
-use Rattle.write.proofs.put.put_cert.Statement.{statement}
-use Rattle.write.proofs.put.put_cert.Tie as tie
-use Rattle.write.proofs.put.put_cert.Reads as reads
-use Rattle.write.proofs.put.put_cert.Lts as lts
-use Rattle.exchange.proofs.put_cert.Reads as put-cert-reads
-use Rattle.write.proofs.put.last_of.Reads as last-of-reads
+use Rattle.sections.proofs.put_cert.Statement.{statement}
+use Rattle.sections.proofs.put_cert.Tie as tie
 
--- src/put.rt:99:17
 last-of-requires : tie.Need-last-of-requires
 last-of-requires c κs = search needs
 
--- src/put.rt:99:17
 cast-place : tie.Need-cast-place
 cast-place c = search needs
 
--- src/put.rt:100:17
 cast-issue : tie.Need-cast-issue
 cast-issue c = search needs
 
--- src/put.rt:101:39
 mul-put-cert : tie.Need-mul-put-cert
 mul-put-cert c = search needs
 
--- src/put.rt:101:29
 add-put-cert : tie.Need-add-put-cert
 add-put-cert c = search needs
 
--- src/put.rt:101:5
 put-cert-requires : tie.Need-put-cert-requires
 put-cert-requires c κs = search needs
 
--- src/put.rt:95:1
 same-length : tie.Need-same-length
 same-length c = search needs
 
--- src/put.rt:95:1
 returns : tie.Need-returns
 unfolding putCert
 returns c = rw (c .before .before .put-cert .ensures, c .before .before .before .before .before .before .last-of .ensures)

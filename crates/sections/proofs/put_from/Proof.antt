@@ -1,34 +1,27 @@
+-- `sections::put_from`: a key out of the range is not written. Assumes nothing.
 use mathlib.Core.Path.{sym, subst, _∙_}
 use lib.ListN.{length}
 use Rattle.counts.specs.declared.Tally.{Tally}
 use Rattle.counts.proofs.Tallies.{in-here}
-use Rattle.write.specs.Puts.{Lies}
-use Rattle.write.proofs.Puts.{from-below, from-above, from-here}
+use Rattle.sections.specs.Puts.{Lies}
+use Rattle.sections.proofs.Puts.{from-below, from-above, from-here}
 use native.Mathlib.Omega.{arith}
 use borrow.Author.Needs.{needs}
-use Rattle.write.proofs.put.put_from.Statement.{statement}
-use Rattle.write.proofs.put.put_from.Tie as tie
-use Rattle.write.proofs.put.put_from.Reads as reads
-use Rattle.write.proofs.put.put_from.Lts as lts
-use Rattle.write.proofs.put.put_next.Reads as put-next-reads
+use Rattle.sections.proofs.put_from.Statement.{statement}
+use Rattle.sections.proofs.put_from.Tie as tie
 
--- src/put.rt:130:9
 returns : tie.Need-returns
 returns c = from-below (c .before .before .args .s) (c .before .before .args .low) (c .before .before .args .high) (c .before .before .args .c) (record { key = c .before .before .args .key; value = c .before .before .args .«record» }) (c .before .before .args .out .now) (c .if1 .taken)
 
--- src/put.rt:133:9
 returns-2 : tie.Need-returns-2
 returns-2 c = from-above (c .before .before .before .args .s) (c .before .before .before .args .low) (c .before .before .before .args .high) (c .before .before .before .args .c) (record { key = c .before .before .before .args .key; value = c .before .before .before .args .«record» }) (c .before .before .before .args .out .now) (c .if2 .taken)
 
--- src/put.rt:135:5
 put-next-requires : tie.Need-put-next-requires
 put-next-requires c κs = (c .before .before .before .before .pre .0, c .before .before .before .before .pre .1, subst (λ (d : Tally). Lies (c .before .before .before .before .args .s) d (length (c .before .before .before .before .args .out .now))) (sym (in-here (c .before .before .before .before .args .low) (c .before .before .before .before .args .high) (c .before .before .before .before .args .c) (c .before .before .before .before .args .key) (omega (arith, c .before .before .if1 .left)) (omega (arith, c .before .if2 .left)))) (c .before .before .before .before .pre .2))
 
--- src/put.rt:117:1
 same-length : tie.Need-same-length
 same-length c = search needs
 
--- src/put.rt:117:1
 returns-3 : tie.Need-returns-3
 returns-3 c = c .before .before .put-next .ensures ∙ from-here (c .before .before .before .before .before .before .before .args .s) (c .before .before .before .before .before .before .before .args .low) (c .before .before .before .before .before .before .before .args .high) (c .before .before .before .before .before .before .before .args .c) (record { key = c .before .before .before .before .before .before .before .args .key; value = c .before .before .before .before .before .before .before .args .«record» }) (c .before .before .before .before .before .before .before .args .out .now) (omega (arith, c .before .before .before .before .before .if1 .left)) (omega (arith, c .before .before .before .before .if2 .left))
 

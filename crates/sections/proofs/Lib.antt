@@ -1,0 +1,6 @@
+-- Each file uses only those above it.
+pub mod Puts
+pub mod Runs
+pub mod Overs
+pub mod File
+pub mod Tight
