@@ -129,6 +129,8 @@ static void closed(void)
     troubled(khs_has_any(&store, 7, 1, &any), KHS_CLOSED, "has-any after close");
     must(khs_total(&store) == 0, "a closed store holds none");
     troubled(khs_list(&store, 0, &key, &record, 1, &count), KHS_CLOSED, "list after close");
+    uint8_t byte;
+    troubled(khs_write_file(&store, &byte, 1, &count), KHS_CLOSED, "write file after close");
     troubled(khs_sync(&store), KHS_CLOSED, "sync after close");
 }
 
