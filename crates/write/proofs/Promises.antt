@@ -7,6 +7,7 @@ use mathlib.Core.List.{List}
 use lib.Dec.{leb, lit<}
 use lib.ListN.{length, take, drop}
 use lib.Seq.{take-at}
+use borrow.Author.Tests.{le-leb, lt-leb}
 use Rattle.fields.specs.Field.{Bytes}
 use Rattle.rules.specs.Layout.{lastKey}
 use Rattle.rules.specs.Page.{over}
@@ -23,7 +24,7 @@ use Rattle.exchange.specs.declared.Judged.{Judged}
 use Rattle.exchange.proofs.Exact.{exact}
 use Rattle.counts.specs.Tally.{everything}
 use Rattle.write.specs.WriteFile.{writeDone, writeRefused, writeWhole, writeWalked, writeFile, writeReported, writtenNo, writtenLength}
-use Rattle.write.specs.Promises.{AsListed, Promises}
+use Rattle.write.specs.Promises.{AsListed, Answers, Promises}
 use Rattle.write.specs.declared.Written.{Written}
 use Rattle.write.proofs.Rooms.{room-same}
 use Rattle.write.proofs.Listing.{listing-set}
@@ -162,5 +163,17 @@ no-length Written.Length h = refl
 no-length Written.Damaged h = refl
 no-length Written.Short h = refl
 
+answers-are : (w t : List ℕ) (s : Session) (out : List ℕ) → Answers w t s out
+unfolding writeFile writeRefused writeWalked writeWhole writeDone
+answers-are w t s out =
+    let file = fileOf (walkOf (s .n) (s .c) everything w .found) in
+    record {
+      length-when = λ p. rw (writeFile, p);
+      zero-when = λ p q. rw (writeFile, p, q);
+      damaged-when = λ p q r. rw (writeFile, p, q, writeWalked, r);
+      short-when = λ p q r l. rw (writeFile, p, q, writeWalked, r, writeWhole, lt-leb (length file) (length out) l);
+      done-when = λ p q r l. rw (writeFile, p, q, writeWalked, r, writeWhole, le-leb (length file) (length out) l);
+    }
+
 pub promises : Promises
-promises = record { as-listed = listed; accepted = accepts; session = write-session; untouched = stays; no-length = no-length }
+promises = record { answers = answers-are; as-listed = listed; accepted = accepts; session = write-session; untouched = stays; no-length = no-length }
