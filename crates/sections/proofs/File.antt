@@ -14,63 +14,22 @@ use Rattle.rules.specs.Entry.{Cert, keys, rising}
 use Rattle.rules.specs.Page.{over}
 use Rattle.rules.proofs.entries.Tests as tests
 use Rattle.rules.proofs.entries.Rises.{rising-of-rises}
-use Rattle.exchange.specs.Item.{Item, itemFor, size, span, itemBytes, itemsBytes, sectionBytes, putItem}
+use Rattle.exchange.specs.Item.{Item, itemFor, span, itemBytes, sectionBytes, putItem}
 use Rattle.exchange.specs.Written.{metersOf, modelsOf, placeIn, itemOf, itemsOf, bare, sectionOf, roof, fileOf}
 use Rattle.exchange.specs.declared.Section.{Section}
-use Rattle.exchange.proofs.Sizes.{size-models, size-meters, size-certs}
-use Rattle.exchange.proofs.Runs.{length-item, length-items}
+use Rattle.exchange.proofs.Sizes.{size-models, size-meters}
+use Rattle.exchange.proofs.Runs.{length-item}
 use Rattle.exchange.proofs.Sections.{length-bare, length-itemsOf}
 use Rattle.exchange.proofs.Sets.{keyTest, KeyFacts, key-facts, SetFacts, OverFacts, over-facts}
-use Rattle.exchange.proofs.Puts.{items-append}
 use Rattle.counts.specs.Tally.{noTally, counted, countedAll}
 use Rattle.counts.specs.declared.Tally.{Tally}
 use Rattle.counts.proofs.Tallies.{more-same, more-other, certs-found, all-append, all-grows, Grows}
 use Rattle.sections.specs.Puts.{startsOf, putCounts, putModel, putMeter, putCert, putNext, putAll, Lies}
 use Rattle.sections.specs.declared.Starts.{Starts}
+use Rattle.sections.proofs.Items.{bare-append, entriesBytes, models-long, meters-long, certs-long, entries-none, entries-more}
 use Rattle.sections.proofs.Puts.{model-same, model-new, meter-same, meter-new, starts-at}
 use Rattle.sections.proofs.Runs.{three, first-more, second-more, third-more, three-over}
 use Rattle.sections.proofs.Overs.{underBy, under-none, under-old, under-new, under-append, last-place, tally-meters, tally-models, meters-are, models-are}
-
--- ── Items of a list and one more ────────────────────────────────────────────────────────────────────────────────
-
-bare-append : (xs ys : List ℕ) → bare (xs ++ ys) ≡ bare xs ++ bare ys
-unfolding bare
-bare-append [] ys = refl
-bare-append (x ∷ xs) ys = ap (λ (l : List Cert). record { key = x; value = 0 } ∷ l) (bare-append xs ys)
-
-itemsOf-append : (b : ℕ) (ps : List ℕ) (xs ys : List Cert) → itemsOf b ps (xs ++ ys) ≡ itemsOf b ps xs ++ itemsOf b ps ys
-unfolding itemsOf
-itemsOf-append b ps [] ys = refl
-itemsOf-append b ps (x ∷ xs) ys = ap (λ (l : List Item). itemOf b ps x ∷ l) (itemsOf-append b ps xs ys)
-
--- the bytes of a section's entries
-abbrev entriesBytes : Section → List ℕ → List Cert → List ℕ
-entriesBytes s ps es = itemsBytes s (itemsOf (span s) ps es)
-
-length-entries : (s : Section) (ps : List ℕ) (es : List Cert) → length (entriesBytes s ps es) ≡ size s * length es
-length-entries s ps es =
-    length-items s (itemsOf (span s) ps es) ∙ ap (λ (k : ℕ). size s * k) (length-itemsOf (span s) ps es)
-
-models-long : (ps : List ℕ) (es : List Cert) → length (entriesBytes Section.Models ps es) ≡ 2 * length es
-models-long ps es = length-entries Section.Models ps es ∙ ap (λ (k : ℕ). k * length es) size-models
-
-meters-long : (ps : List ℕ) (es : List Cert) → length (entriesBytes Section.Meters ps es) ≡ 6 * length es
-meters-long ps es = length-entries Section.Meters ps es ∙ ap (λ (k : ℕ). k * length es) size-meters
-
-certs-long : (ps : List ℕ) (es : List Cert) → length (entriesBytes Section.Certificates ps es) ≡ 10 * length es
-certs-long ps es = length-entries Section.Certificates ps es ∙ ap (λ (k : ℕ). k * length es) size-certs
-
-entries-none : (s : Section) (ps : List ℕ) → entriesBytes s ps [] ≡ []
-unfolding itemsOf itemsBytes
-entries-none s ps = refl
-
-entries-more : (s : Section) (ps : List ℕ) (es : List Cert) (e : Cert)
-    → entriesBytes s ps (es ++ (e ∷ [])) ≡ entriesBytes s ps es ++ itemBytes s (itemOf (span s) ps e)
-unfolding itemsOf itemsBytes
-entries-more s ps es e =
-    ap (itemsBytes s) (itemsOf-append (span s) ps es (e ∷ []))
-    ∙ items-append s (itemsOf (span s) ps es) (itemOf (span s) ps e ∷ [])
-    ∙ ap (λ (l : List ℕ). entriesBytes s ps es ++ l) (append-nil (itemBytes s (itemOf (span s) ps e)))
 
 -- ── A set, in part written ──────────────────────────────────────────────────────────────────────────────────────
 

@@ -2,5 +2,6 @@
 pub mod Puts
 pub mod Runs
 pub mod Overs
+pub mod Items
 pub mod File
 pub mod Tight

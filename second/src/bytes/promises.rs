@@ -6,7 +6,7 @@ use super::Counters;
 use crate::answer::{BADKEY, DAMAGED, DONE, LENGTH, NONE, SHORT, SPENT};
 use crate::field::{get32, put32};
 use crate::key::{issues, key, parts, whole};
-use crate::layout::{zero, FIRST_NUMBER, LAST_FINAL, PAGE};
+use crate::layout::{zero, FIRST_NUMBER, LAST_FINAL, LEAF_CAP, PAGE};
 use crate::page::{self, Header, LeafEntry, Page};
 use crate::reasons::report;
 use crate::report::Report;
@@ -186,6 +186,8 @@ pub fn write_file(store: &mut Store, room: usize, counters: &mut Counters) -> Ke
     must(answer == DONE || length == 0, "a number beside a refusal")?;
     let all = 0..=u64::MAX;
     let (climbed, entries) = climbs(&before, store, all, usize::MAX, true, counters)?;
+    let most = LEAF_CAP * usize::from(store.session.n).saturating_sub(1);
+    must(entries.len() <= most, "more entries than leaves can hold")?;
     let file = file_of(&entries);
     let expected = match climbed {
         DONE if file.len() > room => SHORT,
