@@ -14,6 +14,9 @@
 /* Both tables as every call takes them. */
 #define TABLES(store) (store)->working, (store)->bytes, (store)->stable, (store)->bytes
 
+/* The same with the session's numbers, as the lean calls take them: the session stays where it is. */
+#define LEAN(store) TABLES(store), (store)->session.n, (store)->session.c
+
 /* ---- What a call tells ---- */
 
 static KhTold answered(uint32_t answer)
@@ -24,10 +27,7 @@ static KhTold answered(uint32_t answer)
 /* The same of a call that walks. */
 static KhTold walked(uint32_t answer, uint32_t mended, uint32_t reason)
 {
-    KhTold told = answered(answer);
-    told.mended = mended;
-    told.reason = reason;
-    return told;
+    return (KhTold){.answer = answer, .mended = mended, .reason = reason, .trouble = KHS_FINE, .error = 0};
 }
 
 static KhTold in_trouble(KhTrouble trouble)
@@ -313,8 +313,7 @@ KhTold khs_lookup(KhStore *store, uint16_t model, uint32_t serial, uint16_t issu
     *record = 0;
     if (!store->open)
         return in_trouble(KHS_CLOSED);
-    KhLooked looked = kh_lookup(TABLES(store), store->session, model, serial, issue);
-    store->session = looked.session;
+    KhLeanLooked looked = kh_lean_lookup(LEAN(store), model, serial, issue);
     *record = looked.record;
     return walked(looked.answer, looked.mended, looked.reason);
 }
@@ -325,8 +324,7 @@ KhTold khs_newest(KhStore *store, uint16_t model, uint32_t serial, uint16_t *iss
     *record = 0;
     if (!store->open)
         return in_trouble(KHS_CLOSED);
-    KhNewest newest = kh_newest(TABLES(store), store->session, model, serial);
-    store->session = newest.session;
+    KhLeanNewest newest = kh_lean_newest(LEAN(store), model, serial);
     *issue = (uint16_t)newest.issue;
     *record = newest.record;
     return walked(newest.answer, newest.mended, newest.reason);
@@ -337,8 +335,7 @@ KhTold khs_has_any(KhStore *store, uint16_t model, uint32_t serial, bool *any)
     *any = false;
     if (!store->open)
         return in_trouble(KHS_CLOSED);
-    KhAny has = kh_has_any(TABLES(store), store->session, model, serial);
-    store->session = has.session;
+    KhLeanAny has = kh_lean_has_any(LEAN(store), model, serial);
     *any = has.any == 1;
     return walked(has.answer, has.mended, has.reason);
 }
@@ -353,8 +350,7 @@ KhTold khs_list(KhStore *store, uint64_t start, uint64_t *keys, uint32_t *record
     *count = 0;
     if (!store->open)
         return in_trouble(KHS_CLOSED);
-    KhListed listed = kh_list(TABLES(store), store->session, start, keys, room, records, room);
-    store->session = listed.session;
+    KhLeanListed listed = kh_lean_list(LEAN(store), start, keys, room, records, room);
     *count = (size_t)listed.count;
     return walked(listed.answer, listed.mended, listed.reason);
 }

@@ -76,9 +76,9 @@ extern "C" {
 /* ---- Versions and limits ----------------------------------------------------------------------------------------- */
 
 #define KH_VERSION_MAJOR 7
-#define KH_VERSION_MINOR 0
+#define KH_VERSION_MINOR 1
 #define KH_VERSION_PATCH 0
-#define KH_VERSION "7.0.0"
+#define KH_VERSION "7.1.0"
 
 #define KH_LAYOUT 9       /* the kind of page 0: a table with another one is refused with KH_DAMAGED */
 #define KH_PAGE_BYTES 512 /* bytes of a page */
@@ -297,6 +297,59 @@ KH_KEEP KhWritten kh_write_file(uint8_t *working, size_t working_len, const uint
 /* Copies the working table to the stable table: what was put in is kept from the moment when all changed pages are on
  * the flash. Answers 0, 1, 8. */
 KH_KEEP KhAnswered kh_sync(uint8_t *working, size_t working_len, uint8_t *stable, size_t stable_len, KhSession session);
+
+/* ---- Lean calls -----------------------------------------------------------------------------------------------------
+ *
+ * A call that only reads needs two numbers of the session, its n and its c, and hands it back as it came. These take the
+ * two numbers instead and hand none back, which spares the copies: keep the session where it is, and go on with it. For
+ * any n and c they answer, report, mend and write just what the call without `lean` does with any session that has these
+ * numbers. */
+
+typedef struct {
+    uint32_t answer;
+    uint32_t record;
+    uint32_t mended;
+    uint32_t reason;
+} KhLeanLooked;
+
+typedef struct {
+    uint32_t answer;
+    uint32_t issue;
+    uint32_t record;
+    uint32_t mended;
+    uint32_t reason;
+} KhLeanNewest;
+
+typedef struct {
+    uint32_t answer;
+    uint32_t any; /* 1: yes; 0: no */
+    uint32_t mended;
+    uint32_t reason;
+} KhLeanAny;
+
+typedef struct {
+    uint32_t answer;
+    uint64_t count;
+    uint32_t mended;
+    uint32_t reason;
+} KhLeanListed;
+
+/* As kh_lookup. Answers 0, 1, 2, 3, 4. */
+KH_KEEP KhLeanLooked kh_lean_lookup(uint8_t *working, size_t working_len, const uint8_t *stable, size_t stable_len,
+                                    uint16_t n, uint32_t c, uint16_t model, uint32_t serial, uint16_t issue);
+
+/* As kh_newest. Answers 0, 1, 2, 3, 4. */
+KH_KEEP KhLeanNewest kh_lean_newest(uint8_t *working, size_t working_len, const uint8_t *stable, size_t stable_len,
+                                    uint16_t n, uint32_t c, uint16_t model, uint32_t serial);
+
+/* As kh_has_any. Answers 0, 1, 2, 3. */
+KH_KEEP KhLeanAny kh_lean_has_any(uint8_t *working, size_t working_len, const uint8_t *stable, size_t stable_len,
+                                  uint16_t n, uint32_t c, uint16_t model, uint32_t serial);
+
+/* As kh_list. Answers 0, 1, 3. */
+KH_KEEP KhLeanListed kh_lean_list(uint8_t *working, size_t working_len, const uint8_t *stable, size_t stable_len,
+                                  uint16_t n, uint32_t c, uint64_t start, uint64_t *keys, size_t keys_len,
+                                  uint32_t *records, size_t records_len);
 
 #ifdef __cplusplus
 }

@@ -18,6 +18,10 @@ const NAMES: &[&str] = &[
     "kh_list",
     "kh_write_file",
     "kh_sync",
+    "kh_lean_lookup",
+    "kh_lean_newest",
+    "kh_lean_has_any",
+    "kh_lean_list",
 ];
 
 fn main() {
@@ -83,19 +87,33 @@ fn other(cfg: &str, library: &str) -> bool {
 
 /// By gcc -O2, as a program in C is mostly built.
 fn caller() {
-    let source = "src/bin/speed/caller.c";
+    let sources = ["src/bin/speed/caller.c", "../host/khstore.c"];
+    for file in ["../include/khirpando.h", "../host/khstore.h"] {
+        println!("cargo::rerun-if-changed={file}");
+    }
+    let objects: Option<Vec<PathBuf>> = sources.into_iter().map(compiled).collect();
+    let Some(objects) = objects else {
+        println!("cargo::warning=gcc does not compile {sources:?}: no table for C");
+        return;
+    };
+    for object in objects {
+        println!("cargo::rustc-link-arg-bin=speed={}", object.display());
+    }
+    println!("cargo::rustc-cfg=caller");
+}
+
+/// The object of a file in C, if it compiles.
+fn compiled(source: &str) -> Option<PathBuf> {
     println!("cargo::rerun-if-changed={source}");
-    println!("cargo::rerun-if-changed=../include/khirpando.h");
-    let object = Path::new(&env::var("OUT_DIR").expect("cargo sets it")).join("caller.o");
-    let compiled = Command::new("gcc")
+    let name = Path::new(source).with_extension("o");
+    let name = name.file_name().expect("a file's name");
+    let object = Path::new(&env::var("OUT_DIR").expect("cargo sets it")).join(name);
+    let status = Command::new("gcc")
         .args(["-std=c11", "-O2", "-Wall", "-Wextra", "-Werror"])
-        .args(["-I../include", "-c", source, "-o"])
+        .args(["-I../include", "-I../host", "-c", source, "-o"])
         .arg(&object)
         .status();
-    if compiled.is_ok_and(|status| status.success()) {
-        println!("cargo::rustc-cfg=caller");
-        println!("cargo::rustc-link-arg-bin=speed={}", object.display());
-    } else {
-        println!("cargo::warning=gcc does not compile {source}: no table for C");
-    }
+    status
+        .is_ok_and(|status| status.success())
+        .then_some(object)
 }

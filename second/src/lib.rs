@@ -33,6 +33,8 @@ pub mod compare;
 pub mod driver;
 pub mod histories;
 pub mod invariant;
+#[cfg(store)]
+pub mod lean;
 pub mod lines;
 #[cfg(store)]
 pub mod proved;

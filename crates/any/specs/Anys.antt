@@ -7,12 +7,17 @@ use Rattle.rules.specs.Report.{Reported}
 use Rattle.rules.specs.Walk.{Walked}
 use Rattle.rules.specs.Call.{Left}
 use Rattle.rules.specs.HasAny.{anyIn}
+use Rattle.rules.specs.declared.Session.{Session}
 use Rattle.rules.specs.declared.Asked.{Asked}
 use Rattle.rules.specs.declared.Any.{Any}
 use Rattle.rules.specs.declared.AnyOf.{AnyOf}
 use Rattle.rules.specs.declared.Report.{Report}
 use Rattle.head.specs.Head.{certAt}
 use Rattle.any.specs.declared.Sought.{Sought}
+
+-- with a session beside it
+abbrev pub beside : Session → Sought → AnyOf
+beside s r = record { answer = r .answer; report = r .report; session = s }
 
 -- the whole of it
 abbrev pub leaving : AnyOf → List ℕ → List ℕ → Reported (Left Any)

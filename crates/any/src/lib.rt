@@ -5,6 +5,9 @@
 // of the rules' `hasAnyReported`; what was mended on the way stays mended and is reported, also behind a refusal. A leaf
 // beyond the first certificate is not looked at, so its damage is not told.
 //
+// `lean` is the same for callers who keep the session where it is: it takes the session's two numbers alone, and for every
+// session that has them it does what `has_any` does.
+//
 // Of each leaf one key is looked at, the last that is not above the meter's keys. The others are read in the test of the
 // page alone.
 //
@@ -23,7 +26,8 @@ ghost use Rattle.rules.specs.Layout.{pageSize, leafRoom};
 ghost use Rattle.rules.specs.Table.{pageAt, fit0};
 ghost use Rattle.rules.specs.Walk.{walkOf};
 ghost use Rattle.rules.specs.Reports.{hasAnyReported};
-ghost use Rattle.any.specs.Anys.{leaving, first, holdsIn, seeing, seen};
+ghost use Rattle.rules.specs.declared.Session.{Session};
+ghost use Rattle.any.specs.Anys.{beside, leaving, first, holdsIn, seeing, seen};
 
 // Whether the last certificate before a spot of leaf i is not below a key.
 fn holds(t: &[u8], i: u16, spot: usize, low: u64) -> bool
@@ -83,6 +87,41 @@ fn look(t: &mut [u8], n: usize, c: u32, low: u64, high: u64) -> Sought
     }
 }
 
+// Has-any by a session's numbers.
+pub fn lean(working: &mut [u8], stable: &[u8], n: u16, c: u32, model: u16, serial: u32) -> Sought
+    ensures { λ r. ⌜ ((s : Session) → s .n ≡ n → s .c ≡ c → leaving (beside s r) (now (working .exit)) (now (stable .entry))
+        ≡ hasAnyReported (now (working .entry)) (now (stable .entry)) s model serial) ⌝ }
+{
+    if !tables::lengths_for(n, working, stable) {
+        return Sought {
+            answer: Any::Length,
+            report: Report::nothing(),
+        };
+    }
+    if model == 0 {
+        return Sought {
+            answer: Any::BadKey,
+            report: Report::nothing(),
+        };
+    }
+    if serial == 0 {
+        return Sought {
+            answer: Any::BadKey,
+            report: Report::nothing(),
+        };
+    }
+    let pages = n as usize;
+    if !head::fit0(working, pages) {
+        return Sought {
+            answer: Any::Damaged,
+            report: Report::nothing(),
+        };
+    }
+    let low = keys::key_of(model, serial, 1);
+    let high = keys::key_of(model, serial, LARGEST_ISSUE);
+    look(working, pages, c, low, high)
+}
+
 pub fn has_any(
     working: &mut [u8],
     stable: &[u8],
@@ -93,40 +132,9 @@ pub fn has_any(
     ensures { λ r. ⌜ leaving r (now (working .exit)) (now (stable .entry))
         ≡ hasAnyReported (now (working .entry)) (now (stable .entry)) session model serial ⌝ }
 {
-    if !tables::lengths_for(session.n, working, stable) {
-        return AnyOf {
-            answer: Any::Length,
-            report: Report::nothing(),
-            session,
-        };
-    }
-    if model == 0 {
-        return AnyOf {
-            answer: Any::BadKey,
-            report: Report::nothing(),
-            session,
-        };
-    }
-    if serial == 0 {
-        return AnyOf {
-            answer: Any::BadKey,
-            report: Report::nothing(),
-            session,
-        };
-    }
-    let n = session.n as usize;
-    if !head::fit0(working, n) {
-        return AnyOf {
-            answer: Any::Damaged,
-            report: Report::nothing(),
-            session,
-        };
-    }
-    let low = keys::key_of(model, serial, 1);
-    let high = keys::key_of(model, serial, LARGEST_ISSUE);
-    let looked = look(working, n, session.c, low, high);
-    let answer = looked.answer;
-    let report = looked.report;
+    let sought = lean(working, stable, session.n, session.c, model, serial);
+    let answer = sought.answer;
+    let report = sought.report;
     AnyOf {
         answer,
         report,

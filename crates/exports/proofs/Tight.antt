@@ -1,5 +1,8 @@
 -- No second outcome satisfies a contract of this crate. Assumes nothing.
-use mathlib.Core.Path.{sym, _∙_}
+use mathlib.Core.Path.{refl, sym, _∙_}
+use mathlib.Core.List.{[]}
+use Rattle.rules.specs.Marks.{begun}
+use Rattle.rules.specs.declared.Session.{Session}
 use Rattle.tight.specs.Tight.{Tight}
 use Rattle.exports.proofs as this
 
@@ -55,3 +58,30 @@ pub kh-sync-tight : Tight this.kh_sync.Kinds.ps this.kh_sync.Kinds.r this.kh_syn
 kh-sync-tight κs a pre z z′ l l′ p q =
     let e = p ∙ sym q in
     ((λ i. e i .back), (λ i. (e i .working, (e i .stable, l .1 .1))))
+
+pub kh-lean-lookup-tight : Tight this.lean.kh_lean_lookup.Kinds.ps this.lean.kh_lean_lookup.Kinds.r this.lean.kh_lean_lookup.Reads.Pre this.lean.kh_lean_lookup.Reads.Post
+kh-lean-lookup-tight κs a pre z z′ l l′ p q =
+    let s : Session = begun (a .1 .1 .0) (a .1 .1 .1 .0) 0 [] [] in
+    let e = p s refl refl ∙ sym (q s refl refl) in
+    ((λ i. record { answer = e i .back .answer; «record» = e i .back .«record»; mended = e i .back .mended; reason = e i .back .reason }), (λ i. (e i .working, l .1)))
+
+pub kh-lean-newest-tight : Tight this.lean.kh_lean_newest.Kinds.ps this.lean.kh_lean_newest.Kinds.r this.lean.kh_lean_newest.Reads.Pre this.lean.kh_lean_newest.Reads.Post
+kh-lean-newest-tight κs a pre z z′ l l′ p q =
+    let s : Session = begun (a .1 .1 .0) (a .1 .1 .1 .0) 0 [] [] in
+    let e = p s refl refl ∙ sym (q s refl refl) in
+    ((λ i. record { answer = e i .back .answer; issue = e i .back .issue; «record» = e i .back .«record»; mended = e i .back .mended; reason = e i .back .reason }), (λ i. (e i .working, l .1)))
+
+pub kh-lean-has-any-tight : Tight this.lean.kh_lean_has_any.Kinds.ps this.lean.kh_lean_has_any.Kinds.r this.lean.kh_lean_has_any.Reads.Pre this.lean.kh_lean_has_any.Reads.Post
+kh-lean-has-any-tight κs a pre z z′ l l′ p q =
+    let s : Session = begun (a .1 .1 .0) (a .1 .1 .1 .0) 0 [] [] in
+    let e = p s refl refl ∙ sym (q s refl refl) in
+    ((λ i. record { answer = e i .back .answer; any = e i .back .any; mended = e i .back .mended; reason = e i .back .reason }), (λ i. (e i .working, l .1)))
+
+pub kh-lean-list-tight : Tight this.lean.kh_lean_list.Kinds.ps this.lean.kh_lean_list.Kinds.r this.lean.kh_lean_list.Reads.Pre this.lean.kh_lean_list.Reads.Post
+kh-lean-list-tight κs a pre z z′ l l′ p q =
+    let s : Session = begun (a .1 .1 .0) (a .1 .1 .1 .0) 0 [] [] in
+    let e = p s refl refl ∙ sym (q s refl refl) in
+    let rest = l .1 .1 .1 .1 .1 .1 .1 in (
+      (λ i. record { answer = e i .back .answer; count = e i .back .count; mended = e i .back .mended; reason = e i .back .reason }),
+      (λ i. (e i .working, (l .1 .0, (l .1 .1 .0, (l .1 .1 .1 .0, (l .1 .1 .1 .1 .0, (e i .keys, (e i .records, rest)))))))),
+    )

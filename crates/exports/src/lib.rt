@@ -5,10 +5,12 @@
 // the paper's number, 0 to 9, and the numbers beside a refusal are 0. include/khirpando.h declares the same for C.
 //
 // Each contract is one equation: what is handed back and every byte lent are the rule's, with its answer as a number.
-// Reading calls hand the session back from where it was handed in, which spares three copies of 256 bytes: the rules
-// say that it comes back as it came.
+// Reading calls hand the session back from where it was handed in, which spares three copies of it: the rules say that
+// it comes back as it came. `lean` has them once more without it, by its numbers.
 //
 // Below stand `store`, `numbers`, `write` for the numbers of its answers, and `rules`.
+mod lean;
+
 ghost use mathlib.Core.Path.{_≡_};
 ghost use Rattle.rules.specs.Call.{openedNo, insertedNo, syncedNo};
 ghost use Rattle.rules.specs.Format;
@@ -164,7 +166,7 @@ pub extern "C" fn kh_lookup(
     ensures { λ r. ⌜ C.leaves r (now (working .exit)) (now (stable .entry))
         ≡ C.looked (lookupReported (now (working .entry)) (now (stable .entry)) session model serial issue) ⌝ }
 {
-    let left = store::lookup(working, stable, session, model, serial, issue);
+    let left = store::lean_lookup(working, stable, session.n, session.c, model, serial, issue);
     let answer = left.answer;
     let report = left.report;
     let reason = report.reason;
@@ -188,7 +190,7 @@ pub extern "C" fn kh_newest(
     ensures { λ r. ⌜ C.leaves r (now (working .exit)) (now (stable .entry))
         ≡ C.newest (newestReported (now (working .entry)) (now (stable .entry)) session model serial) ⌝ }
 {
-    let left = store::newest(working, stable, session, model, serial);
+    let left = store::lean_newest(working, stable, session.n, session.c, model, serial);
     let answer = left.answer;
     let report = left.report;
     let reason = report.reason;
@@ -213,7 +215,7 @@ pub extern "C" fn kh_has_any(
     ensures { λ r. ⌜ C.leaves r (now (working .exit)) (now (stable .entry))
         ≡ C.any (hasAnyReported (now (working .entry)) (now (stable .entry)) session model serial) ⌝ }
 {
-    let left = store::has_any(working, stable, session, model, serial);
+    let left = store::lean_has_any(working, stable, session.n, session.c, model, serial);
     let answer = left.answer;
     let report = left.report;
     let reason = report.reason;
@@ -238,7 +240,7 @@ pub extern "C" fn kh_list(
     ensures { λ r. ⌜ C.listing r (now (working .exit)) (now (stable .entry)) (now (keys .exit)) (now (records .exit))
         ≡ C.listed (listReported (now (working .entry)) (now (stable .entry)) session start (now (keys .entry)) (now (records .entry))) ⌝ }
 {
-    let left = store::list(working, stable, session, start, keys, records);
+    let left = store::lean_list(working, stable, session.n, session.c, start, keys, records);
     let answer = left.answer;
     let report = left.report;
     let reason = report.reason;

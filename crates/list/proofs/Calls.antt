@@ -44,7 +44,7 @@ roomy a ks xs h = record {
   records = omega (arith, h, min-le-right (length ks) (length xs));
 }
 
-module _ (w t : List ℕ) (s : Session) (start : ℕ) (ks xs : List ℕ) where
+module _ (w t : List ℕ) (s : Session) {n c : ℕ} (same-n : s .n ≡ n) (same-c : s .c ≡ c) (start : ℕ) (ks xs : List ℕ) where
   -- what the walk reports
   along : Report
   along = walkOf (s .n) (s .c) (rules.upFrom start ks xs) w .report
@@ -61,13 +61,20 @@ module _ (w t : List ℕ) (s : Session) (start : ℕ) (ks xs : List ℕ) where
       hands (telling w (sought Listed.Length y) ks xs) (rw (rules.list, h)) (q ∙ sym (tested-length s w t true along h))
 
   module _ (h : lengthsFor s w t ≡ true) where
-    pub bad-zero : (y : Report) → y ≡ nothing → fit0 (s .n) w ≡ false
+    fit0-same : {b : Bool} → fit0 n w ≡ b → fit0 (s .n) w ≡ b
+    fit0-same z = ap (λ (m : ℕ). fit0 m w) same-n ∙ z
+
+    pub bad-zero : (y : Report) → y ≡ nothing → fit0 n w ≡ false
         → handed s t (telling w (sought Listed.Damaged y) ks xs) ≡ listReported w t s start ks xs
     unfolding rules.list rules.listRefused
-    bad-zero y q z =
+    bad-zero y q z′ =
+        let z = fit0-same z′ in
         hands (telling w (sought Listed.Damaged y) ks xs) (rw (rules.list, h, z)) (q ∙ sym (tested-zero s w t true along h refl z))
 
-    module _ (z : fit0 (s .n) w ≡ true) where
+    module _ (z′ : fit0 n w ≡ true) where
+      z : fit0 (s .n) w ≡ true
+      z = fit0-same z′
+
       goes : rules.listFrom s w t start ks xs ≡ rules.list w t s start ks xs
       unfolding rules.list
       goes = rw (rules.list, h, z)
@@ -91,9 +98,10 @@ module _ (w t : List ℕ) (s : Session) (start : ℕ) (ks xs : List ℕ) where
           go false q = rw (q, told)
 
       pub answers : (a : Asked) → a ≡ record { low = start; high = lastKey; room = min (length ks) (length xs) }
-          → (u : List ℕ) (r : Sought) (us vs : List ℕ) → telling u r us vs ≡ told ks xs (walkOf (s .n) (s .c) a w)
+          → (u : List ℕ) (r : Sought) (us vs : List ℕ) → telling u r us vs ≡ told ks xs (walkOf n c a w)
           → handed s t (telling u r us vs) ≡ listReported w t s start ks xs
       unfolding rules.upFrom
       answers a g u r us vs f =
-          let e = f ∙ ap (λ (b : Asked). told ks xs (walkOf (s .n) (s .c) b w)) g in
+          let same : told ks xs (walkOf n c a w) ≡ told ks xs (walkOf (s .n) (s .c) a w) = sym (λ i. told ks xs (walkOf (same-n i) (same-c i) a w)) in
+          let e = f ∙ (same ∙ ap (λ (b : Asked). told ks xs (walkOf (s .n) (s .c) b w)) g) in
           hands (telling u r us vs) (ap (left s t) e ∙ (walks ∙ goes)) (ap (λ (x : Told). x .report) e ∙ reports)

@@ -22,5 +22,5 @@ pub list-empty : (w t : List ℕ) (s : Session) (start : ℕ) (ks xs : List ℕ)
     → min (length ks) (length xs) ≡ 0 → handed s t (telling w (sought (Listed.Filled 0) nothing) ks xs) ≡ listReported w t s start ks xs
 unfolding told over keys rules.recordsOf rules.upFrom
 list-empty w t s start ks xs h z e =
-    answers w t s start ks xs h z (rules.upFrom start ks xs) refl w (sought (Listed.Filled 0) nothing) ks xs
+    answers w t s refl refl start ks xs h z (rules.upFrom start ks xs) refl w (sought (Listed.Filled 0) nothing) ks xs
     (ap (told ks xs) (sym (walk-none (s .n) (s .c) (rules.upFrom start ks xs) w e)))

@@ -8,10 +8,15 @@ use Rattle.rules.specs.Page.{over}
 use Rattle.rules.specs.Report.{Reported}
 use Rattle.rules.specs.Walk.{Walked}
 use Rattle.rules.specs.List.{ListLeft, recordsOf}
+use Rattle.rules.specs.declared.Session.{Session}
 use Rattle.rules.specs.declared.Listed.{Listed}
 use Rattle.rules.specs.declared.Listing.{Listing}
 use Rattle.rules.specs.declared.Report.{Report}
 use Rattle.list.specs.declared.Sought.{Sought}
+
+-- with a session beside it
+abbrev pub beside : Session → Sought → Listing
+beside s r = record { answer = r .answer; report = r .report; session = s }
 
 -- the whole of it
 abbrev pub leaving : Listing → List ℕ → List ℕ → List ℕ → List ℕ → Reported ListLeft

@@ -6,6 +6,9 @@
 // whole the lists are filled, without another test of any page if nothing is to be mended. Where it is not, the pages are
 // only mended, up to the damage, since mends made before a refusal stand.
 //
+// `lean` is the same for callers who keep the session where it is: it takes the session's two numbers alone, and for every
+// session that has them it does what `list` does.
+//
 // Below stand `tables`, which tests lengths, `dry`, the dry walk, and `fill`, which fills and mends.
 use rules::Asked;
 use rules::LAST_KEY;
@@ -21,8 +24,9 @@ ghost use Rattle.rules.specs.Layout.{pageSize, mostPages, lastKey};
 ghost use Rattle.rules.specs.Table.{fit0};
 ghost use Rattle.rules.specs.Walk.{walkOf};
 ghost use Rattle.rules.specs.Reports.{listReported};
+ghost use Rattle.rules.specs.declared.Session.{Session};
 ghost use Rattle.fill.specs.Fills.{Roomy};
-ghost use Rattle.list.specs.Lists.{leaving, telling, told};
+ghost use Rattle.list.specs.Lists.{beside, leaving, telling, told};
 
 // An answer, and what was mended on the way.
 pub struct Sought {
@@ -78,6 +82,37 @@ fn look(t: &mut [u8], n: usize, c: u32, a: Asked, keys: &mut [u64], records: &mu
     }
 }
 
+// A list by a session's numbers.
+pub fn lean(
+    working: &mut [u8],
+    stable: &[u8],
+    n: u16,
+    c: u32,
+    start: u64,
+    keys: &mut [u64],
+    records: &mut [u32],
+) -> Sought
+    ensures { λ r. ⌜ ((s : Session) → s .n ≡ n → s .c ≡ c
+        → leaving (beside s r) (now (working .exit)) (now (stable .entry)) (now (keys .exit)) (now (records .exit))
+        ≡ listReported (now (working .entry)) (now (stable .entry)) s start (now (keys .entry)) (now (records .entry))) ⌝ }
+{
+    if !tables::lengths_for(n, working, stable) {
+        return Sought {
+            answer: Listed::Length,
+            report: Report::nothing(),
+        };
+    }
+    let pages = n as usize;
+    if !head::fit0(working, pages) {
+        return Sought {
+            answer: Listed::Damaged,
+            report: Report::nothing(),
+        };
+    }
+    let asked = up_from(start, keys.len(), records.len());
+    look(working, pages, c, asked, keys, records)
+}
+
 pub fn list(
     working: &mut [u8],
     stable: &[u8],
@@ -89,23 +124,7 @@ pub fn list(
     ensures { λ r. ⌜ leaving r (now (working .exit)) (now (stable .entry)) (now (keys .exit)) (now (records .exit))
         ≡ listReported (now (working .entry)) (now (stable .entry)) session start (now (keys .entry)) (now (records .entry)) ⌝ }
 {
-    if !tables::lengths_for(session.n, working, stable) {
-        return Listing {
-            answer: Listed::Length,
-            report: Report::nothing(),
-            session,
-        };
-    }
-    let n = session.n as usize;
-    if !head::fit0(working, n) {
-        return Listing {
-            answer: Listed::Damaged,
-            report: Report::nothing(),
-            session,
-        };
-    }
-    let asked = up_from(start, keys.len(), records.len());
-    let sought = look(working, n, session.c, asked, keys, records);
+    let sought = lean(working, stable, session.n, session.c, start, keys, records);
     let answer = sought.answer;
     let report = sought.report;
     Listing {

@@ -1,6 +1,6 @@
 -- What a lookup answers, test after test. Assumes nothing.
 use mathlib.Core.Path.{_≡_, refl, sym, ap, _∙_}
-use mathlib.Core.Bool.{true, false}
+use mathlib.Core.Bool.{Bool, true, false}
 use mathlib.Core.List.{List}
 use mathlib.Core.Option.{Option, some, none}
 use Prim.Native.Nat.{ℕ}
@@ -26,7 +26,7 @@ told : {w t : List ℕ} {s : Session} {r : Looked} {x : Report} (model serial is
 unfolding lookupReported lookupLeft
 told model serial issue w₀ p q = cc
 
-module _ (w t : List ℕ) (s : Session) (model serial issue : ℕ) where
+module _ (w t : List ℕ) (s : Session) {n c : ℕ} (same-n : s .n ≡ n) (same-c : s .c ≡ c) (model serial issue : ℕ) where
   along : Report
   along = wayReport (s .n) (s .c) (keyOf model serial issue) w nothing
 
@@ -42,13 +42,20 @@ module _ (w t : List ℕ) (s : Session) (model serial issue : ℕ) where
     bad-key g q = told model serial issue w (rw (lookup, l, g)) (q ∙ sym (tested-key s w t (goodParts model serial issue) along l g))
 
     module _ (g : goodParts model serial issue ≡ true) where
-      pub bad-zero : {x : Report} → fit0 (s .n) w ≡ false → x ≡ nothing
+      fit0-same : {b : Bool} → fit0 n w ≡ b → fit0 (s .n) w ≡ b
+      fit0-same z = ap (λ (m : ℕ). fit0 m w) same-n ∙ z
+
+      pub bad-zero : {x : Report} → fit0 n w ≡ false → x ≡ nothing
           → leaving (record { answer = Looked.Damaged; report = x; session = s }) w t ≡ lookupReported w t s model serial issue
       unfolding lookup lookupLeft keyReport along
-      bad-zero f q =
+      bad-zero z q =
+          let f = fit0-same z in
           told model serial issue w (rw (lookup, l, g, f)) (q ∙ sym (tested-zero s w t (goodParts model serial issue) along l g f))
 
-      module _ (f : fit0 (s .n) w ≡ true) where
+      module _ (z : fit0 n w ≡ true) where
+        f : fit0 (s .n) w ≡ true
+        f = fit0-same z
+
         as-key : lookup w t s model serial issue ≡ lookupKey (keyOf model serial issue) s w t
         unfolding lookup
         as-key = rw (lookup, l, g, f)
@@ -65,10 +72,11 @@ module _ (w t : List ℕ) (s : Session) (model serial issue : ℕ) where
             go (some ss) q = rw (lookupKey, q)
 
         pub looked-up : (u : List ℕ) (r : Sought) (k : ℕ) → k ≡ keyOf model serial issue
-            → looking u r ≡ reported (lookedAlong k (wayOf (s .n) (s .c) k w)) (wayReport (s .n) (s .c) k w nothing)
+            → looking u r ≡ reported (lookedAlong k (wayOf n c k w)) (wayReport n c k w nothing)
             → leaving (record { answer = r .answer; report = r .report; session = s }) u t ≡ lookupReported w t s model serial issue
         unfolding keyReport along
-        looked-up u r k e h =
+        looked-up u r k e h′ =
+            let h = h′ ∙ sym (λ i. reported (lookedAlong k (wayOf (same-n i) (same-c i) k w)) (wayReport (same-n i) (same-c i) k w nothing)) in
             told model serial issue w
             (ap (λ (y : Reported Look). lookupLeft s (y .left .table) t (y .left .answer)) h
             ∙ (by-way k ∙ (ap (λ (j : ℕ). lookupKey j s w t) e ∙ sym as-key)))

@@ -8,10 +8,15 @@ use Rattle.rules.specs.Walk.{Step, Way}
 use Rattle.rules.specs.Report.{Reported}
 use Rattle.rules.specs.Call.{Left}
 use Rattle.rules.specs.Lookup.{foundIn}
+use Rattle.rules.specs.declared.Session.{Session}
 use Rattle.rules.specs.declared.Looked.{Looked}
 use Rattle.rules.specs.declared.Looking.{Looking}
 use Rattle.head.specs.Head.{certAt}
 use Rattle.lookup.specs.declared.Sought.{Sought}
+
+-- with a session beside it
+abbrev pub beside : Session → Sought → Looking
+beside s r = record { answer = r .answer; report = r .report; session = s }
 
 -- the whole of it
 abbrev pub leaving : Looking → List ℕ → List ℕ → Reported (Left Looked)

@@ -5,6 +5,9 @@
 // behind a refusal. The record is that of an entry with the whole key: where the last key not above it is another one,
 // the certificate is missing.
 //
+// `lean` is the same for callers who keep the session where it is: it takes the session's two numbers alone, and for every
+// session that has them it does what `lookup` does.
+//
 // The way ends with the key's spot in its leaf, which was guessed before the leaf was tested and confirmed after it, so
 // that a lookup searches no page a second time.
 //
@@ -26,9 +29,10 @@ ghost use Rattle.rules.specs.Table.{pageAt, read, fit0};
 ghost use Rattle.rules.specs.Report.{nothing};
 ghost use Rattle.rules.specs.Walk.{wayOf, wayReport};
 ghost use Rattle.rules.specs.Reports.{lookupReported};
+ghost use Rattle.rules.specs.declared.Session.{Session};
 ghost use Rattle.head.proofs.Headers.{headOf};
 ghost use Rattle.way.specs.Ways.{Holds, reported};
-ghost use Rattle.lookup.specs.Looks.{foundBefore, lookedIn, leaving, looking, lookedAlong};
+ghost use Rattle.lookup.specs.Looks.{foundBefore, lookedIn, beside, leaving, looking, lookedAlong};
 
 // What stands under a key in a leaf, by the key's spot: the entry before it has the key, or none has.
 fn find_in(page: &[u8], spot: usize, key: u64) -> Looked
@@ -101,6 +105,41 @@ fn look(t: &mut [u8], n: usize, c: u32, key: u64) -> Sought
     }
 }
 
+// A lookup by a session's numbers.
+pub fn lean(
+    working: &mut [u8],
+    stable: &[u8],
+    n: u16,
+    c: u32,
+    model: u16,
+    serial: u32,
+    issue: u16,
+) -> Sought
+    ensures { λ r. ⌜ ((s : Session) → s .n ≡ n → s .c ≡ c → leaving (beside s r) (now (working .exit)) (now (stable .entry))
+        ≡ lookupReported (now (working .entry)) (now (stable .entry)) s model serial issue) ⌝ }
+{
+    if !tables::lengths_for(n, working, stable) {
+        return Sought {
+            answer: Looked::Length,
+            report: Report::nothing(),
+        };
+    }
+    if !keys::good_parts(model, serial, issue) {
+        return Sought {
+            answer: Looked::BadKey,
+            report: Report::nothing(),
+        };
+    }
+    let pages = n as usize;
+    if !head::fit0(working, pages) {
+        return Sought {
+            answer: Looked::Damaged,
+            report: Report::nothing(),
+        };
+    }
+    look(working, pages, c, keys::key_of(model, serial, issue))
+}
+
 pub fn lookup(
     working: &mut [u8],
     stable: &[u8],
@@ -112,31 +151,9 @@ pub fn lookup(
     ensures { λ r. ⌜ leaving r (now (working .exit)) (now (stable .entry))
         ≡ lookupReported (now (working .entry)) (now (stable .entry)) session model serial issue ⌝ }
 {
-    if !tables::lengths_for(session.n, working, stable) {
-        return Looking {
-            answer: Looked::Length,
-            report: Report::nothing(),
-            session,
-        };
-    }
-    if !keys::good_parts(model, serial, issue) {
-        return Looking {
-            answer: Looked::BadKey,
-            report: Report::nothing(),
-            session,
-        };
-    }
-    let n = session.n as usize;
-    if !head::fit0(working, n) {
-        return Looking {
-            answer: Looked::Damaged,
-            report: Report::nothing(),
-            session,
-        };
-    }
-    let looked = look(working, n, session.c, keys::key_of(model, serial, issue));
-    let answer = looked.answer;
-    let report = looked.report;
+    let sought = lean(working, stable, session.n, session.c, model, serial, issue);
+    let answer = sought.answer;
+    let report = sought.report;
     Looking {
         answer,
         report,

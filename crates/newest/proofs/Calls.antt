@@ -43,7 +43,7 @@ module _ (model serial low high : ℕ) (f : low ≡ keyOf model serial 1) (g : h
 abbrev left : Session → List ℕ → List ℕ → Newest → Left Newest
 left s w t answer = record { answer = answer; session = s; working = w; stable = t }
 
-module _ (w t : List ℕ) (s : Session) (model serial : ℕ) where
+module _ (w t : List ℕ) (s : Session) {n c : ℕ} (same-n : s .n ≡ n) (same-c : s .c ≡ c) (model serial : ℕ) where
   good : Bool
   good = ltb 0 model && ltb 0 serial
 
@@ -86,12 +86,20 @@ module _ (w t : List ℕ) (s : Session) (model serial : ℕ) where
         unfolding good
         good-key = rw (model-above, lt-ltb 0 serial (omega arith))
 
-        pub bad-zero : {x : Report} → fit0 (s .n) w ≡ false → x ≡ nothing
+        fit0-same : {b : Bool} → fit0 n w ≡ b → fit0 (s .n) w ≡ b
+        fit0-same z = ap (λ (m : ℕ). fit0 m w) same-n ∙ z
+
+        pub bad-zero : {x : Report} → fit0 n w ≡ false → x ≡ nothing
             → leaving (record { answer = Newest.Damaged; report = x; session = s }) w t ≡ newestReported w t s model serial
         unfolding rules.newest rules.newestLeft good
-        bad-zero z q = told (rw (rules.newest, h, good-key, z)) (q ∙ sym (tested-zero s w t good along h good-key z))
+        bad-zero z′ q =
+            let z = fit0-same z′ in
+            told (rw (rules.newest, h, good-key, z)) (q ∙ sym (tested-zero s w t good along h good-key z))
 
-        module _ (z : fit0 (s .n) w ≡ true) (a : Asked) (g : a ≡ rules.meter model serial) where
+        module _ (z′ : fit0 n w ≡ true) (a : Asked) (g : a ≡ rules.meter model serial) where
+          z : fit0 (s .n) w ≡ true
+          z = fit0-same z′
+
           goes : rules.newestMeter a s w t ≡ rules.newest w t s model serial
           unfolding rules.newest good
           goes = rw (rules.newest, h, good-key, z) (ap (λ (b : Asked). rules.newestMeter b s w t) g)
@@ -105,10 +113,11 @@ module _ (w t : List ℕ) (s : Session) (model serial : ℕ) where
               go true q = rw (q, answerOf, rules.newestMeter)
               go false q = rw (q, answerOf, rules.newestMeter)
 
-          pub answers : (u : List ℕ) (r : Sought) → seeing u r ≡ seen (walkOf (s .n) (s .c) a w)
+          pub answers : (u : List ℕ) (r : Sought) → seeing u r ≡ seen (walkOf n c a w)
               → leaving (record { answer = r .answer; report = r .report; session = s }) u t ≡ newestReported w t s model serial
           unfolding along
-          answers u r f =
+          answers u r f′ =
+              let f = f′ ∙ sym (λ i. seen (walkOf (same-n i) (same-c i) a w)) in
               told (ap (λ (x : Seen). left s (x .table) t (x .answer)) f ∙ (walks ∙ goes))
               (ap (λ (x : Seen). x .report) f
               ∙ (ap (λ (b : Asked). walkOf (s .n) (s .c) b w .report) g ∙ sym (tested-done s w t good along h good-key z)))

@@ -10,12 +10,17 @@ use Rattle.rules.specs.Report.{Reported}
 use Rattle.rules.specs.Walk.{Walked}
 use Rattle.rules.specs.Call.{Left}
 use Rattle.rules.specs.Newest.{newestIn}
+use Rattle.rules.specs.declared.Session.{Session}
 use Rattle.rules.specs.declared.Asked.{Asked}
 use Rattle.rules.specs.declared.Newest.{Newest}
 use Rattle.rules.specs.declared.NewestOf.{NewestOf}
 use Rattle.rules.specs.declared.Report.{Report}
 use Rattle.head.specs.Head.{certAt}
 use Rattle.newest.specs.declared.Sought.{Sought}
+
+-- with a session beside it
+abbrev pub beside : Session → Sought → NewestOf
+beside s r = record { answer = r .answer; report = r .report; session = s }
 
 -- the whole of it
 abbrev pub leaving : NewestOf → List ℕ → List ℕ → Reported (Left Newest)

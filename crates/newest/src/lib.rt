@@ -5,6 +5,9 @@
 // `newestReported`; what was mended on the way stays mended and is reported, also behind a refusal. A damaged page is never passed over: the newest certificate might
 // stand there.
 //
+// `lean` is the same for callers who keep the session where it is: it takes the session's two numbers alone, and for every
+// session that has them it does what `newest` does.
+//
 // Of each leaf one certificate is looked at, the last that is not above the meter's keys. The others are read in the test
 // of the page alone.
 //
@@ -24,7 +27,8 @@ ghost use Rattle.rules.specs.Layout.{pageSize, leafHeader, certSize, leafRoom, 
 ghost use Rattle.rules.specs.Table.{pageAt, fit0};
 ghost use Rattle.rules.specs.Walk.{walkOf};
 ghost use Rattle.rules.specs.Reports.{newestReported};
-ghost use Rattle.newest.specs.Newests.{leaving, range, lastIn, seeing, seen};
+ghost use Rattle.rules.specs.declared.Session.{Session};
+ghost use Rattle.newest.specs.Newests.{beside, leaving, range, lastIn, seeing, seen};
 
 // How many issues a meter has, counting 0.
 const ISSUES: u64 = 65536;
@@ -98,6 +102,41 @@ fn look(t: &mut [u8], n: usize, c: u32, low: u64, high: u64) -> Sought
     }
 }
 
+// Newest by a session's numbers.
+pub fn lean(working: &mut [u8], stable: &[u8], n: u16, c: u32, model: u16, serial: u32) -> Sought
+    ensures { λ r. ⌜ ((s : Session) → s .n ≡ n → s .c ≡ c → leaving (beside s r) (now (working .exit)) (now (stable .entry))
+        ≡ newestReported (now (working .entry)) (now (stable .entry)) s model serial) ⌝ }
+{
+    if !tables::lengths_for(n, working, stable) {
+        return Sought {
+            answer: Newest::Length,
+            report: Report::nothing(),
+        };
+    }
+    if model == 0 {
+        return Sought {
+            answer: Newest::BadKey,
+            report: Report::nothing(),
+        };
+    }
+    if serial == 0 {
+        return Sought {
+            answer: Newest::BadKey,
+            report: Report::nothing(),
+        };
+    }
+    let pages = n as usize;
+    if !head::fit0(working, pages) {
+        return Sought {
+            answer: Newest::Damaged,
+            report: Report::nothing(),
+        };
+    }
+    let low = keys::key_of(model, serial, 1);
+    let high = keys::key_of(model, serial, LAST_FINAL);
+    look(working, pages, c, low, high)
+}
+
 pub fn newest(
     working: &mut [u8],
     stable: &[u8],
@@ -108,40 +147,9 @@ pub fn newest(
     ensures { λ r. ⌜ leaving r (now (working .exit)) (now (stable .entry))
         ≡ newestReported (now (working .entry)) (now (stable .entry)) session model serial ⌝ }
 {
-    if !tables::lengths_for(session.n, working, stable) {
-        return NewestOf {
-            answer: Newest::Length,
-            report: Report::nothing(),
-            session,
-        };
-    }
-    if model == 0 {
-        return NewestOf {
-            answer: Newest::BadKey,
-            report: Report::nothing(),
-            session,
-        };
-    }
-    if serial == 0 {
-        return NewestOf {
-            answer: Newest::BadKey,
-            report: Report::nothing(),
-            session,
-        };
-    }
-    let n = session.n as usize;
-    if !head::fit0(working, n) {
-        return NewestOf {
-            answer: Newest::Damaged,
-            report: Report::nothing(),
-            session,
-        };
-    }
-    let low = keys::key_of(model, serial, 1);
-    let high = keys::key_of(model, serial, LAST_FINAL);
-    let looked = look(working, n, session.c, low, high);
-    let answer = looked.answer;
-    let report = looked.report;
+    let sought = lean(working, stable, session.n, session.c, model, serial);
+    let answer = sought.answer;
+    let report = sought.report;
     NewestOf {
         answer,
         report,

@@ -1,5 +1,8 @@
 -- No second outcome satisfies a contract of this crate. Assumes nothing.
-use mathlib.Core.Path.{sym, _∙_}
+use mathlib.Core.Path.{refl, sym, _∙_}
+use mathlib.Core.List.{[]}
+use Rattle.rules.specs.Marks.{begun}
+use Rattle.rules.specs.declared.Session.{Session}
 use Rattle.tight.specs.Tight.{Tight}
 use Rattle.store.proofs as this
 
@@ -57,3 +60,30 @@ pub sync-tight : Tight this.sync.Kinds.ps this.sync.Kinds.r this.sync.Reads.Pre 
 sync-tight κs a pre z z′ l l′ p q =
     let e = p ∙ sym q in
     ((λ i. record { answer = e i .answer; session = e i .session }), (λ i. (e i .working, (e i .stable, l .1 .1))))
+
+pub lean-lookup-tight : Tight this.lean_lookup.Kinds.ps this.lean_lookup.Kinds.r this.lean_lookup.Reads.Pre this.lean_lookup.Reads.Post
+lean-lookup-tight κs a pre z z′ l l′ p q =
+    let s : Session = begun (a .1 .1 .0) (a .1 .1 .1 .0) 0 [] [] in
+    let e = p s refl refl ∙ sym (q s refl refl) in
+    ((λ i. record { answer = e i .left .answer; report = e i .report }), (λ i. (e i .left .working, l .1)))
+
+pub lean-newest-tight : Tight this.lean_newest.Kinds.ps this.lean_newest.Kinds.r this.lean_newest.Reads.Pre this.lean_newest.Reads.Post
+lean-newest-tight κs a pre z z′ l l′ p q =
+    let s : Session = begun (a .1 .1 .0) (a .1 .1 .1 .0) 0 [] [] in
+    let e = p s refl refl ∙ sym (q s refl refl) in
+    ((λ i. record { answer = e i .left .answer; report = e i .report }), (λ i. (e i .left .working, l .1)))
+
+pub lean-has-any-tight : Tight this.lean_has_any.Kinds.ps this.lean_has_any.Kinds.r this.lean_has_any.Reads.Pre this.lean_has_any.Reads.Post
+lean-has-any-tight κs a pre z z′ l l′ p q =
+    let s : Session = begun (a .1 .1 .0) (a .1 .1 .1 .0) 0 [] [] in
+    let e = p s refl refl ∙ sym (q s refl refl) in
+    ((λ i. record { answer = e i .left .answer; report = e i .report }), (λ i. (e i .left .working, l .1)))
+
+pub lean-list-tight : Tight this.lean_list.Kinds.ps this.lean_list.Kinds.r this.lean_list.Reads.Pre this.lean_list.Reads.Post
+lean-list-tight κs a pre z z′ l l′ p q =
+    let s : Session = begun (a .1 .1 .0) (a .1 .1 .1 .0) 0 [] [] in
+    let e = p s refl refl ∙ sym (q s refl refl) in
+    let rest = l .1 .1 .1 .1 .1 .1 .1 in (
+      (λ i. record { answer = e i .left .answer; report = e i .report }),
+      (λ i. (e i .left .working, (l .1 .0, (l .1 .1 .0, (l .1 .1 .1 .0, (l .1 .1 .1 .1 .0, (e i .left .keys, (e i .left .records, rest)))))))),
+    )

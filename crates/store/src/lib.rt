@@ -37,12 +37,17 @@
 // the rules promise of crashes is the theorem `demand3` of `rules`. Stack: no call holds more
 // than 2 KiB of local arrays; `tools/frames` reads off the object code what each function takes.
 //
+// Of a session a call that only reads needs two numbers, n and c, and hands it back as it came. Its lean form, `lean_lookup`
+// and so on, takes them instead and hands no session back. It promises of every session with these numbers what the call
+// promises: the same answer, report and bytes.
+//
 // Below stand the calls, a crate each.
 ghost use mathlib.Core.Path.{_≡_};
 ghost use Rattle.rules.specs.Format;
 ghost use Rattle.rules.specs.Open;
 ghost use Rattle.rules.specs.Reports.{insertReported, withdrawReported, lookupReported, newestReported, hasAnyReported, listReported};
 ghost use Rattle.rules.specs.Sync;
+ghost use Rattle.rules.specs.declared.Session.{Session};
 ghost use Rattle.format.specs.Formats;
 ghost use Rattle.opening.specs.Opens;
 ghost use Rattle.insert.specs.Inserts;
@@ -188,4 +193,67 @@ pub fn sync(working: &mut [u8], stable: &mut [u8], session: Session) -> Syncing
         ≡ Sync.sync (now (working .entry)) (now (stable .entry)) session ⌝ }
 {
     sync::sync(working, stable, session)
+}
+
+// As lookup, by a session's numbers.
+pub fn lean_lookup(
+    working: &mut [u8],
+    stable: &[u8],
+    n: u16,
+    c: u32,
+    model: u16,
+    serial: u32,
+    issue: u16,
+) -> lookup::Sought
+    ensures { λ r. ⌜ ((s : Session) → s .n ≡ n → s .c ≡ c → Looks.leaving (Looks.beside s r) (now (working .exit)) (now (stable .entry))
+        ≡ lookupReported (now (working .entry)) (now (stable .entry)) s model serial issue) ⌝ }
+{
+    lookup::lean(working, stable, n, c, model, serial, issue)
+}
+
+// As newest, by a session's numbers.
+pub fn lean_newest(
+    working: &mut [u8],
+    stable: &[u8],
+    n: u16,
+    c: u32,
+    model: u16,
+    serial: u32,
+) -> newest::Sought
+    ensures { λ r. ⌜ ((s : Session) → s .n ≡ n → s .c ≡ c → Newests.leaving (Newests.beside s r) (now (working .exit)) (now (stable .entry))
+        ≡ newestReported (now (working .entry)) (now (stable .entry)) s model serial) ⌝ }
+{
+    newest::lean(working, stable, n, c, model, serial)
+}
+
+// As has_any, by a session's numbers.
+pub fn lean_has_any(
+    working: &mut [u8],
+    stable: &[u8],
+    n: u16,
+    c: u32,
+    model: u16,
+    serial: u32,
+) -> any::Sought
+    ensures { λ r. ⌜ ((s : Session) → s .n ≡ n → s .c ≡ c → Anys.leaving (Anys.beside s r) (now (working .exit)) (now (stable .entry))
+        ≡ hasAnyReported (now (working .entry)) (now (stable .entry)) s model serial) ⌝ }
+{
+    any::lean(working, stable, n, c, model, serial)
+}
+
+// As list, by a session's numbers.
+pub fn lean_list(
+    working: &mut [u8],
+    stable: &[u8],
+    n: u16,
+    c: u32,
+    start: u64,
+    keys: &mut [u64],
+    records: &mut [u32],
+) -> list::Sought
+    ensures { λ r. ⌜ ((s : Session) → s .n ≡ n → s .c ≡ c
+        → Lists.leaving (Lists.beside s r) (now (working .exit)) (now (stable .entry)) (now (keys .exit)) (now (records .exit))
+        ≡ listReported (now (working .entry)) (now (stable .entry)) s start (now (keys .entry)) (now (records .entry))) ⌝ }
+{
+    list::lean(working, stable, n, c, start, keys, records)
 }

@@ -1,2 +1,3 @@
 pub mod Front
+pub mod Sizes
 pub mod Tight

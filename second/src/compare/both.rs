@@ -2,6 +2,7 @@
 
 use crate::answer::{ANSWERS, WALKING, WORDS};
 use crate::layout::{LAST_NUMBER, PAGE, PAGES_MOST};
+use crate::lean::Lean;
 use crate::proved::Proved;
 use crate::report::{Report, NO_REASON};
 use crate::session::Session;
@@ -119,21 +120,27 @@ impl Both {
     }
 
     pub fn lookup(&mut self, key: u64, counters: &mut Counters) -> Alike<u32> {
+        let mut lean = Lean(self.proved.clone());
         let (own, proved) = (self.own.lookup(key), self.proved.lookup(key));
+        self.as_lean("lookup", &proved, &lean.lookup(key), &lean)?;
         self.alike("lookup", own.0, &own, &proved, counters)
     }
 
     pub fn newest(&mut self, model: u16, serial: u32, counters: &mut Counters) -> Alike<u32> {
         let (answer, issue, record) = self.own.newest(model, serial);
         let own = (answer, u32::from(issue), record);
+        let mut lean = Lean(self.proved.clone());
         let proved = self.proved.newest(model, serial);
+        self.as_lean("newest", &proved, &lean.newest(model, serial), &lean)?;
         self.alike("newest", answer, &own, &proved, counters)
     }
 
     pub fn has_any(&mut self, model: u16, serial: u32, counters: &mut Counters) -> Alike<u32> {
         let (answer, any) = self.own.has_any(model, serial);
         let own = (answer, u32::from(any));
+        let mut lean = Lean(self.proved.clone());
         let proved = self.proved.has_any(model, serial);
+        self.as_lean("has_any", &proved, &lean.has_any(model, serial), &lean)?;
         self.alike("has_any", answer, &own, &proved, counters)
     }
 
@@ -146,10 +153,13 @@ impl Both {
         counters: &mut Counters,
     ) -> Alike<u32> {
         let marked = (vec![!start; keys], vec![start as u32; records]);
-        let (mut own, mut proved) = (marked.clone(), marked);
+        let (mut own, mut proved, mut leanly) = (marked.clone(), marked.clone(), marked);
+        let mut lean = Lean(self.proved.clone());
         let (answer, count) = self.own.list(start, &mut own.0, &mut own.1);
         let listed = self.proved.list(start, &mut proved.0, &mut proved.1);
-        if own != proved {
+        let told = lean.list(start, &mut leanly.0, &mut leanly.1);
+        self.as_lean("list", &listed, &told, &lean)?;
+        if own != proved || own != leanly {
             return Err(format!("list from {start}: other lists"));
         }
         self.alike("list", answer, &(answer, count as u64), &listed, counters)
@@ -197,6 +207,23 @@ impl Both {
             crash(&store.working, &mut store.stable, pages);
         }
         self.open(counters)
+    }
+
+    /// Compares what a reading call and its lean form told and left, on stores that were the same before.
+    fn as_lean<T: PartialEq + fmt::Debug>(
+        &self,
+        call: &str,
+        proved: &T,
+        lean: &T,
+        left: &Lean,
+    ) -> Alike<()> {
+        if proved != lean {
+            return Err(format!("lean {call}: {lean:?} is told, not {proved:?}"));
+        }
+        if left.0 .0.report != self.proved.0.report || left.0 != self.proved {
+            return Err(format!("lean {call}: another report or other tables"));
+        }
+        Ok(())
     }
 
     /// Compares what a call answered and all that it left; the answer, if they are alike.

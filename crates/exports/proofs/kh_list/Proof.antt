@@ -1,12 +1,13 @@
--- `exports::kh_list`: what the store's call leaves, with the answer as a number and the session as it came.
+-- `exports::kh_list`: what the store's lean call leaves, with the answer as a number and the session as it came.
 -- Assumes nothing.
-use Rattle.exports.proofs.Reading.{listed-same}
+use mathlib.Core.Path.{refl, ap}
+use Rattle.exports.specs.Leaves as C
 use borrow.Author.Needs.{needs}
 use Rattle.exports.proofs.kh_list.Statement.{statement}
 use Rattle.exports.proofs.kh_list.Tie as tie
 
-list-requires : tie.Need-list-requires
-list-requires c κs = search needs
+lean-list-requires : tie.Need-lean-list-requires
+lean-list-requires c κs = search needs
 
 listed-requires : tie.Need-listed-requires
 listed-requires c κs = search needs
@@ -29,15 +30,14 @@ same-length-3 c = search needs
 returns : tie.Need-returns
 returns c =
     let args = c .before .before .before .before .before .before .before .before .before .before .before .before .before .before .before .before .before .before .args in
-    let list = c .before .before .before .before .before .before .before .before .before .before .list in
-    rw (c .before .before .listed .ensures, c .before .listed-count .ensures, c .reason .ensures)
-    (listed-same (args .working .now) (args .stable .now) (args .session) (args .start) (args .keys .now) (args .records .now) (list .result) (list .last .0) (list .last .1 .1 .1 .1 .0) (list .last .1 .1 .1 .1 .1 .0) (list .ensures))
+    let left = c .before .before .before .before .before .before .before .before .before .before .lean-list in
+    rw (c .before .before .listed .ensures, c .before .listed-count .ensures, c .reason .ensures) (ap C.listed (left .ensures (args .session) refl refl))
 
 pub kh-list-spec : {M : Type 1} → statement M
 kh-list-spec =
     tie.close
     (tie.spec
-    list-requires
+    lean-list-requires
     listed-requires
     listed-count-requires
     reason-requires

@@ -1,12 +1,13 @@
--- `exports::kh_lookup`: what the store's call leaves, with the answer as a number and the session as it came.
+-- `exports::kh_lookup`: what the store's lean call leaves, with the answer as a number and the session as it came.
 -- Assumes nothing.
-use Rattle.exports.proofs.Reading.{looked-same}
+use mathlib.Core.Path.{refl, ap}
+use Rattle.exports.specs.Leaves as C
 use borrow.Author.Needs.{needs}
 use Rattle.exports.proofs.kh_lookup.Statement.{statement}
 use Rattle.exports.proofs.kh_lookup.Tie as tie
 
-lookup-requires : tie.Need-lookup-requires
-lookup-requires c κs = search needs
+lean-lookup-requires : tie.Need-lean-lookup-requires
+lean-lookup-requires c κs = search needs
 
 looked-requires : tie.Need-looked-requires
 looked-requires c κs = search needs
@@ -23,10 +24,16 @@ same-length c = search needs
 returns : tie.Need-returns
 returns c =
     let args = c .before .before .before .before .before .before .before .before .before .before .args in
-    let lookup = c .before .before .before .before .before .before .lookup in
-    rw (c .before .before .looked .ensures, c .before .looked-record .ensures, c .reason .ensures)
-    (looked-same (args .working .now) (args .stable .now) (args .session) (args .model) (args .serial) (args .issue) (lookup .result) (lookup .last .0) (lookup .ensures))
+    let left = c .before .before .before .before .before .before .lean-lookup in
+    rw (c .before .before .looked .ensures, c .before .looked-record .ensures, c .reason .ensures) (ap C.looked (left .ensures (args .session) refl refl))
 
 pub kh-lookup-spec : {M : Type 1} → statement M
 kh-lookup-spec =
-    tie.close (tie.spec lookup-requires looked-requires looked-record-requires reason-requires same-length returns)
+    tie.close
+    (tie.spec
+    lean-lookup-requires
+    looked-requires
+    looked-record-requires
+    reason-requires
+    same-length
+    returns)

@@ -1,15 +1,16 @@
--- `exports::kh_newest`: what the store's call leaves, with the answer as a number and the session as it came.
+-- `exports::kh_newest`: what the store's lean call leaves, with the answer as a number and the session as it came.
 -- Assumes nothing.
-use Rattle.exports.proofs.Reading.{newest-same}
+use mathlib.Core.Path.{refl, ap}
+use Rattle.exports.specs.Leaves as C
 use borrow.Author.Needs.{needs}
 use Rattle.exports.proofs.kh_newest.Statement.{statement}
 use Rattle.exports.proofs.kh_newest.Tie as tie
 
+lean-newest-requires : tie.Need-lean-newest-requires
+lean-newest-requires c κs = search needs
+
 newest-requires : tie.Need-newest-requires
 newest-requires c κs = search needs
-
-newest-requires-2 : tie.Need-newest-requires-2
-newest-requires-2 c κs = search needs
 
 newest-issue-requires : tie.Need-newest-issue-requires
 newest-issue-requires c κs = search needs
@@ -26,16 +27,15 @@ same-length c = search needs
 returns : tie.Need-returns
 returns c =
     let args = c .before .before .before .before .before .before .before .before .before .before .before .args in
-    let newest = c .before .before .before .before .before .before .before .newest in
-    rw (c .before .before .before .newest2 .ensures, c .before .before .newest-issue .ensures, c .before .newest-record .ensures, c .reason .ensures)
-    (newest-same (args .working .now) (args .stable .now) (args .session) (args .model) (args .serial) (newest .result) (newest .last .0) (newest .ensures))
+    let left = c .before .before .before .before .before .before .before .lean-newest in
+    rw (c .before .before .before .newest .ensures, c .before .before .newest-issue .ensures, c .before .newest-record .ensures, c .reason .ensures) (ap C.newest (left .ensures (args .session) refl refl))
 
 pub kh-newest-spec : {M : Type 1} → statement M
 kh-newest-spec =
     tie.close
     (tie.spec
+    lean-newest-requires
     newest-requires
-    newest-requires-2
     newest-issue-requires
     newest-record-requires
     reason-requires

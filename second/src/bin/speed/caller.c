@@ -1,12 +1,15 @@
-/* The rows of the speed table called from C: the proved store and LMDB, each row a loop of its own. The session goes by
- * value, so what a call costs depends on how the caller's compiler copies it. */
+/* The rows of the speed table called from C: the proved store, with its lean calls and with the others, the store in a
+ * file, and LMDB, each row a loop of its own. The session goes by value, so what a call with one costs depends on how the
+ * caller's compiler copies it. */
 #include <lmdb.h>
 #include <stdbool.h>
 #include <stddef.h>
 #include <stdint.h>
+#include <stdio.h>
 #include <string.h>
 
 #include "khirpando.h"
+#include "khstore.h"
 
 /* More than are ever listed. */
 enum { ROOM = 2000 };
@@ -119,6 +122,137 @@ static bool store_refused(size_t count)
 
 const Calls caller_store = {store_clear, store_fill, store_lookups, store_newests, store_list,
                             store_put,   store_sync, store_open,    store_refused};
+
+/* ---- the same tables and session, read by the lean calls ---- */
+
+static size_t lean_lookups(const uint64_t *keys, uint32_t *records, size_t count)
+{
+    size_t found = 0;
+    for (size_t i = 0; i < count; i++) {
+        KhLeanLooked looked = kh_lean_lookup(working, BYTES, stable, BYTES, session.n, session.c, model(keys[i]),
+                                             serial(keys[i]), issue(keys[i]));
+        records[i] = looked.record;
+        found += looked.answer == KH_DONE;
+    }
+    return found;
+}
+
+static size_t lean_newests(const uint64_t *meters, uint32_t *records, size_t count)
+{
+    size_t found = 0;
+    for (size_t i = 0; i < count; i++) {
+        KhLeanNewest newest = kh_lean_newest(working, BYTES, stable, BYTES, session.n, session.c, model(meters[i]),
+                                             serial(meters[i]));
+        records[i] = newest.record;
+        found += newest.answer == KH_DONE;
+    }
+    return found;
+}
+
+static size_t lean_list(void)
+{
+    KhLeanListed listed = kh_lean_list(working, BYTES, stable, BYTES, session.n, session.c, 0, listed_keys, ROOM,
+                                       listed_records, ROOM);
+    return listed.count;
+}
+
+static bool lean_refused(size_t count)
+{
+    bool all = true;
+    for (size_t i = 0; i < count; i++) {
+        uint16_t other = session.n + 1;
+        all &= kh_lean_lookup(working, BYTES, stable, BYTES, other, session.c, 0, 0, 1).answer == KH_LENGTH;
+    }
+    return all;
+}
+
+const Calls caller_lean = {store_clear, store_fill, lean_lookups, lean_newests, lean_list,
+                           store_put,   store_sync, store_open,   lean_refused};
+
+/* ---- the store in a file ---- */
+
+static KhStore file;
+static char path[4096];
+
+bool caller_file_at(const char *folder)
+{
+    return (size_t)snprintf(path, sizeof path, "%s/certificates", folder) < sizeof path;
+}
+
+void caller_file_close(void)
+{
+    khs_close(&file);
+}
+
+static bool file_clear(void)
+{
+    khs_close(&file);
+    remove(path);
+    return khs_create(&file, path, KH_PAGES_MOST).answer == KH_DONE;
+}
+
+static bool file_sync(void)
+{
+    return khs_sync(&file).answer == KH_DONE;
+}
+
+static bool file_put(uint64_t key, uint32_t record)
+{
+    return khs_insert(&file, model(key), serial(key), issue(key), record).answer == KH_DONE;
+}
+
+static bool file_fill(const uint64_t *keys, const uint32_t *records, size_t count)
+{
+    for (size_t i = 0; i < count; i++)
+        if (!file_put(keys[i], records[i]) && !(file_sync() && file_put(keys[i], records[i])))
+            return false;
+    return file_sync();
+}
+
+static size_t file_lookups(const uint64_t *keys, uint32_t *records, size_t count)
+{
+    size_t found = 0;
+    for (size_t i = 0; i < count; i++)
+        found += khs_lookup(&file, model(keys[i]), serial(keys[i]), issue(keys[i]), &records[i]).answer == KH_DONE;
+    return found;
+}
+
+static size_t file_newests(const uint64_t *meters, uint32_t *records, size_t count)
+{
+    size_t found = 0;
+    for (size_t i = 0; i < count; i++) {
+        uint16_t issue;
+        found += khs_newest(&file, model(meters[i]), serial(meters[i]), &issue, &records[i]).answer == KH_DONE;
+    }
+    return found;
+}
+
+static size_t file_list(void)
+{
+    size_t count;
+    return khs_list(&file, 0, listed_keys, listed_records, ROOM, &count).answer == KH_DONE ? count : 0;
+}
+
+static bool file_open(void)
+{
+    khs_close(&file);
+    return khs_open(&file, path).answer == KH_DONE;
+}
+
+/* It lends its own tables, so it is a key that is refused. */
+static bool file_refused(size_t count)
+{
+    bool all = true;
+    for (size_t i = 0; i < count; i++) {
+        uint32_t record;
+        all &= khs_lookup(&file, 0, 0, 1, &record).answer == KH_BADKEY;
+    }
+    return all;
+}
+
+const Calls caller_file = {file_clear, file_fill, file_lookups, file_newests, file_list,
+                           file_put,   file_sync, file_open,    file_refused};
+
 /* ---- LMDB ---- */
 
 enum { MAP = 16 << 20 };

@@ -1,5 +1,5 @@
 #![cfg(caller)]
-//! The proved store and LMDB as `caller.c` calls them.
+//! The proved store, the store in a file and LMDB as `caller.c` calls them.
 
 use super::lmdb::Folder;
 use super::subject::Subject;
@@ -22,7 +22,11 @@ struct Calls {
 
 extern "C" {
     static caller_store: Calls;
+    static caller_lean: Calls;
+    static caller_file: Calls;
     static caller_lmdb: Calls;
+    fn caller_file_at(path: *const c_char) -> bool;
+    fn caller_file_close();
     fn caller_lmdb_open(path: *const c_char) -> bool;
     fn caller_lmdb_close();
 }
@@ -30,15 +34,34 @@ extern "C" {
 pub struct FromC {
     name: &'static str,
     calls: &'static Calls,
-    folder: Option<Folder>,
+    /// Where its file is, and what closes it.
+    open: Option<(Folder, unsafe extern "C" fn())>,
 }
 
 impl FromC {
+    pub fn lean() -> FromC {
+        FromC {
+            name: "lean calls",
+            calls: unsafe { &caller_lean },
+            open: None,
+        }
+    }
+
+    pub fn file() -> FromC {
+        let folder = Folder::new("file");
+        assert!(unsafe { caller_file_at(folder.path().as_ptr()) }, "a file");
+        FromC {
+            name: "store in a file",
+            calls: unsafe { &caller_file },
+            open: Some((folder, caller_file_close)),
+        }
+    }
+
     pub fn store() -> FromC {
         FromC {
             name: "proved store",
             calls: unsafe { &caller_store },
-            folder: None,
+            open: None,
         }
     }
 
@@ -48,15 +71,15 @@ impl FromC {
         FromC {
             name: "LMDB",
             calls: unsafe { &caller_lmdb },
-            folder: Some(folder),
+            open: Some((folder, caller_lmdb_close)),
         }
     }
 }
 
 impl Drop for FromC {
     fn drop(&mut self) {
-        if self.folder.is_some() {
-            unsafe { caller_lmdb_close() };
+        if let Some((_, close)) = &self.open {
+            unsafe { close() };
         }
     }
 }

@@ -1,5 +1,5 @@
-//! The time of each call, side by side in one run: the proved store, the second program, a map in memory, LMDB, SQLite;
-//! and the proved store and LMDB once more, called from C.
+//! The time of each call, side by side in one run: the proved store, read by its lean calls and by the others, the second
+//! program, a map in memory, LMDB, SQLite; and the proved store, the store in a file and LMDB, called from C.
 
 mod from_c;
 mod lmdb;
@@ -66,6 +66,8 @@ fn meter(of: u64) -> u64 {
 fn subjects() -> Vec<Box<dyn Subject>> {
     let mut all: Vec<Box<dyn Subject>> = Vec::new();
     #[cfg(store)]
+    all.push(Box::new(stores::Leanly::new()));
+    #[cfg(store)]
     all.push(Box::new(stores::Proven::new()));
     all.push(Box::new(stores::Second::new()));
     all.push(Box::new(map::Map::new()));
@@ -82,7 +84,9 @@ fn subjects() -> Vec<Box<dyn Subject>> {
 fn from_c() -> Vec<Box<dyn Subject>> {
     #[cfg(caller)]
     return vec![
+        Box::new(from_c::FromC::lean()),
         Box::new(from_c::FromC::store()),
+        Box::new(from_c::FromC::file()),
         Box::new(from_c::FromC::lmdb()),
     ];
     #[cfg(not(caller))]

@@ -1,9 +1,11 @@
-//! The proved store and the second program, over tables of the largest size.
+//! The proved store, once read by its lean calls, and the second program, over tables of the largest size.
 
 use super::subject::Subject;
 use second::answer::{DONE, LENGTH, NONE};
 use second::key::key;
 use second::layout::{PAGE, PAGES_MOST};
+#[cfg(store)]
+use second::lean::Lean;
 #[cfg(store)]
 use second::proved::Proved;
 use second::store::Store;
@@ -127,3 +129,5 @@ macro_rules! subject {
 subject!(Second, "second program", Store, Store::fresh, it => it);
 #[cfg(store)]
 subject!(Proven, "proved store", Proved, |n| Proved(Store::fresh(n)), it => it.0);
+#[cfg(store)]
+subject!(Leanly, "lean calls", Lean, |n| Lean(Proved(Store::fresh(n))), it => it.0.0);
