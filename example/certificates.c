@@ -47,6 +47,13 @@ static uint32_t withdraw(uint32_t serial)
     return withdrawn.answer;
 }
 
+static uint32_t deliver(KhItem *items, size_t count)
+{
+    KhChanged delivered = kh_batch(working, BYTES, stable, BYTES, session, items, count);
+    session = delivered.session;
+    return delivered.answer;
+}
+
 static uint32_t sync_store(void)
 {
     KhAnswered synced = kh_sync(working, BYTES, stable, BYTES, session);
@@ -141,10 +148,14 @@ int main(void)
 {
     expect("format", kh_format(working, BYTES, stable, BYTES), KH_DONE);
     expect("open", open_store(), KH_DONE);
-    for (uint32_t serial = 1; serial <= 40; serial++)
-        if (insert(serial, 900 + serial) != KH_DONE)
+    static KhItem forty[40];
+    for (uint32_t i = 0; i < 40; i++)
+        forty[i] = (KhItem){.model = 7, .serial = i + 1, .issue = 1, .record = 901 + i};
+    expect("a delivery of forty meters", deliver(forty, 40), KH_DONE);
+    for (uint32_t i = 0; i < 40; i++)
+        if (forty[i].answer != KH_DONE)
             return 1;
-    expect("40 inserts and a sync", sync_store(), KH_DONE);
+    expect("sync", sync_store(), KH_DONE);
     expect("the 41st, which splits a page", insert(41, 941), KH_DONE);
     expect("the 41st again", insert(41, 1), KH_PRESENT);
 
@@ -166,6 +177,11 @@ int main(void)
     expect("newest of a meter", newest.answer, KH_DONE);
     if (newest.issue != 1 || newest.record != 940)
         return 1;
+    KhItem items[] = {{.model = 7, .serial = 40, .issue = 1, .record = 1},
+                      {.model = 7, .serial = 50, .issue = 1, .record = 950}};
+    expect("a delivery of two meters", deliver(items, 2), KH_DONE);
+    expect("the first, which is there", items[0].answer, KH_PRESENT);
+    expect("the second", items[1].answer, KH_DONE);
     KhAny has = kh_has_any(working, BYTES, stable, BYTES, session, 7, 41);
     expect("has the meter that was not kept any", has.answer, KH_DONE);
     if (has.any != 0)
@@ -173,10 +189,10 @@ int main(void)
     printf("the start screen: %u certificates\n", (unsigned)session.total);
     list_all(session.total);
     write_small_file();
-    if (session.total != 40)
+    if (session.total != 41)
         return 1;
     expect("a recalled certificate withdrawn", withdraw(40), KH_DONE);
     expect("the sync without which a crash may bring it back", sync_store(), KH_DONE);
     expect("lookup of the recalled one", lookup(40).answer, KH_NONE);
-    return session.total == 39 ? 0 : 1;
+    return session.total == 40 ? 0 : 1;
 }

@@ -308,6 +308,15 @@ KhTold khs_withdraw(KhStore *store, uint16_t model, uint32_t serial, uint16_t is
     return walked(withdrawn.answer, withdrawn.mended, withdrawn.reason);
 }
 
+KhTold khs_batch(KhStore *store, KhItem *items, size_t count)
+{
+    if (!store->open)
+        return in_trouble(KHS_CLOSED);
+    KhChanged delivered = kh_batch(TABLES(store), store->session, items, count);
+    store->session = delivered.session;
+    return walked(delivered.answer, delivered.mended, delivered.reason);
+}
+
 KhTold khs_lookup(KhStore *store, uint16_t model, uint32_t serial, uint16_t issue, uint32_t *record)
 {
     *record = 0;

@@ -42,10 +42,10 @@ extern "C" {
  *                          working: every page       is written                                  write"; without it a
  *                                                                                                counter value is given
  *                                                                                                twice
- *   kh_insert, kh_lookup,  working: any page, and    nothing                                     01: "pages reach the
- *   kh_newest, kh_list,    mended ones even if the                                               stable table only" in
- *   kh_has_any,            call is refused                                                       sync, open, at a crash
- *   kh_withdraw,
+ *   kh_insert, kh_batch,   working: any page, and    nothing                                     01: "pages reach the
+ *   kh_withdraw,           mended ones even if the                                               stable table only" in
+ *   kh_lookup, kh_newest,  call is refused                                                       sync, open, at a crash
+ *   kh_has_any, kh_list,
  *   kh_write_file, any
  *   answer
  *   kh_sync, answer 0      stable: page 0 and each   all of these, in any order, before anyone   01: a crash may fall
@@ -190,6 +190,15 @@ typedef struct {
     KhSession session;
 } KhChanged;
 
+/* An item of a batch: a certificate to put in, and a place for its answer. */
+typedef struct {
+    uint16_t model;
+    uint32_t serial;
+    uint16_t issue;
+    uint32_t record;
+    uint32_t answer;
+} KhItem;
+
 typedef struct {
     uint32_t answer;
     uint32_t record;
@@ -233,8 +242,10 @@ typedef struct {
 
 #ifdef __cplusplus
 static_assert(sizeof(KhSession) == KH_SESSION_BYTES, "a session is laid out as the library has it");
+static_assert(sizeof(KhItem) == 20, "an item is laid out as the library has it");
 #else
 _Static_assert(sizeof(KhSession) == KH_SESSION_BYTES, "a session is laid out as the library has it");
+_Static_assert(sizeof(KhItem) == 20, "an item is laid out as the library has it");
 #endif
 
 /* ---- Calls ----------------------------------------------------------------------------------------------------------
@@ -262,6 +273,11 @@ KH_KEEP KhChanged kh_insert(uint8_t *working, size_t working_len, const uint8_t 
  * becomes free. Answers 0, 1, 2, 3, 4. */
 KH_KEEP KhChanged kh_withdraw(uint8_t *working, size_t working_len, const uint8_t *stable, size_t stable_len,
                               KhSession session, uint16_t model, uint32_t serial, uint16_t issue);
+
+/* Puts the certificates of a delivery in, in list order, each as kh_insert would; one that is refused stops none behind
+ * it. With KH_LENGTH no item is touched. Answers 0, 1; each item gets 0, 2, 3, 5, 6, 7. */
+KH_KEEP KhChanged kh_batch(uint8_t *working, size_t working_len, const uint8_t *stable, size_t stable_len,
+                           KhSession session, KhItem *items, size_t items_len);
 
 /* The record of a certificate. Answers 0, 1, 2, 3, 4. */
 KH_KEEP KhLooked kh_lookup(uint8_t *working, size_t working_len, const uint8_t *stable, size_t stable_len,

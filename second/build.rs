@@ -12,6 +12,7 @@ const NAMES: &[&str] = &[
     "kh_open",
     "kh_insert",
     "kh_withdraw",
+    "kh_batch",
     "kh_lookup",
     "kh_newest",
     "kh_has_any",

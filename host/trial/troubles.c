@@ -122,8 +122,11 @@ static void closed(void)
     uint16_t issue;
     size_t count;
     bool any;
+    KhItem item = {.model = 7, .serial = 1, .issue = 1, .record = 1, .answer = 9};
     troubled(khs_insert(&store, 7, 1, 1, 1), KHS_CLOSED, "insert after close");
     troubled(khs_withdraw(&store, 7, 1, 1), KHS_CLOSED, "withdraw after close");
+    troubled(khs_batch(&store, &item, 1), KHS_CLOSED, "batch after close");
+    must(item.answer == 9, "a closed store touches no item");
     troubled(khs_lookup(&store, 7, 1, 1, &record), KHS_CLOSED, "lookup after close");
     troubled(khs_newest(&store, 7, 1, &issue, &record), KHS_CLOSED, "newest after close");
     troubled(khs_has_any(&store, 7, 1, &any), KHS_CLOSED, "has-any after close");

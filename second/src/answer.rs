@@ -31,6 +31,7 @@ pub const ANSWERS: &[(&str, &[usize])] = &[
     ("open", &[0, 1, 3, 8]),
     ("insert", &[0, 1, 2, 3, 5, 6, 7]),
     ("withdraw", &[0, 1, 2, 3, 4]),
+    ("batch", &[0, 1]),
     ("lookup", &[0, 1, 2, 3, 4]),
     ("newest", &[0, 1, 2, 3, 4]),
     ("has_any", &[0, 1, 2, 3]),
@@ -42,6 +43,7 @@ pub const ANSWERS: &[(&str, &[usize])] = &[
 /// Those that walk, and so tell of their mends.
 pub const WALKING: &[&str] = &[
     "insert",
+    "batch",
     "withdraw",
     "lookup",
     "newest",

@@ -54,6 +54,8 @@ pub enum Rule {
     FittingLeft,
     /// Places in the exchange file are counted from 0.
     PlacesFromZero,
+    /// An item after one that answered 6 is still tried.
+    BatchGoesOn,
 }
 
 /// Those on which demand 3 rests.
@@ -87,6 +89,7 @@ pub const LATER: &[Rule] = &[
     Rule::EmptyLeafStays,
     Rule::FittingLeft,
     Rule::PlacesFromZero,
+    Rule::BatchGoesOn,
 ];
 
 /// Whether this run breaks the rule.

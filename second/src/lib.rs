@@ -15,6 +15,7 @@ pub mod tree;
 pub mod walk;
 pub mod way;
 
+pub mod batch;
 mod crash;
 mod file;
 mod format;
@@ -43,6 +44,7 @@ pub mod rng;
 pub mod store;
 pub mod without;
 
+pub use batch::{batch, Item};
 pub use crash::crash;
 pub use file::{file_of, told_by, write_file, Written};
 pub use format::format;

@@ -1,5 +1,6 @@
 //! The proved store: a store whose calls are those that its library exports to C.
 
+use crate::batch::Item;
 use crate::key::parts;
 use crate::report::Report;
 use crate::session::Session;
@@ -68,6 +69,8 @@ extern "C" {
                  model: u16, serial: u32, issue: u16, record: u32) -> Changed;
     fn kh_withdraw(working: *mut u8, w: usize, stable: *const u8, s: usize, session: Session,
                    model: u16, serial: u32, issue: u16) -> Changed;
+    fn kh_batch(working: *mut u8, w: usize, stable: *const u8, s: usize, session: Session,
+                items: *mut Item, i: usize) -> Changed;
     fn kh_lookup(working: *mut u8, w: usize, stable: *const u8, s: usize, session: Session,
                  model: u16, serial: u32, issue: u16) -> Looked;
     fn kh_newest(working: *mut u8, w: usize, stable: *const u8, s: usize, session: Session,
@@ -128,6 +131,16 @@ impl Proved {
         let (stable, s) = lend!(self.0.stable);
         let session = self.0.session;
         let left = unsafe { kh_withdraw(working, w, stable, s, session, model, serial, issue) };
+        self.0.session = left.session;
+        self.0.report = left.report;
+        left.answer
+    }
+
+    pub fn batch(&mut self, items: &mut [Item]) -> u32 {
+        let (working, w) = lend!(mut self.0.working);
+        let (stable, s) = lend!(self.0.stable);
+        let (items, i) = lend!(mut items);
+        let left = unsafe { kh_batch(working, w, stable, s, self.0.session, items, i) };
         self.0.session = left.session;
         self.0.report = left.report;
         left.answer

@@ -34,6 +34,14 @@ impl Report {
         }
     }
 
+    /// What a later part of the same call told comes to it.
+    pub fn join(&mut self, later: Report) {
+        self.mended = self.mended.wrapping_add(later.mended);
+        if self.reason == NO_REASON {
+            self.reason = later.reason;
+        }
+    }
+
     /// The report beside this answer. Other numbers are 0 beside a refusal; mends stand, so the report does too.
     pub fn beside(self, answer: u32) -> Report {
         if answer != DONE && broken(Rule::RefusedReports) {
@@ -56,6 +64,12 @@ impl Mends {
     pub fn add(&mut self, page: u16, reason: Reason) {
         self.report.add(reason);
         self.pages |= 1 << page;
+    }
+
+    /// Those of a further call.
+    pub fn join(&mut self, more: Mends) {
+        self.report.join(more.report);
+        self.pages |= more.pages;
     }
 
     /// The mends beside this answer.

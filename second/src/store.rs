@@ -6,7 +6,8 @@ use crate::page::PageSet;
 use crate::report::{Mends, Report};
 use crate::session::Session;
 use crate::{
-    crash, format, has_any, insert, list, lookup, newest, open, sync, withdraw, write_file,
+    batch, crash, format, has_any, insert, list, lookup, newest, open, sync, withdraw, write_file,
+    Item,
 };
 
 #[derive(Clone, Debug)]
@@ -83,6 +84,14 @@ impl Store {
         let (model, serial, issue) = parts(key);
         let working = &mut self.working;
         let left = withdraw(working, &self.stable, self.session, model, serial, issue);
+        self.session = left.session;
+        self.note(left.mends);
+        left.answer
+    }
+
+    /// The items' answers are filled in.
+    pub fn batch(&mut self, items: &mut [Item]) -> u32 {
+        let left = batch(&mut self.working, &self.stable, self.session, items);
         self.session = left.session;
         self.note(left.mends);
         left.answer

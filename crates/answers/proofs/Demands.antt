@@ -6,6 +6,7 @@ use Rattle.rules.specs.Format.{format}
 use Rattle.rules.specs.Open.{opening}
 use Rattle.rules.specs.Insert.{insert}
 use Rattle.rules.specs.Withdraw.{withdraw}
+use Rattle.rules.specs.Batch.{itemNo, batchedNo, batch}
 use Rattle.rules.specs.Lookup.{lookup}
 use Rattle.rules.specs.Newest.{newest}
 use Rattle.rules.specs.HasAny.{hasAny}
@@ -20,12 +21,14 @@ use Rattle.rules.specs.declared.Listed.{Listed}
 use Rattle.rules.specs.declared.Synced.{Synced}
 use Rattle.rules.proofs.demand1.Refusals as rules
 use Rattle.rules.proofs.demand1.Withdrawals.{withdraw-stable}
-use Rattle.answers.specs.Causes.{formatCauses, openCauses, insertCauses, withdrawCauses, lookupCauses, newestCauses, anyCauses, listCauses, syncCauses}
+use Rattle.rules.proofs.demand1.Batches.{batch-stable}
+use Rattle.answers.specs.Causes.{formatCauses, openCauses, insertCauses, withdrawCauses, batchCauses, lookupCauses, newestCauses, anyCauses, listCauses, syncCauses}
 use Rattle.answers.specs.Demand1.{Refused, Demand1}
 use Rattle.answers.proofs.Exactly.{given-number}
 use Rattle.answers.proofs.Ends.{format-given, open-given, sync-given}
 use Rattle.answers.proofs.Looks.{lookup-given}
 use Rattle.answers.proofs.Inserts.{insert-given}
+use Rattle.answers.proofs.Batches.{batch-given, item-given, batch-unchanged}
 use Rattle.answers.proofs.Ranges.{newest-given, any-given, list-given}
 use Rattle.answers.proofs.Refused.{insert-mended, insert-unwalked, insert-stands, lookup-mended, lookup-stands}
 use Rattle.answers.proofs.Withdraws.{withdraw-given, withdraw-mended, withdraw-unwalked, withdraw-stands}
@@ -104,6 +107,11 @@ demand1 = record {
   withdraw-answers = λ w t s model serial issue.
       given-number (withdrawCauses w t s model serial issue) (withdrawnNo (withdraw w t s model serial issue .answer))
       (withdraw-given w t s model serial issue);
+  batch-answers = λ w t s xs.
+      given-number (batchCauses w t s) (batchedNo (batch w t s xs .left .answer)) (batch-given w t s xs);
+  item-answers = λ t m x.
+      given-number (insertCauses (m .working) t (m .session) (x .model) (x .serial) (x .issue)) (itemNo t m x)
+      (item-given t m x);
   lookup-answers = λ w t s model serial issue.
       given-number (lookupCauses w t s model serial issue) (lookedNo (lookup w t s model serial issue .answer))
       (lookup-given w t s model serial issue);
@@ -121,6 +129,7 @@ demand1 = record {
   withdraw-refused = withdraw-mended;
   insert-unwalked = insert-unwalked;
   withdraw-unwalked = withdraw-unwalked;
+  batch-refused = batch-unchanged;
   lookup-mends = lookup-mended;
   newest-mends = newest-mended;
   any-mends = any-mended;
@@ -145,4 +154,5 @@ demand1 = record {
   format-stable = λ w s h. rules.format-refused w s (not-formatted (format w s .answer) h);
   insert-stable = rules.insert-stable;
   withdraw-stable = withdraw-stable;
+  batch-stable = batch-stable;
 }

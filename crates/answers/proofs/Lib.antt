@@ -11,6 +11,7 @@ pub mod Tells
 pub mod Ends
 pub mod Looks
 pub mod Inserts
+pub mod Batches
 pub mod Ranges
 pub mod Walks
 pub mod Refused

@@ -109,6 +109,10 @@ insertCauses w t s model serial issue =
     ∷ (7 when Full s (entered s k w))
     ∷ []
 
+-- of the batch itself; each of its items answers as an insert does
+abbrev pub batchCauses : List ℕ → List ℕ → Session → List Cause
+batchCauses w t s = (1 when BadLengths s w t) ∷ []
+
 abbrev pub lookupCauses : List ℕ → List ℕ → Session → ℕ → ℕ → ℕ → List Cause
 lookupCauses w t s model serial issue =
     let k = keyOf model serial issue in

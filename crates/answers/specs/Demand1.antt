@@ -13,12 +13,14 @@ use Rattle.rules.specs.Format.{format}
 use Rattle.rules.specs.Open.{opening}
 use Rattle.rules.specs.Insert.{insert}
 use Rattle.rules.specs.Withdraw.{withdraw}
+use Rattle.rules.specs.Batch.{Between, itemNo, BatchLeft, batchedNo, batch}
 use Rattle.rules.specs.Lookup.{lookup}
 use Rattle.rules.specs.Newest.{newest, meter}
 use Rattle.rules.specs.HasAny.{hasAny, firstOf}
 use Rattle.rules.specs.List.{list, upFrom}
 use Rattle.rules.specs.Sync.{sync}
 use Rattle.rules.specs.declared.Session.{Session}
+use Rattle.rules.specs.declared.Item.{Item}
 use Rattle.rules.specs.declared.Asked.{Asked}
 use Rattle.rules.specs.declared.Looked.{Looked}
 use Rattle.rules.specs.declared.Newest.{Newest}
@@ -50,6 +52,13 @@ pub record RangeMended (a : Asked) (w t : List ℕ) (s : Session) (w′ t′ : L
   pub stable : t′ ≡ t
   pub session : s′ ≡ s
 
+-- no byte and no item changed, and the session is as it came
+pub record BatchUnchanged (w t : List ℕ) (s : Session) (xs : List Item) (r : BatchLeft) : Type 0 where
+  pub working : r .working ≡ w
+  pub stable : r .stable ≡ t
+  pub session : r .session ≡ s
+  pub items : r .items ≡ xs
+
 -- ── The demand ──────────────────────────────────────────────────────────────────────────────────────────────────
 
 pub record Demand1 : Type 0 where
@@ -60,6 +69,9 @@ pub record Demand1 : Type 0 where
       → Among (insertedNo (insert w t s model serial issue x .answer)) (0 ∷ 1 ∷ 2 ∷ 3 ∷ 5 ∷ 6 ∷ 7 ∷ [])
   pub withdraw-answers : (w t : List ℕ) (s : Session) (model serial issue : ℕ)
       → Among (withdrawnNo (withdraw w t s model serial issue .answer)) (0 ∷ 1 ∷ 2 ∷ 3 ∷ 4 ∷ [])
+  pub batch-answers : (w t : List ℕ) (s : Session) (xs : List Item)
+      → Among (batchedNo (batch w t s xs .left .answer)) (0 ∷ 1 ∷ [])
+  pub item-answers : (t : List ℕ) (m : Between) (x : Item) → Among (itemNo t m x) (0 ∷ 1 ∷ 2 ∷ 3 ∷ 5 ∷ 6 ∷ 7 ∷ [])
   pub lookup-answers : (w t : List ℕ) (s : Session) (model serial issue : ℕ)
       → Among (lookedNo (lookup w t s model serial issue .answer)) (0 ∷ 1 ∷ 2 ∷ 3 ∷ 4 ∷ [])
   pub newest-answers : (w t : List ℕ) (s : Session) (model serial : ℕ)
@@ -81,6 +93,9 @@ pub record Demand1 : Type 0 where
       → Unchanged w t s (insert w t s model serial issue x)
   pub withdraw-unwalked : (w t : List ℕ) (s : Session) (model serial issue : ℕ) → BeforeWalk w t s model serial issue
       → Unchanged w t s (withdraw w t s model serial issue)
+  -- a refused batch changes nothing
+  pub batch-refused : (w t : List ℕ) (s : Session) (xs : List Item) → Refused (batchedNo (batch w t s xs .left .answer))
+      → BatchUnchanged w t s xs (batch w t s xs .left)
   -- a call that reads changes no more, whatever it answers
   pub lookup-mends : (w t : List ℕ) (s : Session) (model serial issue : ℕ)
       → WalkMended (keyOf model serial issue) w t s (lookup w t s model serial issue)
@@ -131,3 +146,4 @@ pub record Demand1 : Type 0 where
       → insert w t s model serial issue x .stable ≡ t
   pub withdraw-stable : (w t : List ℕ) (s : Session) (model serial issue : ℕ)
       → withdraw w t s model serial issue .stable ≡ t
+  pub batch-stable : (w t : List ℕ) (s : Session) (xs : List Item) → batch w t s xs .left .stable ≡ t

@@ -15,18 +15,20 @@ use Rattle.rules.specs.Format.{format}
 use Rattle.rules.specs.Open.{opening}
 use Rattle.rules.specs.Insert.{insert}
 use Rattle.rules.specs.Withdraw.{withdraw}
+use Rattle.rules.specs.Batch.{Between, itemNo, batchedNo, batch}
 use Rattle.rules.specs.Lookup.{lookup}
 use Rattle.rules.specs.Newest.{newest, newestIn, meter}
 use Rattle.rules.specs.HasAny.{hasAny, anyIn, firstOf}
 use Rattle.rules.specs.List.{list, upFrom}
 use Rattle.rules.specs.Sync.{sync}
 use Rattle.rules.specs.declared.Session.{Session}
+use Rattle.rules.specs.declared.Item.{Item}
 use Rattle.rules.specs.declared.Looked.{Looked}
 use Rattle.rules.specs.declared.Newest.{Newest}
 use Rattle.rules.specs.declared.Any.{Any}
 use Rattle.rules.specs.declared.Listed.{Listed}
 use Rattle.answers.specs.Given.{Given, numbersIn}
-use Rattle.answers.specs.Causes.{under, formatCauses, openCauses, insertCauses, withdrawCauses, lookupCauses, newestCauses, anyCauses, listCauses, syncCauses}
+use Rattle.answers.specs.Causes.{under, formatCauses, openCauses, insertCauses, withdrawCauses, batchCauses, lookupCauses, newestCauses, anyCauses, listCauses, syncCauses}
 
 -- for any page bytes, length, session and key
 pub record When : Type 0 where
@@ -51,6 +53,10 @@ pub record When : Type 0 where
       → (insertedNo (insert w t s model serial issue x .answer) ≡ k) ↔ Given (insertCauses w t s model serial issue) k
   pub withdraw-when : (w t : List ℕ) (s : Session) (model serial issue k : ℕ)
       → (withdrawnNo (withdraw w t s model serial issue .answer) ≡ k) ↔ Given (withdrawCauses w t s model serial issue) k
+  pub batch-when : (w t : List ℕ) (s : Session) (xs : List Item) (k : ℕ)
+      → (batchedNo (batch w t s xs .left .answer) ≡ k) ↔ Given (batchCauses w t s) k
+  pub item-when : (t : List ℕ) (m : Between) (x : Item) (k : ℕ)
+      → (itemNo t m x ≡ k) ↔ Given (insertCauses (m .working) t (m .session) (x .model) (x .serial) (x .issue)) k
   pub lookup-when : (w t : List ℕ) (s : Session) (model serial issue k : ℕ)
       → (lookedNo (lookup w t s model serial issue .answer) ≡ k) ↔ Given (lookupCauses w t s model serial issue) k
   pub newest-when : (w t : List ℕ) (s : Session) (model serial k : ℕ)

@@ -4,12 +4,15 @@ use Prim.Native.Nat.{ℕ}
 use mathlib.Core.List.{List}
 use Rattle.rules.specs.Report.{Reported, reasonNo}
 use Rattle.rules.specs.Call.{Left, formattedNo, insertedNo, withdrawnNo, lookedNo, lookedRecord, newestNo, newestIssue, newestRecord, anyNo, anyYes, listedNo, listedCount}
+use Rattle.rules.specs.Batch.{BatchLeft, batchedNo}
 use Rattle.rules.specs.Format.{Formatting}
 use Rattle.rules.specs.List.{ListLeft}
 use Rattle.rules.specs.declared.Session.{Session}
 use Rattle.rules.specs.declared.Report.{Report}
 use Rattle.rules.specs.declared.Inserted.{Inserted}
 use Rattle.rules.specs.declared.Withdrawn.{Withdrawn}
+use Rattle.rules.specs.declared.Item.{Item}
+use Rattle.rules.specs.declared.Batched.{Batched}
 use Rattle.rules.specs.declared.Looked.{Looked}
 use Rattle.rules.specs.declared.Newest.{Newest}
 use Rattle.rules.specs.declared.Any.{Any}
@@ -39,6 +42,16 @@ pub record Formats : Type 0 where
 
 abbrev pub formatting : ℕ → List ℕ → Formats
 formatting answer stable = record { answer = answer; stable = stable }
+
+-- a batch leaves its items too
+pub record Batches : Type 0 where
+  pub back : KhChanged
+  pub working : List ℕ
+  pub stable : List ℕ
+  pub items : List Item
+
+abbrev pub batching : KhChanged → List ℕ → List ℕ → List Item → Batches
+batching back working stable items = record { back = back; working = working; stable = stable; items = items }
 
 -- a list leaves both lists too
 pub record Lists : Type 0 where
@@ -75,6 +88,14 @@ answeredBack answer session = record { answer = answer; session = session }
 abbrev pub changedBack : ℕ → Report → Session → KhChanged
 changedBack answer x session = record {
   answer = answer;
+  mended = x .mended;
+  reason = reasonNo (x .reason);
+  session = session;
+}
+
+abbrev pub batchedBack : Batched → Report → Session → KhChanged
+batchedBack a x session = record {
+  answer = batchedNo a;
   mended = x .mended;
   reason = reasonNo (x .reason);
   session = session;
@@ -139,6 +160,10 @@ inserted r = leaves (changedBack (insertedNo (r .left .answer)) (r .report) (r .
 
 abbrev pub withdrawn : Reported (Left Withdrawn) → Leaves KhChanged
 withdrawn r = leaves (changedBack (withdrawnNo (r .left .answer)) (r .report) (r .left .session)) (r .left .working) (r .left .stable)
+
+abbrev pub batched : Reported BatchLeft → Batches
+batched r =
+    batching (batchedBack (r .left .answer) (r .report) (r .left .session)) (r .left .working) (r .left .stable) (r .left .items)
 
 abbrev pub looked : Reported (Left Looked) → Leaves KhLooked
 looked r = leaves (lookedBack (r .left .answer) (r .report) (r .left .session)) (r .left .working) (r .left .stable)

@@ -6,19 +6,26 @@
 //
 // Each contract is one equation: what is handed back and every byte lent are the rule's, with its answer as a number.
 // Reading calls hand the session back from where it was handed in, which spares three copies of it: the rules say that
-// it comes back as it came. `lean` has them once more without it, by its numbers.
+// it comes back as it came. `lean` has them once more without it, by its numbers. `kh_insert` calls `insert` itself, which promises what `store`'s insert does: the
+// batch calls it too, so it is a function of its own, and through `store` a session would be copied once more.
 //
-// Below stand `store`, `numbers`, `write` for the numbers of its answers, and `rules`.
+// `kh_batch` is lent a slice of structs and so is proved by a walk of its code by hand: it hands its slices on and leaves the numbers
+// to `delivered`, which is covered.
+//
+// Below stand `store`, `insert`, `numbers`, `write` for the numbers of its answers, and `rules`.
 mod lean;
 
 ghost use mathlib.Core.Path.{_≡_};
 ghost use Rattle.rules.specs.Call.{openedNo, insertedNo, syncedNo};
+ghost use Rattle.rules.specs.Batch;
 ghost use Rattle.rules.specs.Format;
 ghost use Rattle.rules.specs.Open;
 ghost use Rattle.rules.specs.Reports.{insertReported, withdrawReported, lookupReported, newestReported, hasAnyReported, listReported};
 ghost use Rattle.rules.specs.Sync;
 ghost use Rattle.write.specs.WriteFile.{writeReported};
 ghost use Rattle.exports.specs.Leaves as C;
+use rules::Batching;
+use rules::Item;
 use rules::Session;
 
 #[repr(C)]
@@ -116,7 +123,7 @@ pub extern "C" fn kh_insert(
     ensures { λ r. ⌜ C.leaves r (now (working .exit)) (now (stable .entry))
         ≡ C.inserted (insertReported (now (working .entry)) (now (stable .entry)) session model serial issue value) ⌝ }
 {
-    let left = store::insert(working, stable, session, model, serial, issue, value);
+    let left = insert::insert(working, stable, session, model, serial, issue, value);
     let answer = left.answer;
     let report = left.report;
     let reason = report.reason;
@@ -127,6 +134,36 @@ pub extern "C" fn kh_insert(
         reason: numbers::reason(reason),
         session,
     }
+}
+
+// What a batch handed back, for C.
+fn delivered(left: Batching) -> KhChanged
+    ensures { λ r. ⌜ r ≡ C.batchedBack (left .answer) (left .report) (left .session) ⌝ }
+{
+    let answer = left.answer;
+    let report = left.report;
+    let reason = report.reason;
+    let session = left.session;
+    KhChanged {
+        answer: numbers::batched(answer),
+        mended: report.mended,
+        reason: numbers::reason(reason),
+        session,
+    }
+}
+
+#[no_mangle]
+pub extern "C" fn kh_batch(
+    working: &mut [u8],
+    stable: &[u8],
+    session: Session,
+    items: &mut [Item],
+) -> KhChanged
+    ensures { λ r. ⌜ C.batching r (now (working .exit)) (now (stable .entry)) (now (items .exit))
+        ≡ C.batched (Batch.batch (now (working .entry)) (now (stable .entry)) session (now (items .entry))) ⌝ }
+{
+    let left = store::batch(working, stable, session, items);
+    delivered(left)
 }
 
 #[no_mangle]

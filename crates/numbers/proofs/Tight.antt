@@ -15,6 +15,9 @@ inserted-tight κs a pre z z′ l l′ p q = (p ∙ sym q, refl)
 pub withdrawn-tight : Tight this.withdrawn.Kinds.ps this.withdrawn.Kinds.r this.withdrawn.Reads.Pre this.withdrawn.Reads.Post
 withdrawn-tight κs a pre z z′ l l′ p q = (p ∙ sym q, refl)
 
+pub batched-tight : Tight this.batched.Kinds.ps this.batched.Kinds.r this.batched.Reads.Pre this.batched.Reads.Post
+batched-tight κs a pre z z′ l l′ p q = (p ∙ sym q, refl)
+
 pub looked-tight : Tight this.looked.Kinds.ps this.looked.Kinds.r this.looked.Reads.Pre this.looked.Reads.Post
 looked-tight κs a pre z z′ l l′ p q = (p ∙ sym q, refl)
 

@@ -5,8 +5,10 @@
 // Below stands `rules`.
 ghost use mathlib.Core.Path.{_≡_};
 ghost use Rattle.rules.specs.Report.{reasonNo};
+ghost use Rattle.rules.specs.Batch.{batchedNo};
 ghost use Rattle.rules.specs.Call.{formattedNo, openedNo, insertedNo, withdrawnNo, lookedNo, lookedRecord, newestNo, newestIssue, newestRecord, anyNo, anyYes, listedNo, listedCount, syncedNo};
 use rules::Any;
+use rules::Batched;
 use rules::Formatted;
 use rules::Inserted;
 use rules::Listed;
@@ -60,6 +62,15 @@ pub fn withdrawn(answer: Withdrawn) -> u32
         Withdrawn::BadKey => 2,
         Withdrawn::Damaged => 3,
         Withdrawn::Missing => 4,
+    }
+}
+
+pub fn batched(answer: Batched) -> u32
+    ensures { λ r. ⌜ r ≡ batchedNo answer ⌝ }
+{
+    match answer {
+        Batched::Done => 0,
+        Batched::Length => 1,
     }
 }
 

@@ -19,6 +19,8 @@ pub mod Splitting
 pub mod Marking
 pub mod Counts
 pub mod Changes
+-- and between the items of a batch
+pub mod Delivered
 -- and that its key is found then: the way of the key after the splits
 pub mod Chains
 pub mod SplitChain

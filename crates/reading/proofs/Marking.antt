@@ -15,7 +15,7 @@ use Rattle.rules.specs.Marks.{taken, freePages}
 use Rattle.rules.specs.Insert.{full, newPages, heirs, retire, Making, making, grow, halve, split, insertDone}
 use Rattle.rules.specs.declared.Session.{Session}
 use Rattle.rules.proofs.entries.Tests.{mem-nil, mem-cases}
-use Rattle.rules.proofs.demand3.steps.Retire.{retire-n}
+use Rattle.rules.proofs.demand3.steps.Retire.{retire-n, retire-c}
 use Rattle.rules.proofs.bytes.Marked.{free-taken-same, free-taken-other, free-freed-other, waiting-waits-other}
 use Rattle.rules.proofs.demand3.steps.SplitWay.{split-one, split-more, split-none}
 use Rattle.apply.proofs.Going.{mem-rest, mem-not}
@@ -204,27 +204,42 @@ module _ (c k : ℕ) (t : List ℕ) (m : Session) (i : ℕ) where
           subst Goal (sym (split-more c k s u above (a ∷ (b ∷ ns)) (making t m 0) f))
           (below a b ns (omega (arith, e, pages-below s (u ∷ above) f)) ih (mem-cases i a (b ∷ ns) r))
 
--- ── The session keeps its number of pages ───────────────────────────────────────────────────────────────────────
+-- ── The session keeps its number of pages and its counter ───────────────────────────────────────────────────────
 
-halve-n : (c k : ℕ) (s : Step) (a b : ℕ) (M : Making) → halve c k s a b M .session .n ≡ M .session .n
-unfolding halve
-halve-n c k s a b M = retire-n c s _
+module _ (f : Session → ℕ) (by-taken : (i : ℕ) (m : Session) → f (taken i m) ≡ f m)
+    (by-retire : (c : ℕ) (s : Step) (m : Session) → f (retire c s m) ≡ f m) where
+  halve-keeps : (c k : ℕ) (s : Step) (a b : ℕ) (M : Making) → f (halve c k s a b M .session) ≡ f (M .session)
+  unfolding halve
+  halve-keeps c k s a b M = by-retire c s _ ∙ (by-taken b _ ∙ by-taken a (M .session))
+
+  split-keeps : (c k : ℕ) (way : List Step) (new : List ℕ) (M : Making) → f (split c k way new M .session) ≡ f (M .session)
+  unfolding split grow
+  split-keeps c k [] new M = refl
+  split-keeps c k (s ∷ []) new M = go (full (s .page .view)) refl
+    where
+      go : (b : Bool) → full (s .page .view) ≡ b → f (split c k (s ∷ []) new M .session) ≡ f (M .session)
+      go true q =
+          rw (q, split)
+          (halve-keeps c k s (getD new 0 0) (getD new 1 0) (grow c s (getD new 2 0) M) ∙ by-taken (getD new 2 0) (M .session))
+      go false q = rw (q, split)
+  split-keeps c k (s ∷ (u ∷ above)) new M = go (full (s .page .view)) refl (split-keeps c k (u ∷ above) (drop 2 new) M)
+    where
+      go : (b : Bool) → full (s .page .view) ≡ b → f (split c k (u ∷ above) (drop 2 new) M .session) ≡ f (M .session)
+          → f (split c k (s ∷ (u ∷ above)) new M .session) ≡ f (M .session)
+      go true q ih =
+          rw (q, split) (halve-keeps c k s (getD new 0 0) (getD new 1 0) (split c k (u ∷ above) (drop 2 new) M) ∙ ih)
+      go false q ih = rw (q, split)
 
 split-n : (c k : ℕ) (way : List Step) (new : List ℕ) (M : Making) → split c k way new M .session .n ≡ M .session .n
-unfolding split grow
-split-n c k [] new M = refl
-split-n c k (s ∷ []) new M = go (full (s .page .view)) refl
-  where
-    go : (b : Bool) → full (s .page .view) ≡ b → split c k (s ∷ []) new M .session .n ≡ M .session .n
-    go true f = rw (f, split) (halve-n c k s (getD new 0 0) (getD new 1 0) (grow c s (getD new 2 0) M))
-    go false f = rw (f, split)
-split-n c k (s ∷ (u ∷ above)) new M = go (full (s .page .view)) refl (split-n c k (u ∷ above) (drop 2 new) M)
-  where
-    go : (b : Bool) → full (s .page .view) ≡ b → split c k (u ∷ above) (drop 2 new) M .session .n ≡ M .session .n
-        → split c k (s ∷ (u ∷ above)) new M .session .n ≡ M .session .n
-    go true f ih = rw (f, split) (halve-n c k s (getD new 0 0) (getD new 1 0) (split c k (u ∷ above) (drop 2 new) M) ∙ ih)
-    go false f ih = rw (f, split)
+split-n = split-keeps (λ s. s .n) (λ i m. refl) (λ c s m. retire-n c s m)
+
+split-c : (c k : ℕ) (way : List Step) (new : List ℕ) (M : Making) → split c k way new M .session .c ≡ M .session .c
+split-c = split-keeps (λ s. s .c) (λ i m. refl) (λ c s m. retire-c c s m)
 
 pub done-n : (k x : ℕ) (s : Session) (way : List Step) (w t : List ℕ) → insertDone k x s way w t .session .n ≡ s .n
 unfolding insertDone
 done-n k x s way w t = split-n (s .c) k way (freePages s (numbers way)) (making w s 0)
+
+pub done-c : (k x : ℕ) (s : Session) (way : List Step) (w t : List ℕ) → insertDone k x s way w t .session .c ≡ s .c
+unfolding insertDone
+done-c k x s way w t = split-c (s .c) k way (freePages s (numbers way)) (making w s 0)

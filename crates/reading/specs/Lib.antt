@@ -4,6 +4,7 @@ pub mod Leaving
 pub mod Reporting
 pub mod Building
 pub mod Inserting
+pub mod Delivering
 pub mod Agreeing
 pub mod Withdrawing
 pub mod Provisional

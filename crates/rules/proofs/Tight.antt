@@ -29,3 +29,6 @@ report-nothing-tight κs a pre z z′ l l′ p q = (p ∙ sym q, refl)
 
 pub report-add-tight : Tight this.Report.add.Kinds.ps this.Report.add.Kinds.r this.Report.add.Reads.Pre this.Report.add.Reads.Post
 report-add-tight κs a pre z z′ l l′ p q = (p ∙ sym q, refl)
+
+pub report-join-tight : Tight this.Report.join.Kinds.ps this.Report.join.Kinds.r this.Report.join.Reads.Pre this.Report.join.Reads.Post
+report-join-tight κs a pre z z′ l l′ p q = (p ∙ sym q, refl)

@@ -11,3 +11,4 @@ pub mod LikeLookup
 pub mod CallsInTurn
 pub mod FirstLost
 pub mod Counted
+pub mod Batches

@@ -26,6 +26,7 @@ pub mod Newest
 pub mod HasAny
 pub mod List
 pub mod Reports
+pub mod Batch
 pub mod Sync
 pub mod Crash
 pub mod History

@@ -1,7 +1,7 @@
 // The rules of the store: document 01 as definitions, and the types they speak of.
 //
 // specs/ is what a reader has to believe. It says in short definitions that compute what every page byte means,
-// when a page is sound, what mending makes, which pages a call enters, and what each of the eight calls answers and
+// when a page is sound, what mending makes, which pages a call enters, and what each of the calls answers and
 // leaves. proofs/ holds laws about those definitions, the bench cases and the theorem about crashes.
 // This file declares the numbers of document 01, a place, what a walk is asked for, the session with its moves, and one
 // enum of answers for each call.
@@ -12,6 +12,7 @@ ghost use mathlib.Core.Path.{_≡_};
 ghost use Prim.Native.Nat.{_<_};
 ghost use Rattle.rules.specs.Place.{isNone};
 ghost use Rattle.rules.specs.Report.{nothing, adds};
+ghost use Rattle.rules.specs.Batch.{joins};
 ghost use Rattle.rules.specs.Marks.{taken, freed, waits, raised, counted, uncounted};
 
 // The numbers of document 01 that code needs, named here once. specs/ has them too, for the rules: sizes in Layout, where
@@ -175,6 +176,25 @@ impl Report {
             reason: first,
         }
     }
+
+    // Another call's report follows this one.
+    pub fn join(self, next: Report) -> Self
+        ensures { λ r. ⌜ r ≡ joins self next ⌝ }
+    {
+        let mended = wrapping_add_u32(self.mended, next.mended);
+        let first = self.reason;
+        let second = next.reason;
+        if first.is_none() {
+            return Report {
+                mended,
+                reason: second,
+            };
+        }
+        Report {
+            mended,
+            reason: first,
+        }
+    }
 }
 
 // What is handed in and handed back with each call: the number of pages, the counter, the number of certificates, and for
@@ -242,6 +262,16 @@ impl Session {
     }
 }
 
+// An item of a batch: a certificate to be inserted, and a place for its answer's number. It is laid out as C lays it out.
+#[repr(C)]
+pub struct Item {
+    pub model: u16,
+    pub serial: u32,
+    pub issue: u16,
+    pub value: u32,
+    pub answer: u32,
+}
+
 // One enum for each call: the answers that it can give, with the numbers beside them.
 
 pub enum Formatted {
@@ -272,6 +302,11 @@ pub enum Withdrawn {
     BadKey,
     Damaged,
     Missing,
+}
+
+pub enum Batched {
+    Done,
+    Length,
 }
 
 pub enum Looked {
@@ -326,6 +361,12 @@ pub struct Inserting {
 
 pub struct Withdrawing {
     pub answer: Withdrawn,
+    pub report: Report,
+    pub session: Session,
+}
+
+pub struct Batching {
+    pub answer: Batched,
     pub report: Report,
     pub session: Session,
 }

@@ -8,6 +8,7 @@
 //     format    once: stable becomes an empty store
 //     open      at the start and after a crash: working becomes a copy of stable, and a session is handed out
 //     insert    puts a certificate in; from the next sync on it outlasts every crash
+//     batch     inserts a delivery's certificates in list order, and answers each
 //     withdraw  takes a certificate out; a crash before the next sync may bring it back
 //     lookup    the record of a certificate
 //     newest    the largest issue of a meter, and its record
@@ -43,6 +44,7 @@
 //
 // Below stand the calls, a crate each.
 ghost use mathlib.Core.Path.{_≡_};
+ghost use Rattle.rules.specs.Batch;
 ghost use Rattle.rules.specs.Format;
 ghost use Rattle.rules.specs.Open;
 ghost use Rattle.rules.specs.Reports.{insertReported, withdrawReported, lookupReported, newestReported, hasAnyReported, listReported};
@@ -52,6 +54,7 @@ ghost use Rattle.format.specs.Formats;
 ghost use Rattle.opening.specs.Opens;
 ghost use Rattle.insert.specs.Inserts;
 ghost use Rattle.withdraw.specs.Withdraws;
+ghost use Rattle.batch.specs.Turns;
 ghost use Rattle.lookup.specs.Looks;
 ghost use Rattle.newest.specs.Newests;
 ghost use Rattle.any.specs.Anys;
@@ -60,8 +63,10 @@ ghost use Rattle.write.specs.WriteFile.{writeReported};
 ghost use Rattle.write.specs.Calls;
 ghost use Rattle.sync.specs.Syncs;
 use rules::AnyOf;
+use rules::Batching;
 use rules::Formatted;
 use rules::Inserting;
+use rules::Item;
 use rules::Listing;
 use rules::Looking;
 use rules::NewestOf;
@@ -117,6 +122,14 @@ pub fn withdraw(
         ≡ withdrawReported (now (working .entry)) (now (stable .entry)) session model serial issue ⌝ }
 {
     withdraw::withdraw(working, stable, session, model, serial, issue)
+}
+
+// Answers Done or Length. Done: each item has got the answer that an insert of it would give, as a number, 1 never among them.
+pub fn batch(working: &mut [u8], stable: &[u8], session: Session, items: &mut [Item]) -> Batching
+    ensures { λ r. ⌜ Turns.leaving r (now (working .exit)) (now (stable .entry)) (now (items .exit))
+        ≡ Batch.batch (now (working .entry)) (now (stable .entry)) session (now (items .entry)) ⌝ }
+{
+    batch::batch(working, stable, session, items)
 }
 
 // Answers Found with the record, Length, BadKey, Damaged or Missing.

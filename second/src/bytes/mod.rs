@@ -122,7 +122,7 @@ pub fn try_table(seed: u64, counters: &mut Counters) -> Kept {
 
 fn try_call(store: &mut Store, rng: &Rng, counters: &mut Counters) -> Kept {
     let key = some_key(store, rng);
-    match rng.below(27) {
+    match rng.below(29) {
         0 => promises::formats(&mut store.clone(), counters),
         1..=3 => {
             let session = store.session;
@@ -146,6 +146,11 @@ fn try_call(store: &mut Store, rng: &Rng, counters: &mut Counters) -> Kept {
         19..=20 => {
             let room = rng.one_of(&[0, 11, 12, 30, rng.below(4000), 100_000]);
             promises::write_file(store, room, counters)
+        }
+        21..=22 => {
+            let length = rng.one_of(&[0, 1, 4, 40]);
+            let keys: Vec<u64> = (0..length).map(|_| some_key(store, rng)).collect();
+            promises::batch(store, &keys, counters)
         }
         _ => promises::insert(store, key, rng.next() as u32, counters),
     }

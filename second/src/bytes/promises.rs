@@ -4,6 +4,7 @@
 use super::other_ways::{Climb, Entering};
 use super::Counters;
 use crate::answer::{BADKEY, DAMAGED, DONE, LENGTH, NONE, SHORT, SPENT};
+use crate::batch::Item;
 use crate::field::{get32, put32};
 use crate::key::{issues, key, parts, whole};
 use crate::layout::{zero, FIRST_NUMBER, LAST_FINAL, LEAF_CAP, PAGE};
@@ -250,6 +251,30 @@ pub fn withdraw(store: &mut Store, key: u64, counters: &mut Counters) -> Kept {
     must(*store == looked, "a withdrawal changed more than its leaf")?;
     let gone = answer != DONE || store.lookup(key) == (NONE, 0);
     must(gone, "what was withdrawn is found")
+}
+
+pub fn batch(store: &mut Store, keys: &[u64], counters: &mut Counters) -> Kept {
+    let mut single = store.clone();
+    let mut items: Vec<Item> = keys
+        .iter()
+        .map(|&key| Item::new(key, !key as u32))
+        .collect();
+    let untouched = items.clone();
+    let answer = store.batch(&mut items);
+    counters.answer("batch", answer);
+    if answer != DONE {
+        let told = store.report == Report::default();
+        let left = *store == single && items == untouched && told;
+        return must(left, "a refused batch changed something");
+    }
+    let mut told = Report::default();
+    for (item, &key) in items.iter().zip(keys) {
+        let answer = single.insert(key, !key as u32);
+        must(item.answer == answer, "an item differs from its insert")?;
+        told.join(single.report);
+    }
+    must(*store == single, "a batch leaves another store")?;
+    must(store.report == told, "a batch tells of other mends")
 }
 
 pub fn open(store: &mut Store, counters: &mut Counters) -> Kept {

@@ -1,6 +1,7 @@
 //! One call on both stores, and all that it leaves compared.
 
-use crate::answer::{ANSWERS, WALKING, WORDS};
+use crate::answer::{ANSWERS, DONE, WALKING, WORDS};
+use crate::batch::Item;
 use crate::layout::{LAST_NUMBER, PAGE, PAGES_MOST};
 use crate::lean::Lean;
 use crate::proved::Proved;
@@ -117,6 +118,25 @@ impl Both {
     pub fn withdraw(&mut self, key: u64, counters: &mut Counters) -> Alike<u32> {
         let (own, proved) = (self.own.withdraw(key), self.proved.withdraw(key));
         self.alike("withdraw", own, &own, &proved, counters)
+    }
+
+    /// The items with their answers. The proved store's single inserts must come to the same as its batch.
+    pub fn batch(&mut self, asked: &[(u64, u32)], counters: &mut Counters) -> Alike<Vec<Item>> {
+        let mut own: Vec<Item> = asked.iter().map(|&(k, r)| Item::new(k, r)).collect();
+        let (mut proved, mut single) = (own.clone(), own.clone());
+        let mut other = self.proved.clone();
+        let answers = (self.own.batch(&mut own), self.proved.batch(&mut proved));
+        self.alike("batch", answers.0, &answers.0, &answers.1, counters)?;
+        for (item, &(key, record)) in single.iter_mut().zip(asked) {
+            let answer = other.insert(key, record);
+            if answers.0 == DONE {
+                item.answer = answer;
+            }
+        }
+        if own != proved || own != single || self.proved != other {
+            return Err("batch: other answers, or other than single inserts".to_string());
+        }
+        Ok(own)
     }
 
     pub fn lookup(&mut self, key: u64, counters: &mut Counters) -> Alike<u32> {

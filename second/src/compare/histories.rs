@@ -71,6 +71,14 @@ fn step(both: &mut Both, player: &mut Player, call: &Call, counters: &mut Counte
             }
             both.lookup(key, counters)?;
         }
+        Call::Batch { ref items } => {
+            for (item, &(key, record)) in both.batch(items, counters)?.iter().zip(items) {
+                player.answer = item.answer;
+                if item.answer == DONE {
+                    player.states.now.add(key, record);
+                }
+            }
+        }
         Call::Lookup { key } => _ = both.lookup(key, counters)?,
         Call::Newest { model, serial } => _ = both.newest(model, serial, counters)?,
         Call::HasAny { model, serial } => _ = both.has_any(model, serial, counters)?,
@@ -179,6 +187,7 @@ fn misfit(mut both: Both, pages: usize, counters: &mut Counters) -> Alike<()> {
     }
     both.insert(1, 1, counters)?;
     both.withdraw(1, counters)?;
+    both.batch(&[(1, 1)], counters)?;
     both.lookup(1, counters)?;
     both.newest(0, 1, counters)?;
     both.has_any(0, 1, counters)?;

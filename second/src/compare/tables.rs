@@ -1,6 +1,7 @@
 //! Calls on tables of arbitrary bytes, with any length and any session.
 
 use super::{Alike, Both, Counters};
+use crate::answer::DONE;
 use crate::bytes::tables::arbitrary;
 use crate::bytes::{some_key, some_meter};
 use crate::rng::Rng;
@@ -19,7 +20,7 @@ pub fn table(seed: u64, counters: &mut Counters) -> Alike<()> {
 
 fn call(both: &mut Both, rng: &Rng, counters: &mut Counters) -> Alike<u32> {
     let key = some_key(&both.own, rng);
-    match rng.below(36) {
+    match rng.below(38) {
         0 => both.clone().format(counters),
         1..=2 => {
             let session = both.own.session;
@@ -51,6 +52,16 @@ fn call(both: &mut Both, rng: &Rng, counters: &mut Counters) -> Alike<u32> {
             both.write_files(counters)?;
             let room = rng.one_of(&[0, 11, 12, 30, rng.below(4000), 100_000]);
             both.write_file(room, counters)
+        }
+        29..=30 => {
+            let length = if rng.once_in(50) {
+                2000
+            } else {
+                rng.one_of(&[0, 1, 4, 40])
+            };
+            let keys = (0..length).map(|_| some_key(&both.own, rng));
+            let items: Vec<(u64, u32)> = keys.map(|key| (key, !key as u32)).collect();
+            both.batch(&items, counters).map(|_| DONE)
         }
         _ => both.insert(key, rng.next() as u32, counters),
     }

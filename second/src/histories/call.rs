@@ -28,6 +28,10 @@ pub enum Call {
     Withdraw {
         key: u64,
     },
+    /// Keys and records of a delivery.
+    Batch {
+        items: Vec<(u64, u32)>,
+    },
     Lookup {
         key: u64,
     },
@@ -70,6 +74,7 @@ impl Call {
             self,
             Call::Insert { .. }
                 | Call::Withdraw { .. }
+                | Call::Batch { .. }
                 | Call::Sync
                 | Call::SyncsUntil { .. }
                 | Call::Open
@@ -108,6 +113,13 @@ impl fmt::Display for Call {
             Call::Withdraw { key } => {
                 let (model, serial, issue) = parts(key);
                 write!(out, "withdraw {model} {serial} {issue}")
+            }
+            Call::Batch { ref items } => {
+                write!(out, "batch of")?;
+                items.iter().try_for_each(|&(key, record)| {
+                    let (model, serial, issue) = parts(key);
+                    write!(out, " ({model} {serial} {issue} record {record})")
+                })
             }
             Call::Lookup { key } => {
                 let (model, serial, issue) = parts(key);

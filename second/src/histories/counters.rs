@@ -12,6 +12,7 @@ pub enum Counted {
     Open,
     Insert,
     Withdraw,
+    Batch,
     Lookup,
     Newest,
     HasAny,
@@ -21,10 +22,11 @@ pub enum Counted {
 
 /// Each call with the answers that a history can bring about: three comes only from bytes
 /// that no call wrote.
-const ANSWERS: [(&str, &[usize]); 8] = [
+const ANSWERS: &[(&str, &[usize])] = &[
     ("open", &[0, 1, 8]),
     ("insert", &[0, 1, 2, 5, 6, 7]),
     ("withdraw", &[0, 1, 2, 4]),
+    ("batch", &[0, 1]),
     ("lookup", &[0, 1, 2, 4]),
     ("newest", &[0, 1, 2, 4]),
     ("has_any", &[0, 1, 2]),
@@ -33,7 +35,7 @@ const ANSWERS: [(&str, &[usize]); 8] = [
 ];
 
 /// What else is counted and can be reached at any capacity.
-const NAMED: [&str; 58] = [
+const NAMED: &[&str] = &[
     "histories",
     "histories ending with a leaf as root",
     "histories ending with a root of kind 2",
@@ -92,6 +94,11 @@ const NAMED: [&str; 58] = [
     "quiet restarts with a mended page not written",
     "quiet restarts with many mended pages",
     "quiet stretches with all restarts",
+    "batches, empty",
+    "batches with a bad key",
+    "batches with a present key",
+    "batches with an item tried after a syncfirst",
+    "batches with an item done after a full",
 ];
 
 /// Reached only where a page that has just been split off, or a new root, has room: not where

@@ -15,6 +15,7 @@ use crate::rng::Rng;
 enum Choice {
     Insert,
     Withdraw,
+    Batch,
     Lookup,
     Newest,
     HasAny,
@@ -27,9 +28,10 @@ enum Choice {
     Misfit,
 }
 
-const CHOICES: [Choice; 12] = [
+const CHOICES: &[Choice] = &[
     Choice::Insert,
     Choice::Withdraw,
+    Choice::Batch,
     Choice::Lookup,
     Choice::Newest,
     Choice::HasAny,
@@ -41,6 +43,9 @@ const CHOICES: [Choice; 12] = [
     Choice::AllMixes,
     Choice::Misfit,
 ];
+
+/// Meters that goods-in registers at a time.
+const DELIVERY: usize = 40;
 
 pub struct Generator {
     pub n: usize,
@@ -70,6 +75,7 @@ impl Generator {
             *weight = rng.from(0, most);
         }
         weights[Choice::Insert as usize] = rng.from(5, 30);
+        weights[Choice::Batch as usize] = rng.below(3);
         weights[Choice::Crash as usize] += rng.from(0, 4);
         weights[Choice::Mix as usize] += rng.from(0, 4);
         weights[Choice::Open as usize] = rng.below(2);
@@ -175,6 +181,7 @@ impl Generator {
             Choice::Withdraw => Call::Withdraw {
                 key: self.old_key(player),
             },
+            Choice::Batch => self.batch(player),
             Choice::Lookup => Call::Lookup {
                 key: self.any_key(player),
             },
@@ -278,6 +285,20 @@ impl Generator {
             return self.any_key(player);
         }
         self.rng.one_of(&touched)
+    }
+
+    /// A delivery: none, one, a few or many, here and there one twice.
+    fn batch(&mut self, player: &Player) -> Call {
+        let length = self.rng.one_of(&[0, 1, self.rng.from(2, 6), DELIVERY]);
+        let mut items: Vec<(u64, u32)> = Vec::new();
+        for _ in 0..length {
+            let key = match items.last() {
+                Some(&(key, _)) if self.rng.once_in(12) => key,
+                _ => self.new_key(player),
+            };
+            items.push((key, self.rng.next() as u32));
+        }
+        Call::Batch { items }
     }
 
     /// A key to look up: often one that is there.

@@ -2,6 +2,7 @@
 
 mod call;
 mod counters;
+mod delivery;
 mod generator;
 mod keys;
 mod mix;

@@ -8,6 +8,7 @@ use super::set::Set;
 use super::states::States;
 use super::Move;
 use crate::answer::{BADKEY, DONE, FULL, LENGTH, NONE, PRESENT, SPENT, SYNCFIRST};
+use crate::batch::Item;
 use crate::field::put32;
 use crate::invariant;
 use crate::key::{issues, parts, whole};
@@ -74,6 +75,7 @@ impl Player {
         match next.call {
             Call::Insert { key, record } => self.insert(key, record, counters)?,
             Call::Withdraw { key } => self.withdraw(key, counters)?,
+            Call::Batch { ref items } => self.batch(items, counters)?,
             Call::Lookup { key } => self.lookup(key, counters)?,
             Call::Newest { model, serial } => self.newest(model, serial, counters)?,
             Call::HasAny { model, serial } => self.has_any(model, serial, counters)?,
@@ -147,7 +149,7 @@ impl Player {
         page::kind(page::page(&self.store.stable, root))
     }
 
-    fn insert(&mut self, key: u64, record: u32, counters: &mut Counters) -> Played {
+    pub(super) fn insert(&mut self, key: u64, record: u32, counters: &mut Counters) -> Played {
         let before = self.store.session;
         let tells = self.walk_tells_of(key);
         let answer = self.store.insert(key, record);
@@ -356,9 +358,14 @@ impl Player {
             counters.answer(call, answer);
             answer == LENGTH && report == Report::default()
         };
+        let mut items = [Item::new(1, 1)];
+        let batch = other.batch(&mut items);
+        let (told, untouched) = (other.report, items == [Item::new(1, 1)]);
         let list = |store: &mut Store| store.list(0, &mut [0], &mut [0]).0;
         let refused = answered(Counted::Insert, other.insert(1, 1), other.report)
             && answered(Counted::Withdraw, other.withdraw(1), other.report)
+            && answered(Counted::Batch, batch, told)
+            && untouched
             && answered(Counted::Lookup, other.lookup(1).0, other.report)
             && answered(Counted::Newest, other.newest(0, 1).0, other.report)
             && answered(Counted::HasAny, other.has_any(0, 1).0, other.report)

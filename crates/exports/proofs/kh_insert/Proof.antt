@@ -1,4 +1,4 @@
--- `exports::kh_insert`: what the store's call leaves, with the answer as a number.
+-- `exports::kh_insert`: what the call leaves, with the answer as a number.
 -- Assumes nothing.
 use mathlib.Core.Path.{ap}
 use Rattle.exports.specs.Leaves.{inserted}

@@ -11,3 +11,4 @@ pub mod Kept
 pub mod QuietCalls
 pub mod SameRecords
 pub mod Restarts
+pub mod Batches
