@@ -54,6 +54,13 @@ static uint32_t deliver(KhItem *items, size_t count)
     return delivered.answer;
 }
 
+static KhRead read_file(const uint8_t *file, size_t length)
+{
+    KhRead read = kh_read_file(working, BYTES, stable, BYTES, session, file, length);
+    session = read.session;
+    return read;
+}
+
 static uint32_t sync_store(void)
 {
     KhAnswered synced = kh_sync(working, BYTES, stable, BYTES, session);
@@ -182,6 +189,18 @@ int main(void)
     expect("a delivery of two meters", deliver(items, 2), KH_DONE);
     expect("the first, which is there", items[0].answer, KH_PRESENT);
     expect("the second", items[1].answer, KH_DONE);
+    /* an exchange file: one model, 7; one meter of it, serial 60; one certificate, issue 1 with record 960 */
+    static const uint8_t file[] = {1, 0, 0, 0, 7, 0,              1, 0, 0, 0, 0, 0, 60,   0, 0, 0,
+                                   1, 0, 0, 0, 0, 0, 0, 0, 1, 0, 0xC0, 3, 0, 0};
+    KhRead read = read_file(file, sizeof file);
+    expect("an exchange file", read.answer, KH_DONE);
+    if (read.done != 1 || lookup(60).record != 960)
+        return 1;
+    read = read_file(file, sizeof file - 1);
+    expect("the same, cut off", read.answer, KH_FILE);
+    printf("bad from byte %llu on\n", (unsigned long long)read.place);
+    if (read.place != 20)
+        return 1;
     KhAny has = kh_has_any(working, BYTES, stable, BYTES, session, 7, 41);
     expect("has the meter that was not kept any", has.answer, KH_DONE);
     if (has.any != 0)
@@ -189,10 +208,10 @@ int main(void)
     printf("the start screen: %u certificates\n", (unsigned)session.total);
     list_all(session.total);
     write_small_file();
-    if (session.total != 41)
+    if (session.total != 42)
         return 1;
     expect("a recalled certificate withdrawn", withdraw(40), KH_DONE);
     expect("the sync without which a crash may bring it back", sync_store(), KH_DONE);
     expect("lookup of the recalled one", lookup(40).answer, KH_NONE);
-    return session.total == 40 ? 0 : 1;
+    return session.total == 41 ? 0 : 1;
 }

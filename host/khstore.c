@@ -317,6 +317,19 @@ KhTold khs_batch(KhStore *store, KhItem *items, size_t count)
     return walked(delivered.answer, delivered.mended, delivered.reason);
 }
 
+KhTold khs_read_file(KhStore *store, const uint8_t *file, size_t length, uint32_t *done, uint64_t *place)
+{
+    *done = 0;
+    *place = 0;
+    if (!store->open)
+        return in_trouble(KHS_CLOSED);
+    KhRead read = kh_read_file(TABLES(store), store->session, file, length);
+    store->session = read.session;
+    *done = read.done;
+    *place = read.place;
+    return walked(read.answer, read.mended, read.reason);
+}
+
 KhTold khs_lookup(KhStore *store, uint16_t model, uint32_t serial, uint16_t issue, uint32_t *record)
 {
     *record = 0;

@@ -80,11 +80,12 @@ KH_KEEP KhTold khs_create(KhStore *store, const char *path, unsigned pages);
 /* Opens the store in a file, after a crash too. Answers 0, 3, 8. */
 KH_KEEP KhTold khs_open(KhStore *store, const char *path);
 
-/* As kh_insert, kh_withdraw, kh_batch, kh_lookup, kh_newest, kh_has_any, kh_list and kh_write_file, in memory. What they find is 0 if the answer
- * is not KH_DONE. */
+/* As kh_insert, kh_withdraw, kh_batch, kh_read_file, kh_lookup, kh_newest, kh_has_any, kh_list and kh_write_file, in memory. What they find is 0 if
+ * the answer is not KH_DONE; `place` is told with KH_FILE. */
 KH_KEEP KhTold khs_insert(KhStore *store, uint16_t model, uint32_t serial, uint16_t issue, uint32_t record);
 KH_KEEP KhTold khs_withdraw(KhStore *store, uint16_t model, uint32_t serial, uint16_t issue);
 KH_KEEP KhTold khs_batch(KhStore *store, KhItem *items, size_t count);
+KH_KEEP KhTold khs_read_file(KhStore *store, const uint8_t *file, size_t length, uint32_t *done, uint64_t *place);
 KH_KEEP KhTold khs_lookup(KhStore *store, uint16_t model, uint32_t serial, uint16_t issue, uint32_t *record);
 KH_KEEP KhTold khs_newest(KhStore *store, uint16_t model, uint32_t serial, uint16_t *issue, uint32_t *record);
 KH_KEEP KhTold khs_has_any(KhStore *store, uint16_t model, uint32_t serial, bool *any);

@@ -44,7 +44,8 @@ extern "C" {
  *                                                                                                twice
  *   kh_insert, kh_batch,   working: any page, and    nothing                                     01: "pages reach the
  *   kh_withdraw,           mended ones even if the                                               stable table only" in
- *   kh_lookup, kh_newest,  call is refused                                                       sync, open, at a crash
+ *   kh_read_file,          call is refused                                                       sync, open, at a crash
+ *   kh_lookup, kh_newest,
  *   kh_has_any, kh_list,
  *   kh_write_file, any
  *   answer
@@ -76,9 +77,9 @@ extern "C" {
 /* ---- Versions and limits ----------------------------------------------------------------------------------------- */
 
 #define KH_VERSION_MAJOR 7
-#define KH_VERSION_MINOR 1
+#define KH_VERSION_MINOR 0
 #define KH_VERSION_PATCH 0
-#define KH_VERSION "7.1.0"
+#define KH_VERSION "7.0.0"
 
 #define KH_LAYOUT 9       /* the kind of page 0: a table with another one is refused with KH_DAMAGED */
 #define KH_PAGE_BYTES 512 /* bytes of a page */
@@ -98,8 +99,8 @@ extern "C" {
 
 /* ---- Answers --------------------------------------------------------------------------------------------------------
  *
- * Where several would do, the lowest is given. With any but KH_DONE the numbers beside it are 0, but for the report of
- * mended pages; the session is as it was handed in, and nothing has changed but working pages that the call mended on its way. */
+ * Where several would do, the lowest is given, but KH_FILE comes right after KH_LENGTH. With any but KH_DONE the numbers
+ * beside it are 0, but for the report of mended pages and the place of KH_FILE; the session is as it was handed in, and nothing has changed but working pages that the call mended on its way. */
 enum {
     KH_DONE = 0,
     /* A table's length is wrong, the two differ, or the session is another table's. Lend the tables that were opened,
@@ -124,7 +125,10 @@ enum {
      * opening: this table opens no more. */
     KH_SPENT = 8,
     /* The lent output cannot hold the exchange file. Lend KH_FILE_MOST bytes: they always do. */
-    KH_SHORT = 9
+    KH_SHORT = 9,
+    /* The bytes are not an exchange file: `place` is the byte where the first bad item begins. Nothing was put in. Get
+     * the file again, whole; if it stays, whoever wrote it has to. */
+    KH_FILE = 11
 };
 
 /* The word for an answer. */
@@ -132,6 +136,8 @@ static inline const char *kh_word(uint32_t answer)
 {
     static const char *const words[] = {"done",    "length",    "badkey", "damaged", "none",
                                         "present", "syncfirst", "full",   "spent",   "short"};
+    if (answer == KH_FILE)
+        return "file";
     return answer < sizeof words / sizeof *words ? words[answer] : "unknown";
 }
 
@@ -198,6 +204,15 @@ typedef struct {
     uint32_t record;
     uint32_t answer;
 } KhItem;
+
+typedef struct {
+    uint32_t answer;
+    uint32_t done;  /* how many certificates of the file were put in */
+    uint64_t place; /* with KH_FILE: the byte where the first bad item begins */
+    uint32_t mended;
+    uint32_t reason;
+    KhSession session;
+} KhRead;
 
 typedef struct {
     uint32_t answer;
@@ -278,6 +293,13 @@ KH_KEEP KhChanged kh_withdraw(uint8_t *working, size_t working_len, const uint8_
  * it. With KH_LENGTH no item is touched. Answers 0, 1; each item gets 0, 2, 3, 5, 6, 7. */
 KH_KEEP KhChanged kh_batch(uint8_t *working, size_t working_len, const uint8_t *stable, size_t stable_len,
                            KhSession session, KhItem *items, size_t items_len);
+
+/* Puts the certificates of an exchange file in, in its order, each as kh_insert would; one that is refused stops none
+ * behind it. The whole file is tested first: if it is not the file of a set of certificates, to its last byte, nothing is
+ * put in. `done` says how many were put in: fewer than the file has if some were there or there was no room. Answers 0, 1,
+ * 11. */
+KH_KEEP KhRead kh_read_file(uint8_t *working, size_t working_len, const uint8_t *stable, size_t stable_len,
+                            KhSession session, const uint8_t *file, size_t file_len);
 
 /* The record of a certificate. Answers 0, 1, 2, 3, 4. */
 KH_KEEP KhLooked kh_lookup(uint8_t *working, size_t working_len, const uint8_t *stable, size_t stable_len,

@@ -13,6 +13,7 @@ const NAMES: &[&str] = &[
     "kh_insert",
     "kh_withdraw",
     "kh_batch",
+    "kh_read_file",
     "kh_lookup",
     "kh_newest",
     "kh_has_any",

@@ -127,6 +127,10 @@ static void closed(void)
     troubled(khs_withdraw(&store, 7, 1, 1), KHS_CLOSED, "withdraw after close");
     troubled(khs_batch(&store, &item, 1), KHS_CLOSED, "batch after close");
     must(item.answer == 9, "a closed store touches no item");
+    uint32_t done;
+    uint64_t place;
+    static const uint8_t empty[12];
+    troubled(khs_read_file(&store, empty, sizeof empty, &done, &place), KHS_CLOSED, "a file after close");
     troubled(khs_lookup(&store, 7, 1, 1, &record), KHS_CLOSED, "lookup after close");
     troubled(khs_newest(&store, 7, 1, &issue, &record), KHS_CLOSED, "newest after close");
     troubled(khs_has_any(&store, 7, 1, &any), KHS_CLOSED, "has-any after close");

@@ -1,4 +1,4 @@
-//! The answers: nine of document 01, and those of document 02.
+//! The answers: of document 01, and those of document 02.
 
 pub const DONE: u32 = 0;
 pub const LENGTH: u32 = 1;
@@ -10,9 +10,10 @@ pub const SYNCFIRST: u32 = 6;
 pub const FULL: u32 = 7;
 pub const SPENT: u32 = 8;
 pub const SHORT: u32 = 9;
+pub const FILE: u32 = 11;
 
-/// The answers' words, by number.
-pub const WORDS: [&str; 10] = [
+/// The answers' words, by number; no call that is built gives 10.
+pub const WORDS: [&str; 12] = [
     "done",
     "length",
     "badkey",
@@ -23,6 +24,8 @@ pub const WORDS: [&str; 10] = [
     "full",
     "spent",
     "short",
+    "no block",
+    "file",
 ];
 
 /// Each call with the answers that the papers have for it.
@@ -32,6 +35,7 @@ pub const ANSWERS: &[(&str, &[usize])] = &[
     ("insert", &[0, 1, 2, 3, 5, 6, 7]),
     ("withdraw", &[0, 1, 2, 3, 4]),
     ("batch", &[0, 1]),
+    ("read_file", &[0, 1, 11]),
     ("lookup", &[0, 1, 2, 3, 4]),
     ("newest", &[0, 1, 2, 3, 4]),
     ("has_any", &[0, 1, 2, 3]),
@@ -44,6 +48,7 @@ pub const ANSWERS: &[(&str, &[usize])] = &[
 pub const WALKING: &[&str] = &[
     "insert",
     "batch",
+    "read_file",
     "withdraw",
     "lookup",
     "newest",

@@ -56,6 +56,8 @@ pub enum Rule {
     PlacesFromZero,
     /// An item after one that answered 6 is still tried.
     BatchGoesOn,
+    /// Of a file's certificates those count as done that answered 0.
+    FileCountsDone,
 }
 
 /// Those on which demand 3 rests.
@@ -90,6 +92,7 @@ pub const LATER: &[Rule] = &[
     Rule::FittingLeft,
     Rule::PlacesFromZero,
     Rule::BatchGoesOn,
+    Rule::FileCountsDone,
 ];
 
 /// Whether this run breaks the rule.

@@ -54,6 +54,12 @@ pub fn file_of(entries: &[LeafEntry]) -> Vec<u8> {
     file
 }
 
+/// The file of a set of certificates, by key.
+pub fn file_of_set(set: &BTreeMap<u64, u32>) -> Vec<u8> {
+    let entry = |(&key, &record)| LeafEntry { key, record };
+    file_of(&set.iter().map(entry).collect::<Vec<_>>())
+}
+
 /// Every page is entered and mended, even for an output that is too short; the file is made aside, and goes out whole or
 /// not at all.
 pub fn write_file(working: &mut [u8], stable: &[u8], session: Session, out: &mut [u8]) -> Written {

@@ -20,6 +20,15 @@ struct Changed {
 }
 
 #[repr(C)]
+struct Read {
+    answer: u32,
+    done: u32,
+    place: u64,
+    report: Report,
+    session: Session,
+}
+
+#[repr(C)]
 struct Looked {
     answer: u32,
     record: u32,
@@ -71,6 +80,8 @@ extern "C" {
                    model: u16, serial: u32, issue: u16) -> Changed;
     fn kh_batch(working: *mut u8, w: usize, stable: *const u8, s: usize, session: Session,
                 items: *mut Item, i: usize) -> Changed;
+    fn kh_read_file(working: *mut u8, w: usize, stable: *const u8, s: usize, session: Session,
+                    file: *const u8, f: usize) -> Read;
     fn kh_lookup(working: *mut u8, w: usize, stable: *const u8, s: usize, session: Session,
                  model: u16, serial: u32, issue: u16) -> Looked;
     fn kh_newest(working: *mut u8, w: usize, stable: *const u8, s: usize, session: Session,
@@ -144,6 +155,16 @@ impl Proved {
         self.0.session = left.session;
         self.0.report = left.report;
         left.answer
+    }
+
+    pub fn read_file(&mut self, file: &[u8]) -> (u32, u32, u64) {
+        let (working, w) = lend!(mut self.0.working);
+        let (stable, s) = lend!(self.0.stable);
+        let (file, f) = lend!(file);
+        let read = unsafe { kh_read_file(working, w, stable, s, self.0.session, file, f) };
+        self.0.session = read.session;
+        self.0.report = read.report;
+        (read.answer, read.done, read.place)
     }
 
     pub fn lookup(&mut self, key: u64) -> (u32, u32) {

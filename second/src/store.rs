@@ -5,9 +5,10 @@ use crate::layout::PAGE;
 use crate::page::PageSet;
 use crate::report::{Mends, Report};
 use crate::session::Session;
+use crate::Item;
 use crate::{
-    batch, crash, format, has_any, insert, list, lookup, newest, open, sync, withdraw, write_file,
-    Item,
+    batch, crash, format, has_any, insert, list, lookup, newest, open, read_file, sync, withdraw,
+    write_file,
 };
 
 #[derive(Clone, Debug)]
@@ -95,6 +96,14 @@ impl Store {
         self.session = left.session;
         self.note(left.mends);
         left.answer
+    }
+
+    /// The answer, how many certificates were done, and the place of the first bad item.
+    pub fn read_file(&mut self, file: &[u8]) -> (u32, u32, u64) {
+        let left = read_file(&mut self.working, &self.stable, self.session, file);
+        self.session = left.session;
+        self.note(left.mends);
+        (left.answer, left.done, left.place)
     }
 
     pub fn lookup(&mut self, key: u64) -> (u32, u32) {

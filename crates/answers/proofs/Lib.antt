@@ -12,6 +12,7 @@ pub mod Ends
 pub mod Looks
 pub mod Inserts
 pub mod Batches
+pub mod Readings
 pub mod Ranges
 pub mod Walks
 pub mod Refused

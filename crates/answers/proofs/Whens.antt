@@ -14,6 +14,7 @@ use Rattle.rules.specs.Format.{format}
 use Rattle.rules.specs.Open.{opening}
 use Rattle.rules.specs.Insert.{insert}
 use Rattle.rules.specs.Withdraw.{withdraw}
+use Rattle.exchange.specs.ReadFile.{readNo, readFile}
 use Rattle.rules.specs.Batch.{batchedNo, itemNo, batch}
 use Rattle.rules.specs.Lookup.{lookup}
 use Rattle.rules.specs.Newest.{newest, newestIn, meter}
@@ -26,7 +27,7 @@ use Rattle.rules.specs.declared.Newest.{Newest}
 use Rattle.rules.specs.declared.Any.{Any}
 use Rattle.rules.specs.declared.Listed.{Listed}
 use Rattle.answers.specs.Given.{Given}
-use Rattle.answers.specs.Causes.{under, formatCauses, openCauses, insertCauses, withdrawCauses, batchCauses, lookupCauses, newestCauses, anyCauses, listCauses, syncCauses}
+use Rattle.answers.specs.Causes.{under, formatCauses, openCauses, insertCauses, withdrawCauses, batchCauses, readCauses, lookupCauses, newestCauses, anyCauses, listCauses, syncCauses}
 use Rattle.answers.specs.When.{When}
 use Rattle.answers.proofs.Exactly.{exactly}
 use Rattle.answers.proofs.Ends.{format-given, open-given, sync-given}
@@ -34,6 +35,7 @@ use Rattle.answers.proofs.Looks.{lookup-given, lookup-done}
 use Rattle.answers.proofs.Inserts.{insert-given}
 use Rattle.answers.proofs.Withdraws.{withdraw-given}
 use Rattle.answers.proofs.Batches.{batch-given, item-given}
+use Rattle.answers.proofs.Readings.{read-given}
 use Rattle.answers.proofs.Ranges.{newest-given, newest-done, any-given, any-done, list-given, list-done}
 
 -- ── What is answered beside 0 ───────────────────────────────────────────────────────────────────────────────────
@@ -115,6 +117,8 @@ whens = record {
   item-when = λ t m x k.
       exactly (insertCauses (m .working) t (m .session) (x .model) (x .serial) (x .issue)) (itemNo t m x) k
       (item-given t m x);
+  read-when = λ w t s f b k.
+      exactly (readCauses w t s f) (readNo (readFile w t s f .left .answer)) k (read-given w t s f b);
   lookup-when = λ w t s model serial issue k.
       exactly (lookupCauses w t s model serial issue) (lookedNo (lookup w t s model serial issue .answer)) k
       (lookup-given w t s model serial issue);

@@ -8,7 +8,7 @@ use mathlib.Core.Option.{Option, some, none}
 use lib.ListN.{length}
 use Rattle.rules.specs.Layout.{lastNumber}
 use Rattle.rules.specs.Key.{keyOf}
-use Rattle.rules.specs.Entry.{find}
+use Rattle.rules.specs.Entry.{Cert, find}
 use Rattle.rules.specs.Table.{pages, number0, fit0, Tables}
 use Rattle.rules.specs.Walk.{Step, numbers, certsAt, wayOf, walkOf}
 use Rattle.rules.specs.Marks.{freePages}
@@ -18,6 +18,7 @@ use Rattle.rules.specs.HasAny.{firstOf}
 use Rattle.rules.specs.List.{upFrom}
 use Rattle.rules.specs.declared.Session.{Session}
 use Rattle.rules.specs.declared.Asked.{Asked}
+use Rattle.exchange.specs.Written.{isSet, fileOf}
 use Rattle.answers.specs.Given.{Cause, _when_}
 use Rattle.answers.specs.OneKey.{MeetsDamage}
 use Rattle.answers.specs.Range.{MeetsDamageIn}
@@ -90,6 +91,12 @@ abbrev pub Full : Session → List Step → Type 0
 Full s way =
     (length (freePages s (numbers way)) < newPages way) ⊎ ((rootSplits way ≡ true) × (tooHigh way ≡ true))
 
+-- ── 11 file ─────────────────────────────────────────────────────────────────────────────────────────────────────
+
+-- it is the file of no set of certificates
+abbrev pub BadFile : List ℕ → Type 0
+BadFile f = (cs : List Cert) → isSet cs ≡ true → f ≡ fileOf cs → ⊥
+
 -- ── The calls ───────────────────────────────────────────────────────────────────────────────────────────────────
 
 abbrev pub formatCauses : List ℕ → List ℕ → List Cause
@@ -112,6 +119,10 @@ insertCauses w t s model serial issue =
 -- of the batch itself; each of its items answers as an insert does
 abbrev pub batchCauses : List ℕ → List ℕ → Session → List Cause
 batchCauses w t s = (1 when BadLengths s w t) ∷ []
+
+-- of the call that reads a file; each of its certificates answers as an insert does
+abbrev pub readCauses : List ℕ → List ℕ → Session → List ℕ → List Cause
+readCauses w t s f = (1 when BadLengths s w t) ∷ (11 when BadFile f) ∷ []
 
 abbrev pub lookupCauses : List ℕ → List ℕ → Session → ℕ → ℕ → ℕ → List Cause
 lookupCauses w t s model serial issue =

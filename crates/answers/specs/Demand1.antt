@@ -4,6 +4,7 @@ use Prim.Native.Nat.{ℕ}
 use mathlib.Core.Path.{_≡_}
 use mathlib.Core.Bool.{true}
 use mathlib.Core.List.{List, [], _∷_}
+use Rattle.fields.specs.Field.{Bytes}
 use Rattle.rules.specs.Test.{mem}
 use Rattle.rules.specs.Key.{keyOf}
 use Rattle.rules.specs.Table.{fit0}
@@ -20,6 +21,8 @@ use Rattle.rules.specs.HasAny.{hasAny, firstOf}
 use Rattle.rules.specs.List.{list, upFrom}
 use Rattle.rules.specs.Sync.{sync}
 use Rattle.rules.specs.declared.Session.{Session}
+use Rattle.exchange.specs.ReadFile.{readNo, readCount, readPlace, readFile}
+use Rattle.exchange.specs.declared.Read.{Read}
 use Rattle.rules.specs.declared.Item.{Item}
 use Rattle.rules.specs.declared.Asked.{Asked}
 use Rattle.rules.specs.declared.Looked.{Looked}
@@ -72,6 +75,8 @@ pub record Demand1 : Type 0 where
   pub batch-answers : (w t : List ℕ) (s : Session) (xs : List Item)
       → Among (batchedNo (batch w t s xs .left .answer)) (0 ∷ 1 ∷ [])
   pub item-answers : (t : List ℕ) (m : Between) (x : Item) → Among (itemNo t m x) (0 ∷ 1 ∷ 2 ∷ 3 ∷ 5 ∷ 6 ∷ 7 ∷ [])
+  pub read-answers : (w t : List ℕ) (s : Session) (f : List ℕ) → Bytes f
+      → Among (readNo (readFile w t s f .left .answer)) (0 ∷ 1 ∷ 11 ∷ [])
   pub lookup-answers : (w t : List ℕ) (s : Session) (model serial issue : ℕ)
       → Among (lookedNo (lookup w t s model serial issue .answer)) (0 ∷ 1 ∷ 2 ∷ 3 ∷ 4 ∷ [])
   pub newest-answers : (w t : List ℕ) (s : Session) (model serial : ℕ)
@@ -96,6 +101,9 @@ pub record Demand1 : Type 0 where
   -- a refused batch changes nothing
   pub batch-refused : (w t : List ℕ) (s : Session) (xs : List Item) → Refused (batchedNo (batch w t s xs .left .answer))
       → BatchUnchanged w t s xs (batch w t s xs .left)
+  -- nor does a file that is refused
+  pub read-refused : (w t : List ℕ) (s : Session) (f : List ℕ) → Refused (readNo (readFile w t s f .left .answer))
+      → Unchanged w t s (readFile w t s f .left)
   -- a call that reads changes no more, whatever it answers
   pub lookup-mends : (w t : List ℕ) (s : Session) (model serial issue : ℕ)
       → WalkMended (keyOf model serial issue) w t s (lookup w t s model serial issue)
@@ -140,6 +148,9 @@ pub record Demand1 : Type 0 where
   pub newest-record-zero : (a : Newest) → Refused (newestNo a) → newestRecord a ≡ 0
   pub any-zero : (a : Any) → Refused (anyNo a) → anyYes a ≡ 0
   pub count-zero : (a : Listed) → Refused (listedNo a) → listedCount a ≡ 0
+  pub read-count-zero : (a : Read) → Refused (readNo a) → readCount a ≡ 0
+  -- but for the byte place, which is told with 11
+  pub read-place-zero : (a : Read) → (readNo a ≡ 11 → ⊥) → readPlace a ≡ 0
   -- stable bytes change only in format, open and sync that answer 0; of the other calls, see above
   pub format-stable : (w s : List ℕ) → Refused (formattedNo (format w s .answer)) → format w s .stable ≡ s
   pub insert-stable : (w t : List ℕ) (s : Session) (model serial issue x : ℕ)
@@ -147,3 +158,4 @@ pub record Demand1 : Type 0 where
   pub withdraw-stable : (w t : List ℕ) (s : Session) (model serial issue : ℕ)
       → withdraw w t s model serial issue .stable ≡ t
   pub batch-stable : (w t : List ℕ) (s : Session) (xs : List Item) → batch w t s xs .left .stable ≡ t
+  pub read-stable : (w t : List ℕ) (s : Session) (f : List ℕ) → readFile w t s f .left .stable ≡ t

@@ -6,6 +6,7 @@ use mathlib.Core.Bool.{true}
 use mathlib.Core.List.{List, [], _∷_}
 use mathlib.Core.Option.{some}
 use lib.ListN.{length}
+use Rattle.fields.specs.Field.{Bytes}
 use Rattle.rules.specs.Test.{every}
 use Rattle.rules.specs.Key.{keyOf}
 use Rattle.rules.specs.Entry.{rising}
@@ -23,12 +24,13 @@ use Rattle.rules.specs.List.{list, upFrom}
 use Rattle.rules.specs.Sync.{sync}
 use Rattle.rules.specs.declared.Session.{Session}
 use Rattle.rules.specs.declared.Item.{Item}
+use Rattle.exchange.specs.ReadFile.{readNo, readFile}
 use Rattle.rules.specs.declared.Looked.{Looked}
 use Rattle.rules.specs.declared.Newest.{Newest}
 use Rattle.rules.specs.declared.Any.{Any}
 use Rattle.rules.specs.declared.Listed.{Listed}
 use Rattle.answers.specs.Given.{Given, numbersIn}
-use Rattle.answers.specs.Causes.{under, formatCauses, openCauses, insertCauses, withdrawCauses, batchCauses, lookupCauses, newestCauses, anyCauses, listCauses, syncCauses}
+use Rattle.answers.specs.Causes.{under, formatCauses, openCauses, insertCauses, withdrawCauses, batchCauses, readCauses, lookupCauses, newestCauses, anyCauses, listCauses, syncCauses}
 
 -- for any page bytes, length, session and key
 pub record When : Type 0 where
@@ -39,6 +41,7 @@ pub record When : Type 0 where
       ∷ rising (numbersIn (openCauses w t))
       ∷ rising (numbersIn (insertCauses w t s model serial issue))
       ∷ rising (numbersIn (withdrawCauses w t s model serial issue))
+      ∷ rising (numbersIn (readCauses w t s ks))
       ∷ rising (numbersIn (lookupCauses w t s model serial issue))
       ∷ rising (numbersIn (newestCauses w t s model serial))
       ∷ rising (numbersIn (anyCauses w t s model serial))
@@ -57,6 +60,8 @@ pub record When : Type 0 where
       → (batchedNo (batch w t s xs .left .answer) ≡ k) ↔ Given (batchCauses w t s) k
   pub item-when : (t : List ℕ) (m : Between) (x : Item) (k : ℕ)
       → (itemNo t m x ≡ k) ↔ Given (insertCauses (m .working) t (m .session) (x .model) (x .serial) (x .issue)) k
+  pub read-when : (w t : List ℕ) (s : Session) (f : List ℕ) → Bytes f → (k : ℕ)
+      → (readNo (readFile w t s f .left .answer) ≡ k) ↔ Given (readCauses w t s f) k
   pub lookup-when : (w t : List ℕ) (s : Session) (model serial issue k : ℕ)
       → (lookedNo (lookup w t s model serial issue .answer) ≡ k) ↔ Given (lookupCauses w t s model serial issue) k
   pub newest-when : (w t : List ℕ) (s : Session) (model serial k : ℕ)

@@ -23,7 +23,7 @@ Chain over used last (i ∷ is) = Followed over used last (i .place) (i .number)
 
 -- ── The judgement ───────────────────────────────────────────────────────────────────────────────────────────────
 
-followed-follows : (over used last place number : ℕ) → Followed over used last place number → follows over used last place number ≡ true
+pub followed-follows : (over used last place number : ℕ) → Followed over used last place number → follows over used last place number ≡ true
 followed-follows over used last place number h = go (h .next)
   where
     go : (place ≡ used) ⊎ ((place + 1 ≡ used) × (last < number)) → follows over used last place number ≡ true

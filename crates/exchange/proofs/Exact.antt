@@ -35,7 +35,7 @@ bytes-item s i =
     let t = bytes-append n v (bytes-le (numberWidth s) (i .number)) (bytes-le (valueWidth s) (i .value)) in
     bytes-append (le (placeWidth s) (i .place)) (n ++ v) (bytes-le (placeWidth s) (i .place)) t
 
-bytes-items : (s : Section) (is : List Item) → Bytes (itemsBytes s is)
+pub bytes-items : (s : Section) (is : List Item) → Bytes (itemsBytes s is)
 unfolding itemsBytes
 bytes-items s [] = bytes-nil
 bytes-items s (i ∷ is) = bytes-append (itemBytes s i) (itemsBytes s is) (bytes-item s i) (bytes-items s is)

@@ -24,5 +24,7 @@ pub mod Exact
 pub mod Places
 -- Items written
 pub mod Puts
+-- A file read into a store
+pub mod ReadBy
 -- No second outcome
 pub mod Tight

@@ -1,7 +1,7 @@
 // The exchange file: its form, and its reader's test.
 //
-// specs/ says which file a set of certificates has (K4), how a file of any bytes is judged (K9), and which certificates an
-// accepted one tells of. proofs/ shows that the accepted files are exactly those of sets of certificates.
+// specs/ says which file a set of certificates has (K4), how a file of any bytes is judged (K9), which certificates an
+// accepted one tells of, and what the call leaves that reads it into a store. proofs/ shows that the accepted files are exactly those of sets of certificates.
 // `check` judges a file where it lies, in one pass and without a copy of any part; `cert_at` then finds each certificate of an
 // accepted file. The `put` functions write an item into a lent output, for the call that writes a store's file.
 //
@@ -10,6 +10,8 @@ use fields::get16;
 use fields::get32;
 use fields::put16;
 use fields::put32;
+use rules::Report;
+use rules::Session;
 ghost use mathlib.Core.Path.{_≡_};
 ghost use Prim.Native.Nat.{_+_, _*_, _^_, _≤_, _<_};
 ghost use lib.ListN.{length, getD};
@@ -50,6 +52,21 @@ pub struct Certificate {
     pub serial: u32,
     pub issue: u16,
     pub record: u32,
+}
+
+// The answers of the call that reads a file into a store: how many certificates were done, or the byte where the first bad item
+// begins.
+pub enum Read {
+    Done(u32),
+    Length,
+    File(usize),
+}
+
+// What that call hands back.
+pub struct Reading {
+    pub answer: Read,
+    pub report: Report,
+    pub session: Session,
 }
 
 // A section's count, in bytes.

@@ -57,6 +57,11 @@ kh-batch-tight κs a z z′ l l′ p q =
     let e = p ∙ sym q in
     ((λ i. e i .back), (λ i. (e i .working, (tt, (tt, (e i .items, tt))))))
 
+pub kh-read-file-tight : Tight this.kh_read_file.Kinds.ps this.kh_read_file.Kinds.r this.kh_read_file.Reads.Pre this.kh_read_file.Reads.Post
+kh-read-file-tight κs a pre z z′ l l′ p q =
+    let e = p ∙ sym q in
+    ((λ i. e i .back), (λ i. (e i .working, l .1)))
+
 pub kh-lookup-tight : Tight this.kh_lookup.Kinds.ps this.kh_lookup.Kinds.r this.kh_lookup.Reads.Pre this.kh_lookup.Reads.Post
 kh-lookup-tight κs a pre z z′ l l′ p q =
     let e = p ∙ sym q in

@@ -17,8 +17,11 @@ use Rattle.rules.specs.declared.Looked.{Looked}
 use Rattle.rules.specs.declared.Newest.{Newest}
 use Rattle.rules.specs.declared.Any.{Any}
 use Rattle.rules.specs.declared.Listed.{Listed}
+use Rattle.exchange.specs.ReadFile.{readNo, readCount, readPlace}
+use Rattle.exchange.specs.declared.Read.{Read}
 use Rattle.exports.specs.declared.KhAnswered.{KhAnswered}
 use Rattle.exports.specs.declared.KhChanged.{KhChanged}
+use Rattle.exports.specs.declared.KhRead.{KhRead}
 use Rattle.exports.specs.declared.KhLooked.{KhLooked}
 use Rattle.exports.specs.declared.KhNewest.{KhNewest}
 use Rattle.exports.specs.declared.KhAny.{KhAny}
@@ -101,6 +104,16 @@ batchedBack a x session = record {
   session = session;
 }
 
+abbrev pub readBack : Read → Report → Session → KhRead
+readBack a x session = record {
+  answer = readNo a;
+  done = readCount a;
+  place = readPlace a;
+  mended = x .mended;
+  reason = reasonNo (x .reason);
+  session = session;
+}
+
 abbrev pub lookedBack : Looked → Report → Session → KhLooked
 lookedBack a x session = record {
   answer = lookedNo a;
@@ -164,6 +177,9 @@ withdrawn r = leaves (changedBack (withdrawnNo (r .left .answer)) (r .report) (r
 abbrev pub batched : Reported BatchLeft → Batches
 batched r =
     batching (batchedBack (r .left .answer) (r .report) (r .left .session)) (r .left .working) (r .left .stable) (r .left .items)
+
+abbrev pub read : Reported (Left Read) → Leaves KhRead
+read r = leaves (readBack (r .left .answer) (r .report) (r .left .session)) (r .left .working) (r .left .stable)
 
 abbrev pub looked : Reported (Left Looked) → Leaves KhLooked
 looked r = leaves (lookedBack (r .left .answer) (r .report) (r .left .session)) (r .left .working) (r .left .stable)

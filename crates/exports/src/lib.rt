@@ -2,7 +2,7 @@
 //
 // Each call is that of `store`, of which every word holds here too: nothing is required but what C asks of any caller.
 // Slices are a pointer and a length; a session goes in and comes back by value, laid out as C lays it out. An answer is
-// the paper's number, 0 to 9, and the numbers beside a refusal are 0. include/khirpando.h declares the same for C.
+// the paper's number, 0 to 9, or 11, and the numbers beside a refusal are 0. include/khirpando.h declares the same for C.
 //
 // Each contract is one equation: what is handed back and every byte lent are the rule's, with its answer as a number.
 // Reading calls hand the session back from where it was handed in, which spares three copies of it: the rules say that
@@ -12,7 +12,7 @@
 // `kh_batch` is lent a slice of structs and so is proved by a walk of its code by hand: it hands its slices on and leaves the numbers
 // to `delivered`, which is covered.
 //
-// Below stand `store`, `insert`, `numbers`, `write` for the numbers of its answers, and `rules`.
+// Below stand `store`, `insert`, `numbers`, `write` and `read` for the numbers of their answers, and `rules`.
 mod lean;
 
 ghost use mathlib.Core.Path.{_≡_};
@@ -23,6 +23,7 @@ ghost use Rattle.rules.specs.Open;
 ghost use Rattle.rules.specs.Reports.{insertReported, withdrawReported, lookupReported, newestReported, hasAnyReported, listReported};
 ghost use Rattle.rules.specs.Sync;
 ghost use Rattle.write.specs.WriteFile.{writeReported};
+ghost use Rattle.exchange.specs.ReadFile.{readFile};
 ghost use Rattle.exports.specs.Leaves as C;
 use rules::Batching;
 use rules::Item;
@@ -37,6 +38,16 @@ pub struct KhAnswered {
 #[repr(C)]
 pub struct KhChanged {
     pub answer: u32,
+    pub mended: u32,
+    pub reason: u32,
+    pub session: Session,
+}
+
+#[repr(C)]
+pub struct KhRead {
+    pub answer: u32,
+    pub done: u32,
+    pub place: u64,
     pub mended: u32,
     pub reason: u32,
     pub session: Session,
@@ -185,6 +196,31 @@ pub extern "C" fn kh_withdraw(
     let session = left.session;
     KhChanged {
         answer: numbers::withdrawn(answer),
+        mended: report.mended,
+        reason: numbers::reason(reason),
+        session,
+    }
+}
+
+#[no_mangle]
+pub extern "C" fn kh_read_file(
+    working: &mut [u8],
+    stable: &[u8],
+    session: Session,
+    file: &[u8],
+) -> KhRead
+    ensures { λ r. ⌜ C.leaves r (now (working .exit)) (now (stable .entry))
+        ≡ C.read (readFile (now (working .entry)) (now (stable .entry)) session (now (file .entry))) ⌝ }
+{
+    let left = store::read_file(working, stable, session, file);
+    let answer = left.answer;
+    let report = left.report;
+    let reason = report.reason;
+    let session = left.session;
+    KhRead {
+        answer: read::number(answer),
+        done: read::done(answer),
+        place: read::place(answer),
         mended: report.mended,
         reason: numbers::reason(reason),
         session,

@@ -48,6 +48,11 @@ pub batch-tight : (κs : Lfts 3) (a : Args this.batch.signature κs) (z z′ : B
     → below.Post κs a z l → below.Post κs a z′ l′ → (z ≡ z′) × (l ≡ l′)
 batch-tight = below.batch-tight
 
+pub read-file-tight : Tight this.read_file.Kinds.ps this.read_file.Kinds.r this.read_file.Reads.Pre this.read_file.Reads.Post
+read-file-tight κs a pre z z′ l l′ p q =
+    let e = p ∙ sym q in
+    ((λ i. record { answer = e i .left .answer; report = e i .report; session = e i .left .session }), (λ i. (e i .left .working, l .1)))
+
 pub lookup-tight : Tight this.lookup.Kinds.ps this.lookup.Kinds.r this.lookup.Reads.Pre this.lookup.Reads.Post
 lookup-tight κs a pre z z′ l l′ p q =
     let e = p ∙ sym q in

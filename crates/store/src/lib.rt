@@ -10,6 +10,7 @@
 //     insert    puts a certificate in; from the next sync on it outlasts every crash
 //     batch     inserts a delivery's certificates in list order, and answers each
 //     withdraw  takes a certificate out; a crash before the next sync may bring it back
+//     read_file  inserts the certificates of an exchange file in its order, and says how many were done
 //     lookup    the record of a certificate
 //     newest    the largest issue of a meter, and its record
 //     has_any   whether a meter has a certificate
@@ -20,6 +21,7 @@
 // What the answers mean; where more than one would do, the one named first is given:
 //
 //     Length     a table's length is wrong, the two differ, or the session is that of other tables
+//     File       read_file: the bytes are not the file of any set of certificates; nothing is inserted
 //     BadKey     a zero model, serial or issue
 //     Damaged    a page that the call needs is spoilt and cannot be mended, or page 0 is
 //     Missing    withdraw, lookup, newest: there is no such certificate
@@ -55,6 +57,8 @@ ghost use Rattle.opening.specs.Opens;
 ghost use Rattle.insert.specs.Inserts;
 ghost use Rattle.withdraw.specs.Withdraws;
 ghost use Rattle.batch.specs.Turns;
+ghost use Rattle.exchange.specs.ReadFile.{readFile};
+ghost use Rattle.read.specs.Readings;
 ghost use Rattle.lookup.specs.Looks;
 ghost use Rattle.newest.specs.Newests;
 ghost use Rattle.any.specs.Anys;
@@ -62,6 +66,7 @@ ghost use Rattle.list.specs.Lists;
 ghost use Rattle.write.specs.WriteFile.{writeReported};
 ghost use Rattle.write.specs.Calls;
 ghost use Rattle.sync.specs.Syncs;
+use exchange::Reading;
 use rules::AnyOf;
 use rules::Batching;
 use rules::Formatted;
@@ -130,6 +135,14 @@ pub fn batch(working: &mut [u8], stable: &[u8], session: Session, items: &mut [I
         ≡ Batch.batch (now (working .entry)) (now (stable .entry)) session (now (items .entry)) ⌝ }
 {
     batch::batch(working, stable, session, items)
+}
+
+// Answers Done with how many certificates of the file were done, Length, or File with the byte where its first bad item begins.
+pub fn read_file(working: &mut [u8], stable: &[u8], session: Session, file: &[u8]) -> Reading
+    ensures { λ r. ⌜ Readings.leaving r (now (working .exit)) (now (stable .entry))
+        ≡ readFile (now (working .entry)) (now (stable .entry)) session (now (file .entry)) ⌝ }
+{
+    read::read_file(working, stable, session, file)
 }
 
 // Answers Found with the record, Length, BadKey, Damaged or Missing.

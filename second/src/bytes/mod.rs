@@ -1,11 +1,12 @@
 //! Arbitrary and lightly changed tables, lengths and sessions, held against demand 1.
 
+pub mod files;
 mod other_ways;
 mod promises;
 pub mod tables;
 
 use crate::answer::{ANSWERS, WORDS};
-use crate::key::{key, parts};
+use crate::key::{key, parts, whole};
 use crate::layout::{INNER_CAP, KIND_LEAF, PAGE};
 use crate::page;
 use crate::rng::Rng;
@@ -122,7 +123,7 @@ pub fn try_table(seed: u64, counters: &mut Counters) -> Kept {
 
 fn try_call(store: &mut Store, rng: &Rng, counters: &mut Counters) -> Kept {
     let key = some_key(store, rng);
-    match rng.below(29) {
+    match rng.below(32) {
         0 => promises::formats(&mut store.clone(), counters),
         1..=3 => {
             let session = store.session;
@@ -151,6 +152,12 @@ fn try_call(store: &mut Store, rng: &Rng, counters: &mut Counters) -> Kept {
             let length = rng.one_of(&[0, 1, 4, 40]);
             let keys: Vec<u64> = (0..length).map(|_| some_key(store, rng)).collect();
             promises::batch(store, &keys, counters)
+        }
+        23..=25 => {
+            let keys = (0..rng.one_of(&[0, 1, 3, 12, 60])).map(|_| some_key(store, rng));
+            let set = keys.filter(|&key| whole(key)).map(|key| (key, !key as u32));
+            let file = files::spoilt(&set.collect(), rng);
+            promises::read_file(store, &file, counters)
         }
         _ => promises::insert(store, key, rng.next() as u32, counters),
     }

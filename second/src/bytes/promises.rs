@@ -9,6 +9,7 @@ use crate::field::{get32, put32};
 use crate::key::{issues, key, parts, whole};
 use crate::layout::{zero, FIRST_NUMBER, LAST_FINAL, LEAF_CAP, PAGE};
 use crate::page::{self, Header, LeafEntry, Page};
+use crate::read_file::certificates;
 use crate::reasons::report;
 use crate::report::Report;
 use crate::session::Session;
@@ -16,7 +17,7 @@ use crate::store::Store;
 use crate::tree::Tree;
 use crate::walk::{pages, zero_fits};
 use crate::without::taken_out;
-use crate::{file_of, format, told_by};
+use crate::{file_of, file_of_set, format, told_by};
 use std::ops::RangeInclusive;
 
 pub type Kept = Result<(), String>;
@@ -275,6 +276,31 @@ pub fn batch(store: &mut Store, keys: &[u64], counters: &mut Counters) -> Kept {
     }
     must(*store == single, "a batch leaves another store")?;
     must(store.report == told, "a batch tells of other mends")
+}
+
+/// Accepted exactly if the file of what it tells has the same bytes; then it is a batch of that.
+pub fn read_file(store: &mut Store, file: &[u8], counters: &mut Counters) -> Kept {
+    let mut single = store.clone();
+    let (answer, done, place) = store.read_file(file);
+    counters.answer("read_file", answer);
+    let told = certificates(file);
+    if let Ok(told) = &told {
+        let again = file_of_set(&told.iter().copied().collect());
+        must(again == file, "a file that no set has was taken")?;
+    }
+    if answer != DONE {
+        let bad = told.err().filter(|_| answer != LENGTH).unwrap_or(0);
+        must(place == bad as u64 && done == 0, "another place is told")?;
+        let told = store.report == Report::default();
+        return must(*store == single && told, "a refused file changed something");
+    }
+    let told = told.map_err(|_| "a bad file was taken")?;
+    let mut items: Vec<Item> = told.iter().map(|&(k, r)| Item::new(k, r)).collect();
+    single.batch(&mut items);
+    let given = items.iter().filter(|item| item.answer == DONE).count();
+    must(given == done as usize, "another number of them is done")?;
+    must(*store == single, "a file leaves another store")?;
+    must(store.report == single.report, "a file tells of other mends")
 }
 
 pub fn open(store: &mut Store, counters: &mut Counters) -> Kept {

@@ -139,6 +139,11 @@ impl Both {
         Ok(own)
     }
 
+    pub fn read_file(&mut self, file: &[u8], counters: &mut Counters) -> Alike<u32> {
+        let (own, proved) = (self.own.read_file(file), self.proved.read_file(file));
+        self.alike("read_file", own.0, &own, &proved, counters)
+    }
+
     pub fn lookup(&mut self, key: u64, counters: &mut Counters) -> Alike<u32> {
         let mut lean = Lean(self.proved.clone());
         let (own, proved) = (self.own.lookup(key), self.proved.lookup(key));

@@ -3,8 +3,9 @@
 use super::{Alike, Both, Counters};
 use crate::answer::{DONE, SPENT};
 use crate::field::put32;
+use crate::file::file_of_set;
 use crate::histories::{Call, Generator, Mix, Player, Set, States, Watch};
-use crate::key::parts;
+use crate::key::{parts, whole};
 use crate::layout::{zero, LAST_NUMBER, PAGE, PAGES_MOST};
 use crate::tree::Tree;
 
@@ -72,6 +73,9 @@ fn step(both: &mut Both, player: &mut Player, call: &Call, counters: &mut Counte
             both.lookup(key, counters)?;
         }
         Call::Batch { ref items } => {
+            let set = items.iter().copied().filter(|&(key, _)| whole(key));
+            let mut copy = both.clone();
+            copy.read_file(&file_of_set(&set.collect()), counters)?;
             for (item, &(key, record)) in both.batch(items, counters)?.iter().zip(items) {
                 player.answer = item.answer;
                 if item.answer == DONE {
@@ -188,6 +192,8 @@ fn misfit(mut both: Both, pages: usize, counters: &mut Counters) -> Alike<()> {
     both.insert(1, 1, counters)?;
     both.withdraw(1, counters)?;
     both.batch(&[(1, 1)], counters)?;
+    both.read_file(&[0; 12], counters)?;
+    both.read_file(&[0; 11], counters)?;
     both.lookup(1, counters)?;
     both.newest(0, 1, counters)?;
     both.has_any(0, 1, counters)?;

@@ -2,8 +2,10 @@
 
 use super::{Alike, Both, Counters};
 use crate::answer::DONE;
+use crate::bytes::files::spoilt;
 use crate::bytes::tables::arbitrary;
 use crate::bytes::{some_key, some_meter};
+use crate::key::whole;
 use crate::rng::Rng;
 
 /// Some calls, one after another, on the table of this seed.
@@ -20,7 +22,7 @@ pub fn table(seed: u64, counters: &mut Counters) -> Alike<()> {
 
 fn call(both: &mut Both, rng: &Rng, counters: &mut Counters) -> Alike<u32> {
     let key = some_key(&both.own, rng);
-    match rng.below(38) {
+    match rng.below(41) {
         0 => both.clone().format(counters),
         1..=2 => {
             let session = both.own.session;
@@ -62,6 +64,11 @@ fn call(both: &mut Both, rng: &Rng, counters: &mut Counters) -> Alike<u32> {
             let keys = (0..length).map(|_| some_key(&both.own, rng));
             let items: Vec<(u64, u32)> = keys.map(|key| (key, !key as u32)).collect();
             both.batch(&items, counters).map(|_| DONE)
+        }
+        31..=34 => {
+            let keys = (0..rng.one_of(&[0, 1, 3, 12, 60])).map(|_| some_key(&both.own, rng));
+            let set = keys.filter(|&key| whole(key)).map(|key| (key, !key as u32));
+            both.read_file(&spoilt(&set.collect(), rng), counters)
         }
         _ => both.insert(key, rng.next() as u32, counters),
     }

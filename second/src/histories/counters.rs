@@ -99,6 +99,8 @@ const NAMED: &[&str] = &[
     "batches with a present key",
     "batches with an item tried after a syncfirst",
     "batches with an item done after a full",
+    "files carried over whole",
+    "files carried over in part",
 ];
 
 /// Reached only where a page that has just been split off, or a new root, has room: not where

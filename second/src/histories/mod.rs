@@ -1,6 +1,7 @@
 //! Random histories of calls and crashes, with all of demand 3 checked on the way.
 
 mod call;
+mod carried;
 mod counters;
 mod delivery;
 mod generator;

@@ -75,7 +75,11 @@ impl Player {
         match next.call {
             Call::Insert { key, record } => self.insert(key, record, counters)?,
             Call::Withdraw { key } => self.withdraw(key, counters)?,
-            Call::Batch { ref items } => self.batch(items, counters)?,
+            Call::Batch { ref items } => {
+                self.deliver_file(items)?;
+                self.carry(counters)?;
+                self.batch(items, counters)?;
+            }
             Call::Lookup { key } => self.lookup(key, counters)?,
             Call::Newest { model, serial } => self.newest(model, serial, counters)?,
             Call::HasAny { model, serial } => self.has_any(model, serial, counters)?,
