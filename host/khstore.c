@@ -382,8 +382,7 @@ KhTold khs_write_file(KhStore *store, uint8_t *out, size_t room, size_t *length)
     *length = 0;
     if (!store->open)
         return in_trouble(KHS_CLOSED);
-    KhWritten written = kh_write_file(TABLES(store), store->session, out, room);
-    store->session = written.session;
+    KhLeanWritten written = kh_lean_write_file(LEAN(store), out, room);
     *length = (size_t)written.length;
     return walked(written.answer, written.mended, written.reason);
 }

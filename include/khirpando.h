@@ -372,6 +372,13 @@ typedef struct {
     uint32_t reason;
 } KhLeanListed;
 
+typedef struct {
+    uint32_t answer;
+    uint64_t length;
+    uint32_t mended;
+    uint32_t reason;
+} KhLeanWritten;
+
 /* As kh_lookup. Answers 0, 1, 2, 3, 4. */
 KH_KEEP KhLeanLooked kh_lean_lookup(uint8_t *working, size_t working_len, const uint8_t *stable, size_t stable_len,
                                     uint16_t n, uint32_t c, uint16_t model, uint32_t serial, uint16_t issue);
@@ -388,6 +395,10 @@ KH_KEEP KhLeanAny kh_lean_has_any(uint8_t *working, size_t working_len, const ui
 KH_KEEP KhLeanListed kh_lean_list(uint8_t *working, size_t working_len, const uint8_t *stable, size_t stable_len,
                                   uint16_t n, uint32_t c, uint64_t start, uint64_t *keys, size_t keys_len,
                                   uint32_t *records, size_t records_len);
+
+/* As kh_write_file. Answers 0, 1, 3, 9. */
+KH_KEEP KhLeanWritten kh_lean_write_file(uint8_t *working, size_t working_len, const uint8_t *stable,
+                                         size_t stable_len, uint16_t n, uint32_t c, uint8_t *out, size_t out_len);
 
 #ifdef __cplusplus
 }

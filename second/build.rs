@@ -24,6 +24,7 @@ const NAMES: &[&str] = &[
     "kh_lean_newest",
     "kh_lean_has_any",
     "kh_lean_list",
+    "kh_lean_write_file",
 ];
 
 fn main() {

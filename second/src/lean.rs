@@ -33,6 +33,13 @@ struct Listed {
     report: Report,
 }
 
+#[repr(C)]
+struct Written {
+    answer: u32,
+    length: u64,
+    report: Report,
+}
+
 // include/khirpando.h says the same.
 #[rustfmt::skip]
 extern "C" {
@@ -44,6 +51,8 @@ extern "C" {
                        model: u16, serial: u32) -> Any;
     fn kh_lean_list(working: *mut u8, w: usize, stable: *const u8, s: usize, n: u16, c: u32,
                     start: u64, keys: *mut u64, k: usize, records: *mut u32, r: usize) -> Listed;
+    fn kh_lean_write_file(working: *mut u8, w: usize, stable: *const u8, s: usize, n: u16, c: u32,
+                          out: *mut u8, o: usize) -> Written;
 }
 
 #[derive(Clone)]
@@ -85,6 +94,11 @@ impl Lean {
         let (keys, records) = (keys.as_mut_ptr(), records.as_mut_ptr());
         let listed = lean!(kh_lean_list, self, start, keys, k, records, r);
         (listed.answer, listed.count)
+    }
+
+    pub fn write_file(&mut self, out: &mut [u8]) -> (u32, u64) {
+        let written = lean!(kh_lean_write_file, self, out.as_mut_ptr(), out.len());
+        (written.answer, written.length)
     }
 
     pub fn insert(&mut self, key: u64, record: u32) -> u32 {

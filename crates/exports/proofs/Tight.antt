@@ -121,3 +121,12 @@ kh-lean-list-tight κs a pre z z′ l l′ p q =
       (λ i. record { answer = e i .back .answer; count = e i .back .count; mended = e i .back .mended; reason = e i .back .reason }),
       (λ i. (e i .working, (l .1 .0, (l .1 .1 .0, (l .1 .1 .1 .0, (l .1 .1 .1 .1 .0, (e i .keys, (e i .records, rest)))))))),
     )
+
+pub kh-lean-write-file-tight : Tight this.lean.kh_lean_write_file.Kinds.ps this.lean.kh_lean_write_file.Kinds.r this.lean.kh_lean_write_file.Reads.Pre this.lean.kh_lean_write_file.Reads.Post
+kh-lean-write-file-tight κs a pre z z′ l l′ p q =
+    let s : Session = begun (a .1 .1 .0) (a .1 .1 .1 .0) 0 [] [] in
+    let e = p s refl refl ∙ sym (q s refl refl) in
+    let rest = l .1 .1 .1 .1 .1 in (
+      (λ i. record { answer = e i .back .answer; length = e i .back .length; mended = e i .back .mended; reason = e i .back .reason }),
+      (λ i. (e i .working, (l .1 .0, (l .1 .1 .0, (l .1 .1 .1 .0, (e i .out, rest)))))),
+    )

@@ -4,10 +4,12 @@ use Rattle.exports.specs.declared.KhLooked.{KhLooked}
 use Rattle.exports.specs.declared.KhNewest.{KhNewest}
 use Rattle.exports.specs.declared.KhAny.{KhAny}
 use Rattle.exports.specs.declared.KhListed.{KhListed}
+use Rattle.exports.specs.declared.KhWritten.{KhWritten}
 use Rattle.exports.specs.declared.lean.KhLeanLooked.{KhLeanLooked}
 use Rattle.exports.specs.declared.lean.KhLeanNewest.{KhLeanNewest}
 use Rattle.exports.specs.declared.lean.KhLeanAny.{KhLeanAny}
 use Rattle.exports.specs.declared.lean.KhLeanListed.{KhLeanListed}
+use Rattle.exports.specs.declared.lean.KhLeanWritten.{KhLeanWritten}
 
 abbrev pub looked : Session → KhLeanLooked → KhLooked
 looked s r = record { answer = r .answer; «record» = r .«record»; mended = r .mended; reason = r .reason; session = s }
@@ -27,3 +29,6 @@ any s r = record { answer = r .answer; any = r .any; mended = r .mended; reason 
 
 abbrev pub listed : Session → KhLeanListed → KhListed
 listed s r = record { answer = r .answer; count = r .count; mended = r .mended; reason = r .reason; session = s }
+
+abbrev pub written : Session → KhLeanWritten → KhWritten
+written s r = record { answer = r .answer; length = r .length; mended = r .mended; reason = r .reason; session = s }

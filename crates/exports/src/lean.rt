@@ -6,10 +6,11 @@
 // Each contract is that of the call: for every session with these numbers, what is handed back, with that session beside
 // it, and every byte lent are the rule's.
 //
-// Below stand `store`, `numbers` and `rules`.
+// Below stand `store`, `numbers`, `write` for the numbers of its answers, and `rules`.
 ghost use mathlib.Core.Path.{_≡_};
 ghost use Rattle.rules.specs.Reports.{lookupReported, newestReported, hasAnyReported, listReported};
 ghost use Rattle.rules.specs.declared.Session.{Session};
+ghost use Rattle.write.specs.WriteFile.{writeReported};
 ghost use Rattle.exports.specs.Leaves as C;
 ghost use Rattle.exports.specs.Lean;
 
@@ -42,6 +43,14 @@ pub struct KhLeanAny {
 pub struct KhLeanListed {
     pub answer: u32,
     pub count: u64,
+    pub mended: u32,
+    pub reason: u32,
+}
+
+#[repr(C)]
+pub struct KhLeanWritten {
+    pub answer: u32,
+    pub length: u64,
     pub mended: u32,
     pub reason: u32,
 }
@@ -141,6 +150,30 @@ pub extern "C" fn kh_lean_list(
     KhLeanListed {
         answer: numbers::listed(answer),
         count: numbers::listed_count(answer),
+        mended: report.mended,
+        reason: numbers::reason(reason),
+    }
+}
+
+#[no_mangle]
+pub extern "C" fn kh_lean_write_file(
+    working: &mut [u8],
+    stable: &[u8],
+    n: u16,
+    c: u32,
+    out: &mut [u8],
+) -> KhLeanWritten
+    ensures { λ r. ⌜ ((s : Session) → s .n ≡ n → s .c ≡ c
+        → C.writing (Lean.written s r) (now (working .exit)) (now (stable .entry)) (now (out .exit))
+        ≡ C.written (writeReported (now (working .entry)) (now (stable .entry)) s (now (out .entry)))) ⌝ }
+{
+    let left = store::lean_write_file(working, stable, n, c, out);
+    let answer = left.answer;
+    let report = left.report;
+    let reason = report.reason;
+    KhLeanWritten {
+        answer: write::number_of(answer),
+        length: write::length_of(answer),
         mended: report.mended,
         reason: numbers::reason(reason),
     }

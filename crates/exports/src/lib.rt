@@ -336,7 +336,7 @@ pub extern "C" fn kh_write_file(
     ensures { λ r. ⌜ C.writing r (now (working .exit)) (now (stable .entry)) (now (out .exit))
         ≡ C.written (writeReported (now (working .entry)) (now (stable .entry)) session (now (out .entry))) ⌝ }
 {
-    let left = store::write_file(working, stable, session, out);
+    let left = store::lean_write_file(working, stable, session.n, session.c, out);
     let answer = left.answer;
     let report = left.report;
     let reason = report.reason;

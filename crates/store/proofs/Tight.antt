@@ -114,3 +114,12 @@ lean-list-tight κs a pre z z′ l l′ p q =
       (λ i. record { answer = e i .left .answer; report = e i .report }),
       (λ i. (e i .left .working, (l .1 .0, (l .1 .1 .0, (l .1 .1 .1 .0, (l .1 .1 .1 .1 .0, (e i .left .keys, (e i .left .records, rest)))))))),
     )
+
+pub lean-write-file-tight : Tight this.lean_write_file.Kinds.ps this.lean_write_file.Kinds.r this.lean_write_file.Reads.Pre this.lean_write_file.Reads.Post
+lean-write-file-tight κs a pre z z′ l l′ p q =
+    let s : Session = begun (a .1 .1 .0) (a .1 .1 .1 .0) 0 [] [] in
+    let e = p s refl refl ∙ sym (q s refl refl) in
+    let rest = l .1 .1 .1 .1 .1 in (
+      (λ i. record { answer = e i .left .answer; report = e i .report }),
+      (λ i. (e i .left .working, (l .1 .0, (l .1 .1 .0, (l .1 .1 .1 .0, (e i .left .out, rest)))))),
+    )

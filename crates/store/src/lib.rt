@@ -283,3 +283,18 @@ pub fn lean_list(
 {
     list::lean(working, stable, n, c, start, keys, records)
 }
+
+// As write_file, by a session's numbers.
+pub fn lean_write_file(
+    working: &mut [u8],
+    stable: &[u8],
+    n: u16,
+    c: u32,
+    out: &mut [u8],
+) -> write::Sought
+    ensures { λ r. ⌜ ((s : Session) → s .n ≡ n → s .c ≡ c
+        → Calls.leaving (Calls.beside s r) (now (working .exit)) (now (stable .entry)) (now (out .exit))
+        ≡ writeReported (now (working .entry)) (now (stable .entry)) s (now (out .entry))) ⌝ }
+{
+    write::lean(working, stable, n, c, out)
+}

@@ -37,7 +37,7 @@ handed s t x = record { left = left s t x; report = x .report }
 abbrev pub refused : Written → Report → List ℕ → List ℕ → Told
 refused answer y w out = record { answer = answer; table = w; out = out; report = y }
 
-module _ (w t : List ℕ) (s : Session) (out : List ℕ) where
+module _ (w t : List ℕ) (s : Session) {n c : ℕ} (same-n : s .n ≡ n) (same-c : s .c ≡ c) (out : List ℕ) where
   -- what the walk reports
   along : Report
   along = walkOf (s .n) (s .c) everything w .report
@@ -51,12 +51,19 @@ module _ (w t : List ℕ) (s : Session) (out : List ℕ) where
   bad-length y q h = hands (refused Written.Length y w out) (rw (writeFile, h)) (q ∙ sym (tested-length s w t true along h))
 
   module _ (h : lengthsFor s w t ≡ true) where
-    pub bad-zero : (y : Report) → y ≡ nothing → fit0 (s .n) w ≡ false → handed s t (refused Written.Damaged y w out) ≡ writeReported w t s out
+    fit0-same : {b : Bool} → fit0 n w ≡ b → fit0 (s .n) w ≡ b
+    fit0-same z = ap (λ (m : ℕ). fit0 m w) same-n ∙ z
+
+    pub bad-zero : (y : Report) → y ≡ nothing → fit0 n w ≡ false → handed s t (refused Written.Damaged y w out) ≡ writeReported w t s out
     unfolding writeFile writeRefused
-    bad-zero y q z =
+    bad-zero y q z′ =
+        let z = fit0-same z′ in
         hands (refused Written.Damaged y w out) (rw (writeFile, h, z)) (q ∙ sym (tested-zero s w t true along h refl z))
 
-    module _ (z : fit0 (s .n) w ≡ true) where
+    module _ (z′ : fit0 n w ≡ true) where
+      z : fit0 (s .n) w ≡ true
+      z = fit0-same z′
+
       goes : writeWalked s t (walkOf (s .n) (s .c) everything w) out ≡ writeFile w t s out
       unfolding writeFile
       goes = rw (writeFile, h, z)
@@ -79,10 +86,11 @@ module _ (w t : List ℕ) (s : Session) (out : List ℕ) where
           go true p true q = rw (told, p, q)
           go true p false q = rw (told, p, q)
 
-      pub answers : (u next : List ℕ) (r : Sought) → telling r u next ≡ told out (walkOf (s .n) (s .c) everything w)
+      pub answers : (u next : List ℕ) (r : Sought) → telling r u next ≡ told out (walkOf n c everything w)
           → handed s t (telling r u next) ≡ writeReported w t s out
       unfolding along
       answers u next r f =
           let v = walkOf (s .n) (s .c) everything w in
-          hands (telling r u next) (ap (left s t) f ∙ (walks v ∙ goes))
-          (ap (λ (x : Told). x .report) f ∙ (reports v ∙ sym (tested-done s w t true along h refl z)))
+          let e = f ∙ sym (λ i. told out (walkOf (same-n i) (same-c i) everything w)) in
+          hands (telling r u next) (ap (left s t) e ∙ (walks v ∙ goes))
+          (ap (λ (x : Told). x .report) e ∙ (reports v ∙ sym (tested-done s w t true along h refl z)))

@@ -7,6 +7,7 @@ use lib.ListN.{length}
 use Rattle.rules.specs.Page.{over}
 use Rattle.rules.specs.Report.{Reported}
 use Rattle.rules.specs.Walk.{Walked}
+use Rattle.rules.specs.declared.Session.{Session}
 use Rattle.rules.specs.declared.Report.{Report}
 use Rattle.exchange.specs.Written.{fileOf}
 use Rattle.counts.specs.Tally.{noTally}
@@ -16,6 +17,10 @@ use Rattle.write.specs.WriteFile.{WriteLeft}
 use Rattle.write.specs.declared.Written.{Written}
 use Rattle.write.specs.declared.Writing.{Writing}
 use Rattle.write.specs.declared.Sought.{Sought}
+
+-- with a session beside it
+abbrev pub beside : Session → Sought → Writing
+beside s r = record { answer = r .answer; report = r .report; session = s }
 
 -- the whole of it
 abbrev pub leaving : Writing → List ℕ → List ℕ → List ℕ → Reported WriteLeft

@@ -6,6 +6,9 @@
 // output as it is, and each section stands behind its count: so the dry walk counts models, meters and certificates first,
 // and one walk then fills the three sections. Where the output is not touched the pages are only mended.
 //
+// `lean` is the same for callers who keep the session where it is: it takes the session's two numbers alone, and for every
+// session that has them it does what `write_file` does.
+//
 // Below stand `tables`, which tests lengths, `counts`, which counts, `sections`, which writes a leaf's certificates,
 // `fill`, whose walk only mends, `leaves`, which steps from leaf to leaf, and `exchange`, the form of the file.
 use counts::everything;
@@ -25,11 +28,12 @@ ghost use lib.ListN.{length};
 ghost use Rattle.rules.specs.Layout.{pageSize, mostPages, lastKey};
 ghost use Rattle.rules.specs.Table.{fit0};
 ghost use Rattle.rules.specs.Walk.{walkOf};
+ghost use Rattle.rules.specs.declared.Session.{Session};
 ghost use Rattle.fill.specs.Fills.{HasRoom};
 ghost use Rattle.counts.specs.Tally.{everything, noTally, countedAll};
 ghost use Rattle.write.specs.WriteFile.{writeReported, writtenNo, writtenLength};
 ghost use Rattle.sections.specs.Puts.{Lies};
-ghost use Rattle.write.specs.Calls.{leaving, telling, told, wrote, wroteIn};
+ghost use Rattle.write.specs.Calls.{beside, leaving, telling, told, wrote, wroteIn};
 
 // The file's length, or why there is none.
 pub enum Written {
@@ -132,26 +136,33 @@ fn look(t: &mut [u8], n: usize, c: u32, out: &mut [u8]) -> Sought
     }
 }
 
+// The file by a session's numbers.
+pub fn lean(working: &mut [u8], stable: &[u8], n: u16, c: u32, out: &mut [u8]) -> Sought
+    ensures { λ r. ⌜ ((s : Session) → s .n ≡ n → s .c ≡ c
+        → leaving (beside s r) (now (working .exit)) (now (stable .entry)) (now (out .exit))
+        ≡ writeReported (now (working .entry)) (now (stable .entry)) s (now (out .entry))) ⌝ }
+{
+    if !tables::lengths_for(n, working, stable) {
+        return Sought {
+            answer: Written::Length,
+            report: Report::nothing(),
+        };
+    }
+    let pages = n as usize;
+    if !head::fit0(working, pages) {
+        return Sought {
+            answer: Written::Damaged,
+            report: Report::nothing(),
+        };
+    }
+    look(working, pages, c, out)
+}
+
 pub fn write_file(working: &mut [u8], stable: &[u8], session: Session, out: &mut [u8]) -> Writing
     ensures { λ r. ⌜ leaving r (now (working .exit)) (now (stable .entry)) (now (out .exit))
         ≡ writeReported (now (working .entry)) (now (stable .entry)) session (now (out .entry)) ⌝ }
 {
-    if !tables::lengths_for(session.n, working, stable) {
-        return Writing {
-            answer: Written::Length,
-            report: Report::nothing(),
-            session,
-        };
-    }
-    let n = session.n as usize;
-    if !head::fit0(working, n) {
-        return Writing {
-            answer: Written::Damaged,
-            report: Report::nothing(),
-            session,
-        };
-    }
-    let sought = look(working, n, session.c, out);
+    let sought = lean(working, stable, session.n, session.c, out);
     let answer = sought.answer;
     let report = sought.report;
     Writing {

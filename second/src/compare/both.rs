@@ -193,10 +193,13 @@ impl Both {
     /// An output of so many bytes, with the same marks in each.
     pub fn write_file(&mut self, room: usize, counters: &mut Counters) -> Alike<u32> {
         let marked: Vec<u8> = (0..room).map(|place| place as u8 ^ 0xA5).collect();
-        let (mut own, mut proved) = (marked.clone(), marked);
+        let (mut own, mut proved, mut leanly) = (marked.clone(), marked.clone(), marked);
+        let mut lean = Lean(self.proved.clone());
         let (answer, length) = self.own.write_file(&mut own);
         let written = self.proved.write_file(&mut proved);
-        if own != proved {
+        let told = lean.write_file(&mut leanly);
+        self.as_lean("write_file", &written, &told, &lean)?;
+        if own != proved || own != leanly {
             return Err(format!("write_file into {room} bytes: another output"));
         }
         let own = (answer, length as u64);

@@ -1,11 +1,13 @@
--- `exports::kh_write_file`: what the store's call leaves, with the answer as a number and the session as it came. Assumes nothing.
-use Rattle.exports.proofs.Reading.{written-same}
+-- `exports::kh_write_file`: what the store's lean call leaves, with the answer as a number and the session as it came.
+-- Assumes nothing.
+use mathlib.Core.Path.{refl, ap}
+use Rattle.exports.specs.Leaves as C
 use borrow.Author.Needs.{needs}
 use Rattle.exports.proofs.kh_write_file.Statement.{statement}
 use Rattle.exports.proofs.kh_write_file.Tie as tie
 
-write-file-requires : tie.Need-write-file-requires
-write-file-requires c κs = search needs
+lean-write-file-requires : tie.Need-lean-write-file-requires
+lean-write-file-requires c κs = search needs
 
 number-of-requires : tie.Need-number-of-requires
 number-of-requires c κs = search needs
@@ -23,13 +25,16 @@ same-length-2 : tie.Need-same-length-2
 same-length-2 c = search needs
 
 returns : tie.Need-returns
-returns c = rw (c .before .before .number-of .ensures, c .before .length-of .ensures, c .reason .ensures) (written-same (c .before .before .before .before .before .before .before .before .before .before .before .before .before .before .args .working .now) (c .before .before .before .before .before .before .before .before .before .before .before .before .before .before .args .stable .now) (c .before .before .before .before .before .before .before .before .before .before .before .before .before .before .args .session) (c .before .before .before .before .before .before .before .before .before .before .before .before .before .before .args .out .now) (c .before .before .before .before .before .before .before .before .write-file .result) (c .before .before .before .before .before .before .before .before .write-file .last .0) (c .before .before .before .before .before .before .before .before .write-file .last .1 .1 .1 .0) (c .before .before .before .before .before .before .before .before .write-file .ensures))
+returns c =
+    let args = c .before .before .before .before .before .before .before .before .before .before .before .before .before .before .args in
+    let left = c .before .before .before .before .before .before .before .before .lean-write-file in
+    rw (c .before .before .number-of .ensures, c .before .length-of .ensures, c .reason .ensures) (ap C.written (left .ensures (args .session) refl refl))
 
 pub kh-write-file-spec : {M : Type 1} → statement M
 kh-write-file-spec =
     tie.close
     (tie.spec
-    write-file-requires
+    lean-write-file-requires
     number-of-requires
     length-of-requires
     reason-requires
