@@ -25,7 +25,7 @@ fn noticed(rule: Rule, watch: Watch) -> Option<Failure> {
 
 #[test]
 fn each_is_noticed() {
-    for rule in RULES.into_iter().chain(LATER) {
+    for rule in RULES.iter().chain(LATER).copied() {
         assert!(
             noticed(rule, Watch::Invariants).is_some(),
             "{rule:?} goes unnoticed"

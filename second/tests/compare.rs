@@ -25,7 +25,7 @@ fn each_broken_rule_is_told_of() {
     use second::compare::{run, Counters};
     use std::time::{Duration, Instant};
 
-    for rule in RULES.into_iter().chain(LATER) {
+    for rule in RULES.iter().chain(LATER).copied() {
         break_rule(Some(rule));
         let start = Instant::now();
         let told = run(1, Duration::from_secs(60), &mut Counters::default());

@@ -11,7 +11,7 @@ const USAGE: &str = "usage: histories SEED|fresh SECONDS [demand] [RULE to break
 #[cfg(feature = "broken")]
 fn break_rule(name: &str) -> bool {
     use second::broken::{break_rule, LATER, RULES};
-    let mut rules = RULES.into_iter().chain(LATER);
+    let mut rules = RULES.iter().chain(LATER).copied();
     let rule = rules.find(|rule| format!("{rule:?}") == name);
     break_rule(rule);
     rule.is_some()
