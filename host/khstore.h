@@ -80,8 +80,8 @@ KH_KEEP KhTold khs_create(KhStore *store, const char *path, unsigned pages);
 /* Opens the store in a file, after a crash too. Answers 0, 3, 8. */
 KH_KEEP KhTold khs_open(KhStore *store, const char *path);
 
-/* As kh_insert, kh_withdraw, kh_batch, kh_read_file, kh_lookup, kh_newest, kh_has_any, kh_list and kh_write_file, in memory. What they find is 0 if
- * the answer is not KH_DONE; `place` is told with KH_FILE. */
+/* As kh_insert, kh_withdraw, kh_batch, kh_read_file, kh_lookup, kh_newest, kh_has_any, kh_list and kh_write_file, in
+ * memory. What they find is 0 if the answer is not KH_DONE; `place` is told with KH_FILE. */
 KH_KEEP KhTold khs_insert(KhStore *store, uint16_t model, uint32_t serial, uint16_t issue, uint32_t record);
 KH_KEEP KhTold khs_withdraw(KhStore *store, uint16_t model, uint32_t serial, uint16_t issue);
 KH_KEEP KhTold khs_batch(KhStore *store, KhItem *items, size_t count);

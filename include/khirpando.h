@@ -100,7 +100,8 @@ extern "C" {
 /* ---- Answers --------------------------------------------------------------------------------------------------------
  *
  * Where several would do, the lowest is given, but KH_FILE comes right after KH_LENGTH. With any but KH_DONE the numbers
- * beside it are 0, but for the report of mended pages and the place of KH_FILE; the session is as it was handed in, and nothing has changed but working pages that the call mended on its way. */
+ * beside it are 0, but for the report of mended pages and the place of KH_FILE; the session is as it was handed in, and
+ * nothing has changed but working pages that the call mended on its way. */
 enum {
     KH_DONE = 0,
     /* A table's length is wrong, the two differ, or the session is another table's. Lend the tables that were opened,

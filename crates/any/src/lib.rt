@@ -1,12 +1,12 @@
 // Has-any: whether a meter has a certificate, a provisional one too.
 //
-// `has_any` asks nothing and tests everything, in document 01's order: lengths, model and serial, page 0, then leaf after
-// leaf of the meter, up to the first that holds a certificate of it. Answer, report, session and every byte lent are those
-// of the rules' `hasAnyReported`; what was mended on the way stays mended and is reported, also behind a refusal. A leaf
-// beyond the first certificate is not looked at, so its damage is not told.
+// `has_any` asks nothing and tests everything, in document 01's order: lengths, model and serial, page 0, then leaf
+// after leaf of the meter, up to the first that holds a certificate of it. Answer, report, session and every byte lent
+// are those of the rules' `hasAnyReported`; what was mended on the way stays mended and is reported, also behind a
+// refusal. A leaf beyond the first certificate is not looked at, so its damage is not told.
 //
-// `lean` is the same for callers who keep the session where it is: it takes the session's two numbers alone, and for every
-// session that has them it does what `has_any` does.
+// `lean` is the same for callers who keep the session where it is: it takes the session's two numbers alone, and for
+// every session that has them it does what `has_any` does.
 //
 // Of each leaf one key is looked at, the last that is not above the meter's keys. The others are read in the test of the
 // page alone.

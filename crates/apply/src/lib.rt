@@ -1,11 +1,11 @@
 // The way of an insert split from the top down, and the entry put in its leaf: the rules' `split` and what follows it.
 //
-// `apply` leaves the table that the rules' `insertDone` leaves, and `marked` the session. The two go apart, and the session is
-// changed once, at the end: a session that goes through the splits by value would lie on the stack at each step. A page that
-// is full is split after the page above it, so that one has room; the page that then stands at the end of the way has room
-// for the new entry. What is asked for here, that the way stands, that its leaf has not the key and that pages enough are
-// free, `plan` and the walk before it have found out; specs/ says it in the rules' words. The laws in proofs/ hold for any
-// table and any session.
+// `apply` leaves the table that the rules' `insertDone` leaves, and `marked` the session. The two go apart, and the
+// session is changed once, at the end: a session that goes through the splits by value would lie on the stack at each
+// step. A page that is full is split after the page above it, so that one has room; the page that then stands at the
+// end of the way has room for the new entry. What is asked for here, that the way stands, that its leaf has not the key
+// and that pages enough are free, `plan` and the walk before it have found out; specs/ says it in the rules' words. The
+// laws in proofs/ hold for any table and any session.
 //
 // Below stand `split`, which splits one page, and `edit`, which puts the entry.
 ghost use mathlib.Core.Path.{_≡_};

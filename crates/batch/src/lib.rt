@@ -1,11 +1,11 @@
 // A batch: a delivery in one call.
 //
-// `batch` asks nothing. It tests lengths once; then each item, in list order, is inserted into what the items before it left, and
-// gets its answer's number, also after an item that was refused. Answer, session, report, every byte lent and every item are
-// those of the rules' `batch`.
+// `batch` asks nothing. It tests lengths once; then each item, in list order, is inserted into what the items before it
+// left, and gets its answer's number, also after an item that was refused. Answer, session, report, every byte lent and
+// every item are those of the rules' `batch`.
 //
-// A slice of structs is proved by a walk of the code by hand, so `batch` is no more than a loop over `turn`, which takes one item by
-// value and is covered.
+// A slice of structs is proved by a walk of the code by hand, so `batch` is no more than a loop over `turn`, which
+// takes one item by value and is covered.
 //
 // Below stand `tables`, which tests lengths, `insert`, and `numbers`.
 use rules::Batched;

@@ -1,8 +1,8 @@
 // How many models, meters and certificates a store holds, counted before a byte is written.
 //
-// Certificates come in key order, so one is under another model or meter than the one before it exactly if it is the first
-// of that model or meter: a tally keeps three numbers and the last key. `count_of` is the dry walk over all keys; it tells
-// whether a walk would meet damage, and the tally of what it would find.
+// Certificates come in key order, so one is under another model or meter than the one before it exactly if it is the
+// first of that model or meter: a tally keeps three numbers and the last key. `count_of` is the dry walk over all keys;
+// it tells whether a walk would meet damage, and the tally of what it would find.
 //
 // Below stand `dry`, which steps from leaf to leaf, and `head`, which reads entries.
 use dry::Step;

@@ -1,9 +1,9 @@
-// The entries of a page as runs of bytes: where they start, their size, the spot of a key among them, and runs copied, moved up and set to
-// zero.
+// The entries of a page as runs of bytes: where they start, their size, the spot of a key among them, and runs copied,
+// moved up and set to zero.
 //
-// A leaf's entries and an inner page's differ in size and in where they start alone here: each starts with its key. The spot of a key is the
-// number of entries before the first one with a greater key. Every function that writes says which bytes it sets, and
-// all others stay.
+// A leaf's entries and an inner page's differ in size and in where they start alone here: each starts with its key. The
+// spot of a key is the number of entries before the first one with a greater key. Every function that writes says which
+// bytes it sets, and all others stay.
 //
 // Below stand `fields`, numbers in bytes, and `rules`, which says what the bytes of a page mean.
 

@@ -1,9 +1,10 @@
 // The exchange file: its form, and its reader's test.
 //
 // specs/ says which file a set of certificates has (K4), how a file of any bytes is judged (K9), which certificates an
-// accepted one tells of, and what the call leaves that reads it into a store. proofs/ shows that the accepted files are exactly those of sets of certificates.
-// `check` judges a file where it lies, in one pass and without a copy of any part; `cert_at` then finds each certificate of an
-// accepted file. The `put` functions write an item into a lent output, for the call that writes a store's file.
+// accepted one tells of, and what the call leaves that reads it into a store. proofs/ shows that the accepted files are
+// exactly those of sets of certificates. `check` judges a file where it lies, in one pass and without a copy of any
+// part; `cert_at` then finds each certificate of an accepted file. The `put` functions write an item into a lent
+// output, for the call that writes a store's file.
 //
 // Below stand `fields`, numbers in bytes, and `rules`.
 use fields::get16;
@@ -54,8 +55,8 @@ pub struct Certificate {
     pub record: u32,
 }
 
-// The answers of the call that reads a file into a store: how many certificates were done, or the byte where the first bad item
-// begins.
+// The answers of the call that reads a file into a store: how many certificates were done, or the byte where the first
+// bad item begins.
 pub enum Read {
     Done(u32),
     Length,
@@ -107,8 +108,8 @@ fn number_at(f: &[u8], s: Section, at: usize) -> u32
     }
 }
 
-// An item that is not cut off is not bad, by the one before it: `used` is one more than that one's place, `last` its number.
-// Its own place is the one before's, with a larger number, or the next.
+// An item that is not cut off is not bad, by the one before it: `used` is one more than that one's place, `last` its
+// number. Its own place is the one before's, with a larger number, or the next.
 fn follows(over: u32, used: u32, last: u32, place: u32, number: u32) -> bool
     ensures { λ r. ⌜ r ≡ follows over used last place number ⌝ }
 {

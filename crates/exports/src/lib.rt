@@ -6,11 +6,12 @@
 //
 // Each contract is one equation: what is handed back and every byte lent are the rule's, with its answer as a number.
 // Reading calls hand the session back from where it was handed in, which spares three copies of it: the rules say that
-// it comes back as it came. `lean` has them once more without it, by its numbers. `kh_insert` calls `insert` itself, which promises what `store`'s insert does: the
-// batch calls it too, so it is a function of its own, and through `store` a session would be copied once more.
+// it comes back as it came. `lean` has them once more without it, by its numbers. `kh_insert` calls `insert` itself,
+// which promises what `store`'s insert does: the batch calls it too, so it is a function of its own, and through
+// `store` a session would be copied once more.
 //
-// `kh_batch` is lent a slice of structs and so is proved by a walk of its code by hand: it hands its slices on and leaves the numbers
-// to `delivered`, which is covered.
+// `kh_batch` is lent a slice of structs and so is proved by a walk of its code by hand: it hands its slices on and
+// leaves the numbers to `delivered`, which is covered.
 //
 // Below stand `store`, `insert`, `numbers`, `write` and `read` for the numbers of their answers, and `rules`.
 mod lean;

@@ -1,11 +1,11 @@
 // What a list does with the leaves of its range, once it is known whether damage lies ahead: their certificates are
 // written into two lent lists, in key order, or the pages are only mended.
 //
-// `fill` leaves the table as the rules' `walkOf` leaves it. The certificates that the rules find stand in the lists from
-// the start on, their keys in one and their records in the other, and the places behind them stay. It asks that no
+// `fill` leaves the table as the rules' `walkOf` leaves it. The certificates that the rules find stand in the lists
+// from the start on, their keys in one and their records in the other, and the places behind them stay. It asks that no
 // damaged place lies ahead, which `dry` finds out before a place of the lists is written. `fill_known` does the same
-// where nothing is to be mended, over the steps of the dry walk, and `mend` goes to the end, or as far as the damage, and writes no list.
-// Each is one loop from leaf to leaf.
+// where nothing is to be mended, over the steps of the dry walk, and `mend` goes to the end, or as far as the damage,
+// and writes no list. Each is one loop from leaf to leaf.
 //
 // Below stand `leaves` and `dry`, which step from leaf to leaf, `seek`, which finds a key on a page, and `head`.
 use dry::Step;
@@ -221,8 +221,8 @@ pub fn fill(
     }
 }
 
-// The walk that only mends, to its end or up to the damaged place that lies ahead. There is room to the end, so nothing is
-// counted.
+// The walk that only mends, to its end or up to the damaged place that lies ahead. There is room to the end, so nothing
+// is counted.
 pub fn mend(t: &mut [u8], n: usize, c: u32, a: Asked) -> Report
     requires { ⌜ (length (now t) ≡ n * pageSize) × (fit0 n (now t) ≡ true) × (a .low ≤ a .high) × (a .high ≤ lastKey)
         × HasRoom a (walkOf n c a (now t)) ⌝ }

@@ -1,9 +1,9 @@
 // Insert: a certificate put under its key.
 //
 // `insert` asks nothing and tests everything, in document 01's order: lengths, the key's parts, page 0, the way of the
-// key, whether the key is there, whether a full page must wait for a sync, whether pages enough are free. Only then does
-// it count and write. Answer, session and every byte lent are those of the rules' `insert`; what the walk mended stays mended, also
-// behind a refusal.
+// key, whether the key is there, whether a full page must wait for a sync, whether pages enough are free. Only then
+// does it count and write. Answer, session and every byte lent are those of the rules' `insert`; what the walk mended
+// stays mended, also behind a refusal.
 //
 // Below stand `tables`, which tests lengths, `keys`, `way`, which walks, `lookup`, which finds a key in a leaf, `plan`,
 // which decides, and `apply`, which splits pages, puts the entry and has the marks.

@@ -1,13 +1,13 @@
 // List: the certificates from a start key upwards, written into two lent lists up to the shorter one.
 //
 // `list` asks nothing and tests everything, in document 01's order: lengths, page 0, then the walk. Answer, session,
-// every byte lent, both lists and the report of what was mended are those of the rules' `list`. A refused list changes neither list, and what was found
-// cannot be kept elsewhere, so damage is known before the first place is written: the dry walk goes first. Where it is
-// whole the lists are filled, without another test of any page if nothing is to be mended. Where it is not, the pages are
-// only mended, up to the damage, since mends made before a refusal stand.
+// every byte lent, both lists and the report of what was mended are those of the rules' `list`. A refused list changes
+// neither list, and what was found cannot be kept elsewhere, so damage is known before the first place is written: the
+// dry walk goes first. Where it is whole the lists are filled, without another test of any page if nothing is to be
+// mended. Where it is not, the pages are only mended, up to the damage, since mends made before a refusal stand.
 //
-// `lean` is the same for callers who keep the session where it is: it takes the session's two numbers alone, and for every
-// session that has them it does what `list` does.
+// `lean` is the same for callers who keep the session where it is: it takes the session's two numbers alone, and for
+// every session that has them it does what `list` does.
 //
 // Below stand `tables`, which tests lengths, `dry`, the dry walk, and `fill`, which fills and mends.
 use rules::Asked;

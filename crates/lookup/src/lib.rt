@@ -1,12 +1,12 @@
 // Lookup: the record of a certificate.
 //
 // `lookup` asks nothing and tests everything, in document 01's order: lengths, the key's parts, page 0, then the way of
-// the key. Answer, report, session and every byte lent are those of the rules' `lookupReported`; what the walk mended stays mended, also
-// behind a refusal. The record is that of an entry with the whole key: where the last key not above it is another one,
-// the certificate is missing.
+// the key. Answer, report, session and every byte lent are those of the rules' `lookupReported`; what the walk mended
+// stays mended, also behind a refusal. The record is that of an entry with the whole key: where the last key not above
+// it is another one, the certificate is missing.
 //
-// `lean` is the same for callers who keep the session where it is: it takes the session's two numbers alone, and for every
-// session that has them it does what `lookup` does.
+// `lean` is the same for callers who keep the session where it is: it takes the session's two numbers alone, and for
+// every session that has them it does what `lookup` does.
 //
 // The way ends with the key's spot in its leaf, which was guessed before the leaf was tested and confirmed after it, so
 // that a lookup searches no page a second time.

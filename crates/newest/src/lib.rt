@@ -1,12 +1,12 @@
 // Newest: the largest issue of a meter that is not provisional, and its record.
 //
-// `newest` asks nothing and tests everything, in document 01's order: lengths, model and serial, page 0, then every leaf
-// that can hold a certificate of the meter. Answer, report, session and every byte lent are those of the rules'
-// `newestReported`; what was mended on the way stays mended and is reported, also behind a refusal. A damaged page is never passed over: the newest certificate might
-// stand there.
+// `newest` asks nothing and tests everything, in document 01's order: lengths, model and serial, page 0, then every
+// leaf that can hold a certificate of the meter. Answer, report, session and every byte lent are those of the rules'
+// `newestReported`; what was mended on the way stays mended and is reported, also behind a refusal. A damaged page is
+// never passed over: the newest certificate might stand there.
 //
-// `lean` is the same for callers who keep the session where it is: it takes the session's two numbers alone, and for every
-// session that has them it does what `newest` does.
+// `lean` is the same for callers who keep the session where it is: it takes the session's two numbers alone, and for
+// every session that has them it does what `newest` does.
 //
 // Of each leaf one certificate is looked at, the last that is not above the meter's keys. The others are read in the test
 // of the page alone.

@@ -1,12 +1,13 @@
 // The exchange file read: its certificates go into a store.
 //
-// `read_file` asks nothing. It tests lengths, then the whole file, before anything is entered; then each certificate, in the
-// file's order, is inserted into what those before it left, also after one that was refused, and those that are done are
-// counted. Answer, session, report and every byte lent are those of the rule `readFile`.
+// `read_file` asks nothing. It tests lengths, then the whole file, before anything is entered; then each certificate,
+// in the file's order, is inserted into what those before it left, also after one that was refused, and those that are
+// done are counted. Answer, session, report and every byte lent are those of the rule `readFile`.
 //
 // The file is read where it lies: no list is made of it, and the loop is bounded by its certificates.
 //
-// Below stand `tables`, which tests lengths, `exchange`, which judges a file and finds its certificates, `insert`, and `numbers`.
+// Below stand `tables`, which tests lengths, `exchange`, which judges a file and finds its certificates, `insert`, and
+// `numbers`.
 use exchange::Certificate;
 use exchange::Checked;
 use exchange::Read;
@@ -120,7 +121,8 @@ pub fn read_file(working: &mut [u8], stable: &[u8], session: Session, file: &[u8
     }
 }
 
-// The numbers that C is given: the answer's, how many were done, and the byte place; the last two are 0 beside any other answer.
+// The numbers that C is given: the answer's, how many were done, and the byte place; the last two are 0 beside any
+// other answer.
 
 pub fn number(answer: Read) -> u32
     ensures { λ r. ⌜ r ≡ readNo answer ⌝ }

@@ -73,7 +73,8 @@ pub const ZERO: u16 = 9;
 
 pub const LEVELS: usize = 3;
 
-// How many entries a leaf and an inner page hold, and how many of them a lower half takes; an upper half takes all others.
+// How many entries a leaf and an inner page hold, and how many of them a lower half takes; an upper half takes all
+// others.
 pub const LEAF_ROOM: u16 = 40;
 
 pub const INNER_ROOM: u16 = 30;

@@ -1,8 +1,8 @@
 // The exchange file's bytes, certificate by certificate, in key order.
 //
-// Each of the three sections grows behind what stands in it: the first certificate of a model or meter writes that too, and
-// the places that items name are those of the last model and meter. proofs/File shows that the certificates of a set, put
-// one after the other behind the counts, leave the set's file over the output.
+// Each of the three sections grows behind what stands in it: the first certificate of a model or meter writes that too,
+// and the places that items name are those of the last model and meter. proofs/File shows that the certificates of a
+// set, put one after the other behind the counts, leave the set's file over the output.
 //
 // Below stand `exchange`, which writes one item, `counts`, which keeps the tally, `head` and `fields`.
 use counts::BY_METER;

@@ -1,9 +1,10 @@
 // The tree as it stands, walked over a table that stays as it is.
 //
 // `walk` notes which numbers the tree names as child and which are previous pages of lost entries, whether no place is
-// damaged and no child named twice, and how many certificates there are; `good` says whether an opening may go on. What is
-// noted is the rules' tree with its lists turned into marks and a number: `note`. The page walk and the entry walk call each other, as document 01 says: each entry of
-// an inner page is walked as a page one level lower. The level falls, and within a level the entries left.
+// damaged and no child named twice, and how many certificates there are; `good` says whether an opening may go on. What
+// is noted is the rules' tree with its lists turned into marks and a number: `note`. The page walk and the entry walk
+// call each other, as document 01 says: each entry of an inner page is walked as a page one level lower. The level
+// falls, and within a level the entries left.
 //
 // Below stand `sound`, which tests a page against a place, `head`, which reads headers and entries, and `rules`.
 use head::cert_key_at;

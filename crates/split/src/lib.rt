@@ -1,9 +1,10 @@
 // One page split in two, and a new root over an old one: the rules' `halve` and `grow`.
 //
 // Each leaves the table and names the page that now stands on the key's way exactly as the rules say, whatever the
-// session; `mark` has the session's part of a split, so that no session goes through the work on pages. A split goes downwards: the page above has room when a page is halved, because it was split before or was not
-// full. What is asked for here, that the page is full and the pages above and new ones are others, the caller knows
-// from the way that it walked and from the choice of free numbers.
+// session; `mark` has the session's part of a split, so that no session goes through the work on pages. A split goes
+// downwards: the page above has room when a page is halved, because it was split before or was not full. What is asked
+// for here, that the page is full and the pages above and new ones are others, the caller knows from the way that it
+// walked and from the choice of free numbers.
 //
 // Below stand `build`, which makes the new pages, `edit`, which makes one entry two, `head`, which names the new root
 // in page 0, and the session's own moves.

@@ -32,17 +32,18 @@
 //     Short      write_file: the output cannot hold the file
 //     Done, Found, Yes, No, Filled   none of these: the call did what it is for
 //
-// What a refused call leaves: the session as it was handed in, the stable table, the lists and the output as they were, and in the
-// working table nothing changed but pages that the call mended on its way; a mended page holds those entries of its previous
-// page that lie in its range. Pages reach the stable table in `sync`, in `format`, in one page write of `open`, and at a crash.
+// What a refused call leaves: the session as it was handed in, the stable table, the lists and the output as they were,
+// and in the working table nothing changed but pages that the call mended on its way; a mended page holds those entries
+// of its previous page that lie in its range. Pages reach the stable table in `sync`, in `format`, in one page write of
+// `open`, and at a crash.
 //
 // Each contract is one equation with the rule of that name: answer, session and every byte lent are the rule's. What
 // the rules promise of crashes is the theorem `demand3` of `rules`. Stack: no call holds more
 // than 2 KiB of local arrays; `tools/frames` reads off the object code what each function takes.
 //
-// Of a session a call that only reads needs two numbers, n and c, and hands it back as it came. Its lean form, `lean_lookup`
-// and so on, takes them instead and hands no session back. It promises of every session with these numbers what the call
-// promises: the same answer, report and bytes.
+// Of a session a call that only reads needs two numbers, n and c, and hands it back as it came. Its lean form,
+// `lean_lookup` and so on, takes them instead and hands no session back. It promises of every session with these
+// numbers what the call promises: the same answer, report and bytes.
 //
 // Below stand the calls, a crate each.
 ghost use mathlib.Core.Path.{_≡_};
@@ -129,7 +130,8 @@ pub fn withdraw(
     withdraw::withdraw(working, stable, session, model, serial, issue)
 }
 
-// Answers Done or Length. Done: each item has got the answer that an insert of it would give, as a number, 1 never among them.
+// Answers Done or Length. Done: each item has got the answer that an insert of it would give, as a number, 1 never
+// among them.
 pub fn batch(working: &mut [u8], stable: &[u8], session: Session, items: &mut [Item]) -> Batching
     ensures { λ r. ⌜ Turns.leaving r (now (working .exit)) (now (stable .entry)) (now (items .exit))
         ≡ Batch.batch (now (working .entry)) (now (stable .entry)) session (now (items .entry)) ⌝ }
@@ -137,7 +139,8 @@ pub fn batch(working: &mut [u8], stable: &[u8], session: Session, items: &mut [I
     batch::batch(working, stable, session, items)
 }
 
-// Answers Done with how many certificates of the file were done, Length, or File with the byte where its first bad item begins.
+// Answers Done with how many certificates of the file were done, Length, or File with the byte where its first bad item
+// begins.
 pub fn read_file(working: &mut [u8], stable: &[u8], session: Session, file: &[u8]) -> Reading
     ensures { λ r. ⌜ Readings.leaving r (now (working .exit)) (now (stable .entry))
         ≡ readFile (now (working .entry)) (now (stable .entry)) session (now (file .entry)) ⌝ }

@@ -1,13 +1,14 @@
 // The exchange file of a store, written into a lent output (K4).
 //
-// `write_file` asks nothing and tests everything, in the order of the answers: lengths, page 0, the walk, then the output's
-// length. Answer, session, every byte lent and the report of what was mended are those of specs/'s `writeFile`: the file of
-// what a listing from key 0 with room for all finds, with the tables as that listing leaves them. A refused call leaves the
-// output as it is, and each section stands behind its count: so the dry walk counts models, meters and certificates first,
-// and one walk then fills the three sections. Where the output is not touched the pages are only mended.
+// `write_file` asks nothing and tests everything, in the order of the answers: lengths, page 0, the walk, then the
+// output's length. Answer, session, every byte lent and the report of what was mended are those of specs/'s
+// `writeFile`: the file of what a listing from key 0 with room for all finds, with the tables as that listing leaves
+// them. A refused call leaves the output as it is, and each section stands behind its count: so the dry walk counts
+// models, meters and certificates first, and one walk then fills the three sections. Where the output is not touched
+// the pages are only mended.
 //
-// `lean` is the same for callers who keep the session where it is: it takes the session's two numbers alone, and for every
-// session that has them it does what `write_file` does.
+// `lean` is the same for callers who keep the session where it is: it takes the session's two numbers alone, and for
+// every session that has them it does what `write_file` does.
 //
 // Below stand `tables`, which tests lengths, `counts`, which counts, `sections`, which writes a leaf's certificates,
 // `fill`, whose walk only mends, `leaves`, which steps from leaf to leaf, and `exchange`, the form of the file.
