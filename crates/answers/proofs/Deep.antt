@@ -8,15 +8,15 @@ use mathlib.Core.Bool.{Bool, true, false}
 use mathlib.Core.List.Memᴰ
 use mathlib.Core.List.{List, [], ◌∷◌, Memᴰ}
 use mathlib.Core.Option.{some, none-ne-some, some-injective}
-use Rattle.rules.specs.Layout.{topKind, leafKind}
+use Rattle.rules.specs.Layout.{top_kind, leaf_kind}
 use Rattle.rules.specs.Test.{mem}
 use Rattle.rules.specs.Entry.{Child}
 use Rattle.rules.specs.Page.{View, Page, fresh}
 use Rattle.rules.specs.Table.{read}
-use Rattle.rules.specs.Place.{place_of, placesIn, highBefore, kids, fits, mendable, mended, show}
+use Rattle.rules.specs.Place.{place_of, places_in, high_before, kids, fits, mendable, mended, show}
 use Rattle.rules.specs.Enter.{mend, enter}
 use Rattle.rules.specs.declared.Place.{Place}
-use Rattle.rules.proofs.demand3.ways.Kids.{shown-kind, shown-want, leaf_kids}
+use Rattle.rules.proofs.Demand3.Ways.Kids.{shown-kind, shown-want, leaf_kids}
 
 -- ── A page entered is what its place shows ──────────────────────────────────────────────────────────────────────
 
@@ -41,19 +41,19 @@ module _ (n c : ℕ) (above : List ℕ) (t : List ℕ) (e : Place) where
 
 -- any kind is asked for at the top, and below it the kind of a page, which the level reaches
 abbrev pub Deep : ℕ → Place → Type 0
-Deep level e = ((e.want ≡ 0) × (topKind ≤ level)) ⊎ ((1 ≤ e.want) × (e.want ≤ level))
+Deep level e = ((e.want ≡ 0) × (top_kind ≤ level)) ⊎ ((1 ≤ e.want) × (e.want ≤ level))
 
-pub not-out : (e : Place) → Deep 0 e → ⊥
-not-out e (inl d) = omega arith
-not-out e (inr d) = omega arith
+pub not_out : (e : Place) → Deep 0 e → ⊥
+not_out e (inl d) = omega arith
+not_out e (inr d) = omega arith
 
-places-want : (want high : ℕ) (xs : List Child) (e : Place) → Memᴰ e (placesIn want high xs) → e.want ≡ want
-unfolding placesIn place_of
+places-want : (want high : ℕ) (xs : List Child) (e : Place) → Memᴰ e (places_in want high xs) → e.want ≡ want
+unfolding places_in place_of
 places-want want high [] e m = absurd (Memᴰ.not-nil m)
 places-want want high (x ∷ xs) e m = go (Memᴰ.cases_cons m) (places-want want high xs e)
   where
-    go : (e ≡ place_of want (highBefore high xs) x) ⊎ Memᴰ e (placesIn want high xs)
-        → (Memᴰ e (placesIn want high xs) → e.want ≡ want) → e.want ≡ want
+    go : (e ≡ place_of want (high_before high xs) x) ⊎ Memᴰ e (places_in want high xs)
+        → (Memᴰ e (places_in want high xs) → e.want ≡ want) → e.want ≡ want
     go (inl q) ih = ap (λ (p : Place). p.want) q
     go (inr m) ih = ih m
 
@@ -63,7 +63,7 @@ pub kid-deep : (n : ℕ) (t : List ℕ) (level : ℕ) (e : Place) (v : View) →
 unfolding kids
 kid-deep n t level e v deep s d m = go deep (shown-want n t e v s)
   where
-    inner : (v.kind ≡ leafKind) → ⊥
+    inner : (v.kind ≡ leaf_kind) → ⊥
     inner l = Memᴰ.not-nil (rw (leaf_kids n t e v s l) at m)
 
     lower : d.want ≡ v.kind - 1

@@ -1,16 +1,16 @@
 -- Demand 1. Assumes nothing.
 use mathlib.Core.Path.{◌≡◌, refl, ap}
 use mathlib.Core.Bool.{false}
-use Rattle.rules.specs.Call.{formattedNo, openedNo, insertedNo, withdrawnNo, lookedNo, lookedRecord, newestNo, newestIssue, newestRecord, anyNo, anyYes, listedNo, listedCount, syncedNo}
+use Rattle.rules.specs.Call.{formatted_no, opened_no, inserted_no, withdrawn_no, looked_no, looked_record, newest_no, newest_issue, newest_record, any_no, any_yes, listed_no, listed_count, synced_no}
 use Rattle.rules.specs.Format.{format}
 use Rattle.rules.specs.Open.{opening}
 use Rattle.rules.specs.Insert.{insert}
 use Rattle.rules.specs.Withdraw.{withdraw}
-use Rattle.exchange.specs.ReadFile.{readNo, readFile}
-use Rattle.rules.specs.Batch.{itemNo, batchedNo, batch}
+use Rattle.exchange.specs.ReadFile.{read_no, read_file}
+use Rattle.rules.specs.Batch.{item_no, batched_no, batch}
 use Rattle.rules.specs.Lookup.{lookup}
 use Rattle.rules.specs.Newest.{newest}
-use Rattle.rules.specs.HasAny.{hasAny}
+use Rattle.rules.specs.HasAny.{has_any}
 use Rattle.rules.specs.List.{list}
 use Rattle.rules.specs.Sync.{sync}
 use Rattle.rules.specs.declared.Formatted.{Formatted}
@@ -20,147 +20,147 @@ use Rattle.rules.specs.declared.Newest.{Newest}
 use Rattle.rules.specs.declared.Any.{Any}
 use Rattle.rules.specs.declared.Listed.{Listed}
 use Rattle.rules.specs.declared.Synced.{Synced}
-use Rattle.rules.proofs.demand1.Refusals as rules
-use Rattle.rules.proofs.demand1.Withdrawals.{withdraw-stable}
-use Rattle.rules.proofs.demand1.Batches.{batch-stable}
-use Rattle.answers.specs.Causes.{formatCauses, openCauses, insertCauses, withdrawCauses, batchCauses, readCauses, lookupCauses, newestCauses, anyCauses, listCauses, syncCauses}
+use Rattle.rules.proofs.Demand1.Refusals as rules
+use Rattle.rules.proofs.Demand1.Withdrawals.{withdraw_stable}
+use Rattle.rules.proofs.Demand1.Batches.{batch_stable}
+use Rattle.answers.specs.Causes.{format_causes, open_causes, insert_causes, withdraw_causes, batch_causes, read_causes, lookup_causes, newest_causes, any_causes, list_causes, sync_causes}
 use Rattle.answers.specs.Demand1.{Refused, Demand1}
 use Rattle.answers.proofs.Exactly.{given-number}
 use Rattle.answers.proofs.Ends.{format-given, open-given, sync-given}
 use Rattle.answers.proofs.Looks.{lookup-given}
 use Rattle.answers.proofs.Inserts.{insert-given}
 use Rattle.answers.proofs.Batches.{batch-given, item-given, batch-unchanged}
-use Rattle.answers.proofs.Readings.{read-given, read-unchanged, done-zero, place-zero, read-stable}
+use Rattle.answers.proofs.Readings.{read-given, read-unchanged, done-zero, place-zero, read_stable}
 use Rattle.answers.proofs.Ranges.{newest-given, any-given, list-given}
-use Rattle.answers.proofs.Refused.{insert-mended, insert-unwalked, insert-stands, lookup-mended, lookup-stands}
-use Rattle.answers.proofs.Withdraws.{withdraw-given, withdraw-mended, withdraw-unwalked, withdraw-stands}
-use Rattle.answers.proofs.Lefts.{newest-mended, newest-stands, any-mended, any-stands, list-mended, list-stands}
+use Rattle.answers.proofs.Refused.{insert-mended, insert_unwalked, insert_stands, lookup-mended, lookup_stands}
+use Rattle.answers.proofs.Withdraws.{withdraw-given, withdraw-mended, withdraw_unwalked, withdraw_stands}
+use Rattle.answers.proofs.Lefts.{newest-mended, newest_stands, any-mended, any_stands, list-mended, list_stands}
 
 -- ── The numbers beside a refusal ────────────────────────────────────────────────────────────────────────────────
 
-looked-zero : (a : Looked) → Refused (lookedNo a) → lookedRecord a ≡ 0
-unfolding lookedNo lookedRecord
+looked-zero : (a : Looked) → Refused (looked_no a) → looked_record a ≡ 0
+unfolding looked_no looked_record
 looked-zero (Looked.Found x) h = absurd (h refl)
 looked-zero Looked.Length h = refl
 looked-zero Looked.BadKey h = refl
 looked-zero Looked.Damaged h = refl
 looked-zero Looked.Missing h = refl
 
-issue-zero : (a : Newest) → Refused (newestNo a) → newestIssue a ≡ 0
-unfolding newestNo newestIssue
+issue-zero : (a : Newest) → Refused (newest_no a) → newest_issue a ≡ 0
+unfolding newest_no newest_issue
 issue-zero (Newest.Found i x) h = absurd (h refl)
 issue-zero Newest.Length h = refl
 issue-zero Newest.BadKey h = refl
 issue-zero Newest.Damaged h = refl
 issue-zero Newest.Missing h = refl
 
-record-of-newest-zero : (a : Newest) → Refused (newestNo a) → newestRecord a ≡ 0
-unfolding newestNo newestRecord
-record-of-newest-zero (Newest.Found i x) h = absurd (h refl)
-record-of-newest-zero Newest.Length h = refl
-record-of-newest-zero Newest.BadKey h = refl
-record-of-newest-zero Newest.Damaged h = refl
-record-of-newest-zero Newest.Missing h = refl
+record_of-newest-zero : (a : Newest) → Refused (newest_no a) → newest_record a ≡ 0
+unfolding newest_no newest_record
+record_of-newest-zero (Newest.Found i x) h = absurd (h refl)
+record_of-newest-zero Newest.Length h = refl
+record_of-newest-zero Newest.BadKey h = refl
+record_of-newest-zero Newest.Damaged h = refl
+record_of-newest-zero Newest.Missing h = refl
 
-no-yes : (a : Any) → Refused (anyNo a) → anyYes a ≡ 0
-unfolding anyNo anyYes
-no-yes Any.Yes h = absurd (h refl)
-no-yes Any.No h = absurd (h refl)
-no-yes Any.Length h = refl
-no-yes Any.BadKey h = refl
-no-yes Any.Damaged h = refl
+no_yes : (a : Any) → Refused (any_no a) → any_yes a ≡ 0
+unfolding any_no any_yes
+no_yes Any.Yes h = absurd (h refl)
+no_yes Any.No h = absurd (h refl)
+no_yes Any.Length h = refl
+no_yes Any.BadKey h = refl
+no_yes Any.Damaged h = refl
 
-listed-zero : (a : Listed) → Refused (listedNo a) → listedCount a ≡ 0
-unfolding listedNo listedCount
+listed-zero : (a : Listed) → Refused (listed_no a) → listed_count a ≡ 0
+unfolding listed_no listed_count
 listed-zero (Listed.Filled k) h = absurd (h refl)
 listed-zero Listed.Length h = refl
 listed-zero Listed.Damaged h = refl
 
 -- a refused listing has filled nothing
-not-filled : (a : Listed) → Refused (listedNo a) → rules.isFilled a ≡ false
-unfolding listedNo rules.isFilled
-not-filled (Listed.Filled k) h = absurd (h refl)
-not-filled Listed.Length h = refl
-not-filled Listed.Damaged h = refl
+not_filled : (a : Listed) → Refused (listed_no a) → rules.is_filled a ≡ false
+unfolding listed_no rules.is_filled
+not_filled (Listed.Filled k) h = absurd (h refl)
+not_filled Listed.Length h = refl
+not_filled Listed.Damaged h = refl
 
 -- ── A refusal is no done ────────────────────────────────────────────────────────────────────────────────────────
 
-not-formatted : (a : Formatted) → Refused (formattedNo a) → a ≡ Formatted.Done → ⊥
-unfolding formattedNo
-not-formatted a h e = h (ap formattedNo e)
+not_formatted : (a : Formatted) → Refused (formatted_no a) → a ≡ Formatted.Done → ⊥
+unfolding formatted_no
+not_formatted a h e = h (ap formatted_no e)
 
-not_opened : (a : Opened) → Refused (openedNo a) → a ≡ Opened.Done → ⊥
-unfolding openedNo
-not_opened a h e = h (ap openedNo e)
+not_opened : (a : Opened) → Refused (opened_no a) → a ≡ Opened.Done → ⊥
+unfolding opened_no
+not_opened a h e = h (ap opened_no e)
 
-not-synced : (a : Synced) → Refused (syncedNo a) → a ≡ Synced.Done → ⊥
-unfolding syncedNo
-not-synced a h e = h (ap syncedNo e)
+not_synced : (a : Synced) → Refused (synced_no a) → a ≡ Synced.Done → ⊥
+unfolding synced_no
+not_synced a h e = h (ap synced_no e)
 
 -- ── The demand ──────────────────────────────────────────────────────────────────────────────────────────────────
 
 pub demand1 : Demand1
 demand1 = record {
-  format-answers = λ w s. given-number (formatCauses w s) (formattedNo (format w s).answer) (format-given w s);
-  open-answers = λ w s. given-number (openCauses w s) (openedNo (opening w s).answer) (open-given w s);
-  insert-answers = λ w t s model serial issue x.
-      given-number (insertCauses w t s model serial issue) (insertedNo (insert w t s model serial issue x).answer)
+  format_answers = λ w s. given-number (format_causes w s) (formatted_no (format w s).answer) (format-given w s);
+  open_answers = λ w s. given-number (open_causes w s) (opened_no (opening w s).answer) (open-given w s);
+  insert_answers = λ w t s model serial issue x.
+      given-number (insert_causes w t s model serial issue) (inserted_no (insert w t s model serial issue x).answer)
       (insert-given w t s model serial issue x);
-  withdraw-answers = λ w t s model serial issue.
-      given-number (withdrawCauses w t s model serial issue) (withdrawnNo (withdraw w t s model serial issue).answer)
+  withdraw_answers = λ w t s model serial issue.
+      given-number (withdraw_causes w t s model serial issue) (withdrawn_no (withdraw w t s model serial issue).answer)
       (withdraw-given w t s model serial issue);
-  batch-answers = λ w t s xs.
-      given-number (batchCauses w t s) (batchedNo (batch w t s xs).left.answer) (batch-given w t s xs);
-  item-answers = λ t m x.
-      given-number (insertCauses m.working t m.session x.model x.serial x.issue) (itemNo t m x)
+  batch_answers = λ w t s xs.
+      given-number (batch_causes w t s) (batched_no (batch w t s xs).left.answer) (batch-given w t s xs);
+  item_answers = λ t m x.
+      given-number (insert_causes m.working t m.session x.model x.serial x.issue) (item_no t m x)
       (item-given t m x);
-  read-answers = λ w t s f b.
-      given-number (readCauses w t s f) (readNo (readFile w t s f).left.answer) (read-given w t s f b);
-  lookup-answers = λ w t s model serial issue.
-      given-number (lookupCauses w t s model serial issue) (lookedNo (lookup w t s model serial issue).answer)
+  read_answers = λ w t s f b.
+      given-number (read_causes w t s f) (read_no (read_file w t s f).left.answer) (read-given w t s f b);
+  lookup_answers = λ w t s model serial issue.
+      given-number (lookup_causes w t s model serial issue) (looked_no (lookup w t s model serial issue).answer)
       (lookup-given w t s model serial issue);
-  newest-answers = λ w t s model serial.
-      given-number (newestCauses w t s model serial) (newestNo (newest w t s model serial).answer)
+  newest_answers = λ w t s model serial.
+      given-number (newest_causes w t s model serial) (newest_no (newest w t s model serial).answer)
       (newest-given w t s model serial);
-  any-answers = λ w t s model serial.
-      given-number (anyCauses w t s model serial) (anyNo (hasAny w t s model serial).answer)
+  any_answers = λ w t s model serial.
+      given-number (any_causes w t s model serial) (any_no (has_any w t s model serial).answer)
       (any-given w t s model serial);
-  list-answers = λ w t s start ks xs.
-      given-number (listCauses w t s start ks xs) (listedNo (list w t s start ks xs).answer)
+  list_answers = λ w t s start ks xs.
+      given-number (list_causes w t s start ks xs) (listed_no (list w t s start ks xs).answer)
       (list-given w t s start ks xs);
-  sync-answers = λ w t s. given-number (syncCauses w t s) (syncedNo (sync w t s).answer) (sync-given w t s);
-  insert-refused = insert-mended;
-  withdraw-refused = withdraw-mended;
-  insert-unwalked = insert-unwalked;
-  withdraw-unwalked = withdraw-unwalked;
-  batch-refused = batch-unchanged;
-  read-refused = read-unchanged;
-  lookup-mends = lookup-mended;
-  newest-mends = newest-mended;
-  any-mends = any-mended;
-  list-mends = list-mended;
-  insert-stands = insert-stands;
-  withdraw-stands = withdraw-stands;
-  lookup-stands = lookup-stands;
-  newest-stands = newest-stands;
-  any-stands = any-stands;
-  list-stands = list-stands;
-  open-refused = λ w s h. rules.opening-refused w s (not_opened (opening w s).answer h);
-  sync-refused = λ w t s h. rules.sync-refused w t s (not-synced (sync w t s).answer h);
-  list-refused-keys = λ w t s start ks xs h.
-      (rules.list-refused s w t start ks xs (not-filled (list w t s start ks xs).answer h)).keys;
-  list-refused-records = λ w t s start ks xs h.
-      (rules.list-refused s w t start ks xs (not-filled (list w t s start ks xs).answer h)).records;
-  record-zero = looked-zero;
-  newest-issue-zero = issue-zero;
-  newest-record-zero = record-of-newest-zero;
-  any-zero = no-yes;
-  count-zero = listed-zero;
-  read-count-zero = done-zero;
-  read-place-zero = place-zero;
-  format-stable = λ w s h. rules.format-refused w s (not-formatted (format w s).answer h);
-  insert-stable = rules.insert-stable;
-  withdraw-stable = withdraw-stable;
-  batch-stable = batch-stable;
-  read-stable = read-stable;
+  sync_answers = λ w t s. given-number (sync_causes w t s) (synced_no (sync w t s).answer) (sync-given w t s);
+  insert_refused_lem = insert-mended;
+  withdraw_refused_lem = withdraw-mended;
+  insert_unwalked = insert_unwalked;
+  withdraw_unwalked = withdraw_unwalked;
+  batch_refused = batch-unchanged;
+  read_refused_lem = read-unchanged;
+  lookup_mends = lookup-mended;
+  newest_mends = newest-mended;
+  any_mends = any-mended;
+  list_mends_lem = list-mended;
+  insert_stands = insert_stands;
+  withdraw_stands = withdraw_stands;
+  lookup_stands = lookup_stands;
+  newest_stands = newest_stands;
+  any_stands = any_stands;
+  list_stands = list_stands;
+  open_refused_lem = λ w s h. rules.opening-refused w s (not_opened (opening w s).answer h);
+  sync_refused_lem = λ w t s h. rules.sync_refused_lem w t s (not_synced (sync w t s).answer h);
+  list_refused_keys = λ w t s start ks xs h.
+      (rules.list_refused_lem s w t start ks xs (not_filled (list w t s start ks xs).answer h)).keys;
+  list_refused_records = λ w t s start ks xs h.
+      (rules.list_refused_lem s w t start ks xs (not_filled (list w t s start ks xs).answer h)).records;
+  record_zero = looked-zero;
+  newest_issue_zero = issue-zero;
+  newest_record_zero = record_of-newest-zero;
+  any_zero = no_yes;
+  count_zero = listed-zero;
+  read_count_zero = done-zero;
+  read_place_zero = place-zero;
+  format_stable = λ w s h. rules.format-refused w s (not_formatted (format w s).answer h);
+  insert_stable = rules.insert_stable;
+  withdraw_stable = withdraw_stable;
+  batch_stable = batch_stable;
+  read_stable = read_stable;
 }

@@ -5,8 +5,8 @@ use mathlib.Core.Logic.{◌⊎◌, inl, inr, ◌↔◌}
 use mathlib.Core.Bool.{true}
 use mathlib.Core.List.{List, [], ◌∷◌}
 use Rattle.rules.specs.Test.{mem}
-use Rattle.rules.proofs.entries.Tests.{mem-head, mem-tail, mem-cases}
-use Rattle.answers.specs.Given.{Cause, Given, numbersIn}
+use Rattle.rules.proofs.Entries.Tests.{mem-head, mem_tail, mem_cases}
+use Rattle.answers.specs.Given.{Cause, Given, numbers_in}
 
 -- no second number is given
 pub given-one : (cs : List Cause) (j k : ℕ) → Given cs j → Given cs k → j ≡ k
@@ -21,11 +21,11 @@ pub exactly : (cs : List Cause) (n k : ℕ) → Given cs n → (n ≡ k) ↔ Giv
 exactly cs n k g = ((λ e. rw e at g), given-one cs n k g)
 
 -- what is given is 0 or a number of the table
-pub given-number : (cs : List Cause) (k : ℕ) → Given cs k → mem k (0 ∷ numbersIn cs) ≡ true
+pub given-number : (cs : List Cause) (k : ℕ) → Given cs k → mem k (0 ∷ numbers_in cs) ≡ true
 given-number [] k g = rw g (mem-head 0 [])
-given-number (c ∷ cs) k (inl p) = rw p.0 (mem-tail c.number 0 (c.number ∷ numbersIn cs) (mem-head c.number (numbersIn cs)))
-given-number (c ∷ cs) k (inr p) = go (mem-cases k 0 (numbersIn cs) (given-number cs k p.1))
+given-number (c ∷ cs) k (inl p) = rw p.0 (mem_tail c.number 0 (c.number ∷ numbers_in cs) (mem-head c.number (numbers_in cs)))
+given-number (c ∷ cs) k (inr p) = go (mem_cases k 0 (numbers_in cs) (given-number cs k p.1))
   where
-    go : (k ≡ 0) ⊎ (mem k (numbersIn cs) ≡ true) → mem k (0 ∷ c.number ∷ numbersIn cs) ≡ true
-    go (inl e) = rw e (mem-head 0 (c.number ∷ numbersIn cs))
-    go (inr m) = mem-tail k 0 (c.number ∷ numbersIn cs) (mem-tail k c.number (numbersIn cs) m)
+    go : (k ≡ 0) ⊎ (mem k (numbers_in cs) ≡ true) → mem k (0 ∷ c.number ∷ numbers_in cs) ≡ true
+    go (inl e) = rw e (mem-head 0 (c.number ∷ numbers_in cs))
+    go (inr m) = mem_tail k 0 (c.number ∷ numbers_in cs) (mem_tail k c.number (numbers_in cs) m)

@@ -6,16 +6,16 @@ use mathlib.Core.Path.{◌≡◌, refl, sym, ap, ◌∙◌, subst}
 use mathlib.Core.Logic.{inl}
 use mathlib.Core.List.{List, [], ◌∷◌}
 use mathlib.Core.Option.{Option, some, none, none-ne-some}
-use Rattle.rules.specs.Layout.{topKind}
+use Rattle.rules.specs.Layout.{top_kind}
 use Rattle.rules.specs.Page.{Page}
-use Rattle.rules.specs.Place.{rootPlace, kids, pick}
+use Rattle.rules.specs.Place.{root_place, kids, pick}
 use Rattle.rules.specs.Enter.{Entered, enter}
 use Rattle.rules.specs.Walk.{Step, Way, numbers, descend, way_of}
 use Rattle.rules.specs.declared.Place.{Place}
-use Rattle.rules.proofs.entries.Picks.{pick-mem}
-use Rattle.rules.proofs.demand1.WalkSteps.{enter-damaged}
-use Rattle.answers.specs.OneKey.{Reaches, MeetsDamage, EndsIn, at-damage, at_leaf}
-use Rattle.answers.proofs.Deep.{Deep, not-out, enter-shows, kid-deep}
+use Rattle.rules.proofs.Entries.Picks.{pick-mem}
+use Rattle.rules.proofs.Demand1.WalkSteps.{enter-damaged}
+use Rattle.answers.specs.OneKey.{Reaches, MeetsDamage, EndsIn, at_damage, at_leaf}
+use Rattle.answers.proofs.Deep.{Deep, not_out, enter-shows, kid-deep}
 
 -- ── One step of the walk ────────────────────────────────────────────────────────────────────────────────────────
 
@@ -54,7 +54,7 @@ module _ (n c k : ℕ) (t : List ℕ) where
       → pick k (kids s.place s.page.view) ≡ some e
       → (level : ℕ) → way_of n c k t ≡ descend level n c k above v s.place → Deep level s.place
       → Standing (s ∷ above) u e
-  standing-below s above v u e h q zero rest deep = absurd (not-out s.place deep)
+  standing-below s above v u e h q zero rest deep = absurd (not_out s.place deep)
   standing-below s above v u e h q (suc level) rest deep =
       let p : (enter n c (numbers above) v s.place).page ≡ some s.page = ap (λ (x : Entered). x.page) h in
       record {
@@ -65,9 +65,9 @@ module _ (n c k : ℕ) (t : List ℕ) where
       }
 
   standing : (above : List Step) (u : List ℕ) (e : Place) → Reaches n c k t above u e → Standing above u e
-  unfolding way_of rootPlace
+  unfolding way_of root_place
   standing [] u e r = record {
-    level = topKind;
+    level = top_kind;
     rest = rw (r.0, r.1);
     deep = inl (ap (λ (x : Place). x.want) r.1, omega arith);
   }
@@ -77,12 +77,12 @@ module _ (n c k : ℕ) (t : List ℕ) where
 
   -- ── No pages to show: a damaged place was met ───────────────────────────────────────────────────────────────────
 
-  pub damage-none : MeetsDamage n c k t → (way_of n c k t).steps ≡ none
-  damage-none m = go (standing m.above m.table m.place m.reached)
+  pub damage_none : MeetsDamage n c k t → (way_of n c k t).steps ≡ none
+  damage_none m = go (standing m.above m.table m.place m.reached)
     where
       at : (level : ℕ) → way_of n c k t ≡ descend level n c k m.above m.table m.place → Deep level m.place
           → (way_of n c k t).steps ≡ none
-      at zero rest deep = absurd (not-out m.place deep)
+      at zero rest deep = absurd (not_out m.place deep)
       at (suc level) rest deep =
           ap (λ (x : Way). x.steps) rest ∙ descend-damaged level n c k m.above m.table m.place m.damaged
 
@@ -112,12 +112,12 @@ module _ (n c k : ℕ) (t : List ℕ) where
 
   descend-none : (level : ℕ) (above : List Step) (u : List ℕ) (e : Place) → Reaches n c k t above u e → Deep level e
       → (descend level n c k above u e).steps ≡ none → MeetsDamage n c k t
-  descend-none zero above u e at deep z = absurd (not-out e deep)
+  descend-none zero above u e at deep z = absurd (not_out e deep)
   descend-none (suc level) above u e at deep z = none-step level above u e at deep z (descend-none level)
 
-  pub none-damage : (way_of n c k t).steps ≡ none → MeetsDamage n c k t
-  unfolding way_of rootPlace
-  none-damage z = descend-none topKind [] t (rootPlace t) (refl, refl) (inl (refl, omega arith)) z
+  pub none_damage : (way_of n c k t).steps ≡ none → MeetsDamage n c k t
+  unfolding way_of root_place
+  none_damage z = descend-none top_kind [] t (root_place t) (refl, refl) (inl (refl, omega arith)) z
 
   -- ── Where the walk ends ─────────────────────────────────────────────────────────────────────────────────────────
 
@@ -141,14 +141,14 @@ module _ (n c k : ℕ) (t : List ℕ) where
           (deep-below level n c k above u e p h deep e' q))
 
       found : (o : Option Page) → (enter n c (numbers above) u e).page ≡ o → EndsIn n c k t (descend (suc level) n c k above u e).table
-      found none h = rw (descend, h) (subst (EndsIn n c k t) (sym (enter-damaged n c (numbers above) u e h)) (at-damage above e at h))
+      found none h = rw (descend, h) (subst (EndsIn n c k t) (sym (enter-damaged n c (numbers above) u e h)) (at_damage above e at h))
       found (some p) h = picked p h (pick k (kids e p.view)) refl
 
   ends : (level : ℕ) (above : List Step) (u : List ℕ) (e : Place) → Reaches n c k t above u e → Deep level e
       → EndsIn n c k t (descend level n c k above u e).table
-  ends zero above u e at deep = absurd (not-out e deep)
+  ends zero above u e at deep = absurd (not_out e deep)
   ends (suc level) above u e at deep = ends-step level above u e at deep (ends level)
 
   pub way-ends : EndsIn n c k t (way_of n c k t).table
-  unfolding way_of rootPlace
-  way-ends = ends topKind [] t (rootPlace t) (refl, refl) (inl (refl, omega arith))
+  unfolding way_of root_place
+  way-ends = ends top_kind [] t (root_place t) (refl, refl) (inl (refl, omega arith))

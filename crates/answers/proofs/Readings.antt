@@ -6,81 +6,81 @@ use mathlib.Core.Bool.{Bool, true, false}
 use mathlib.Core.List.{List}
 use Rattle.fields.specs.Field.{Bytes}
 use Rattle.rules.specs.Report.{Reported}
-use Rattle.rules.specs.Call.{Left, lengthsFor, Unchanged}
+use Rattle.rules.specs.Call.{Left, lengths_for, Unchanged}
 use Rattle.rules.specs.declared.Session.{Session}
-use Rattle.rules.proofs.demand1.Batches.{batch-stable}
+use Rattle.rules.proofs.Demand1.Batches.{batch_stable}
 use Rattle.exchange.specs.Judged.{judged}
-use Rattle.exchange.specs.Told.{certsIn}
-use Rattle.exchange.specs.ReadFile.{asItems, readRefused, readNo, readCount, read_place, readFile}
+use Rattle.exchange.specs.Told.{certs_in}
+use Rattle.exchange.specs.ReadFile.{as_items, read_refused, read_no, read_count, read_place, read_file}
 use Rattle.exchange.specs.declared.Read.{Read}
 use Rattle.exchange.specs.declared.Judged.{Judged}
-use Rattle.exchange.proofs.Parts.{bad-not-fine}
+use Rattle.exchange.proofs.Parts.{bad_not_fine}
 use Rattle.exchange.proofs.Exact.{exact}
-use Rattle.exchange.proofs.ReadBy.{read_length, read-bad, read-batch}
+use Rattle.exchange.proofs.ReadBy.{read_length, read_bad, read-batch}
 use Rattle.answers.specs.Given.{Given}
-use Rattle.answers.specs.Causes.{readCauses}
+use Rattle.answers.specs.Causes.{read_causes}
 use Rattle.answers.specs.Demand1.{Refused}
-use Rattle.answers.proofs.Tells.{bad-lengths, good-lengths}
+use Rattle.answers.proofs.Tells.{bad_lengths, good_lengths_lem}
 
 module _ (w t : List ℕ) (s : Session) (f : List ℕ) where
   abbrev number : Reported (Left Read) → ℕ
-  number r = readNo r.left.answer
+  number r = read_no r.left.answer
 
-  pub read-given : Bytes f → Given (readCauses w t s f) (number (readFile w t s f))
-  unfolding readNo
-  read-given b = go (lengthsFor s w t) refl (judged f) refl
+  pub read-given : Bytes f → Given (read_causes w t s f) (number (read_file w t s f))
+  unfolding read_no
+  read-given b = go (lengths_for s w t) refl (judged f) refl
     where
-      go : (a : Bool) → lengthsFor s w t ≡ a → (j : Judged) → judged f ≡ j → Given (readCauses w t s f) (number (readFile w t s f))
-      go false p j e = inl (ap number (read_length w t s f p), bad-lengths w t s p)
+      go : (a : Bool) → lengths_for s w t ≡ a → (j : Judged) → judged f ≡ j → Given (read_causes w t s f) (number (read_file w t s f))
+      go false p j e = inl (ap number (read_length w t s f p), bad_lengths w t s p)
       go true p (Judged.Bad at) e =
           inr (
-            good-lengths w t s p,
+            good_lengths_lem w t s p,
             inl (
-              ap number (read-bad w t s f p at e),
-              λ cs h q. bad-not-fine (sym e ∙ subst (λ (g : List ℕ). judged g ≡ Judged.Fine) (sym q) (exact.written cs h)),
+              ap number (read_bad w t s f p at e),
+              λ cs h q. bad_not_fine (sym e ∙ subst (λ (g : List ℕ). judged g ≡ Judged.Fine) (sym q) (exact.written cs h)),
             ),
           )
       go true p Judged.Fine e =
           inr (
-            good-lengths w t s p,
-            inr ((λ bad. bad (certsIn f) (exact.set f b e) (exact.file f b e)), ap number (read-batch w t s f p e)),
+            good_lengths_lem w t s p,
+            inr ((λ bad. bad (certs_in f) (exact.set f b e) (exact.file f b e)), ap number (read-batch w t s f p e)),
           )
 
-  refused-unchanged : (answer : Read) → readFile w t s f ≡ readRefused answer w t s → Unchanged w t s (readFile w t s f).left
+  refused-unchanged : (answer : Read) → read_file w t s f ≡ read_refused answer w t s → Unchanged w t s (read_file w t s f).left
   refused-unchanged answer e = record {
     working = ap (λ (r : Reported (Left Read)). r.left.working) e;
     stable = ap (λ (r : Reported (Left Read)). r.left.stable) e;
     session = ap (λ (r : Reported (Left Read)). r.left.session) e;
   }
 
-  pub read-unchanged : Refused (number (readFile w t s f)) → Unchanged w t s (readFile w t s f).left
-  unfolding readNo
-  read-unchanged h = go (lengthsFor s w t) refl (judged f) refl
+  pub read-unchanged : Refused (number (read_file w t s f)) → Unchanged w t s (read_file w t s f).left
+  unfolding read_no
+  read-unchanged h = go (lengths_for s w t) refl (judged f) refl
     where
-      go : (a : Bool) → lengthsFor s w t ≡ a → (j : Judged) → judged f ≡ j → Unchanged w t s (readFile w t s f).left
+      go : (a : Bool) → lengths_for s w t ≡ a → (j : Judged) → judged f ≡ j → Unchanged w t s (read_file w t s f).left
       go false p j e = refused-unchanged Read.Length (read_length w t s f p)
-      go true p (Judged.Bad at) e = refused-unchanged (Read.File at) (read-bad w t s f p at e)
+      go true p (Judged.Bad at) e = refused-unchanged (Read.File at) (read_bad w t s f p at e)
       go true p Judged.Fine e = absurd (h (ap number (read-batch w t s f p e)))
 
-  pub read-stable : (readFile w t s f).left.stable ≡ t
-  read-stable = go (lengthsFor s w t) refl (judged f) refl
+  pub read_stable : (read_file w t s f).left.stable ≡ t
+  read_stable = go (lengths_for s w t) refl (judged f) refl
     where
-      go : (a : Bool) → lengthsFor s w t ≡ a → (j : Judged) → judged f ≡ j → (readFile w t s f).left.stable ≡ t
+      go : (a : Bool) → lengths_for s w t ≡ a → (j : Judged) → judged f ≡ j → (read_file w t s f).left.stable ≡ t
       go false p j e = (refused-unchanged Read.Length (read_length w t s f p)).stable
-      go true p (Judged.Bad at) e = (refused-unchanged (Read.File at) (read-bad w t s f p at e)).stable
+      go true p (Judged.Bad at) e = (refused-unchanged (Read.File at) (read_bad w t s f p at e)).stable
       go true p Judged.Fine e =
-          ap (λ (r : Reported (Left Read)). r.left.stable) (read-batch w t s f p e) ∙ batch-stable w t s (asItems (certsIn f))
+          ap (λ (r : Reported (Left Read)). r.left.stable) (read-batch w t s f p e) ∙ batch_stable w t s (as_items (certs_in f))
 
 -- ── The numbers beside ──────────────────────────────────────────────────────────────────────────────────────────
 
-pub done-zero : (a : Read) → Refused (readNo a) → readCount a ≡ 0
-unfolding readNo readCount
+pub done-zero : (a : Read) → Refused (read_no a) → read_count a ≡ 0
+unfolding read_no read_count
 done-zero (Read.Done k) h = absurd (h refl)
 done-zero Read.Length h = refl
 done-zero (Read.File at) h = refl
 
-pub place-zero : (a : Read) → (readNo a ≡ 11 → ⊥) → read_place a ≡ 0
-unfolding readNo read_place
+pub place-zero : (a : Read) → (read_no a ≡ 11 → ⊥) → read_place a ≡ 0
+unfolding read_no read_place
 place-zero (Read.Done k) h = refl
 place-zero Read.Length h = refl
 place-zero (Read.File at) h = absurd (h refl)

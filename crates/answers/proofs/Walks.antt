@@ -7,7 +7,7 @@ use mathlib.Core.Option.{Option, some, none}
 use Rattle.rules.specs.Test.{mem}
 use Rattle.rules.specs.Page.{Page}
 use Rattle.rules.specs.Table.{read}
-use Rattle.rules.specs.Place.{rootPlace, kids, pick, fits, mendable}
+use Rattle.rules.specs.Place.{root_place, kids, pick, fits, mendable}
 use Rattle.rules.specs.Enter.{mend, enter}
 use Rattle.rules.specs.Walk.{Step, numbers, descend, way_of}
 use Rattle.rules.specs.declared.Place.{Place}
@@ -60,4 +60,4 @@ module _ (n c k : ℕ) (t : List ℕ) where
 
   pub way-mended : MendedBy n c k t (way_of n c k t).table
   unfolding way_of
-  way-mended = descend-mended 3 [] t (rootPlace t) (refl, refl) nothing
+  way-mended = descend-mended 3 [] t (root_place t) (refl, refl) nothing

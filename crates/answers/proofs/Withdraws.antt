@@ -4,28 +4,28 @@ use mathlib.Core.Path.{◌≡◌, refl, sym, ap, ◌∙◌, subst}
 use mathlib.Core.Logic.{inl, inr}
 use mathlib.Core.Bool.{Bool, true, false}
 use mathlib.Core.List.{List}
-use Rattle.rules.specs.Key.{key_of, goodParts}
+use Rattle.rules.specs.Key.{key_of, good_parts}
 use Rattle.rules.specs.Table.{fit0}
-use Rattle.rules.specs.Call.{Unchanged, withdrawnNo, lookedNo, lengthsFor}
-use Rattle.rules.specs.Withdraw.{withdraw, withdrawRefused}
+use Rattle.rules.specs.Call.{Unchanged, withdrawn_no, looked_no, lengths_for}
+use Rattle.rules.specs.Withdraw.{withdraw, withdraw_refused}
 use Rattle.rules.specs.Lookup.{lookup}
 use Rattle.rules.specs.declared.Session.{Session}
 use Rattle.rules.specs.declared.Withdrawn.{Withdrawn}
 use Rattle.rules.specs.declared.Looked.{Looked}
-use Rattle.rules.proofs.entries.Tests.{not-both}
-use Rattle.rules.proofs.demand1.Withdrawals as rules
+use Rattle.rules.proofs.Entries.Tests.{not_both}
+use Rattle.rules.proofs.Demand1.Withdrawals as rules
 use Rattle.answers.specs.Given.{Given}
 use Rattle.answers.specs.OneKey.{EndsIn, MendedBy}
-use Rattle.answers.specs.Causes.{BeforeWalk, withdrawCauses}
+use Rattle.answers.specs.Causes.{BeforeWalk, withdraw_causes}
 use Rattle.answers.specs.Demand1.{Refused, WalkMended}
-use Rattle.answers.proofs.Tells.{good-lengths, good-key}
+use Rattle.answers.proofs.Tells.{good_lengths_lem, good_key_lem}
 use Rattle.answers.proofs.Looks.{lookup-given}
-use Rattle.answers.proofs.Refused.{lookup-mended, lookup-stands}
+use Rattle.answers.proofs.Refused.{lookup-mended, lookup_stands}
 
 -- ── The number ──────────────────────────────────────────────────────────────────────────────────────────────────
 
-same_number : (a : Looked) → withdrawnNo (rules.withdrawnAs a) ≡ lookedNo a
-unfolding withdrawnNo lookedNo rules.withdrawnAs
+same_number : (a : Looked) → withdrawn_no (rules.withdrawn_as a) ≡ looked_no a
+unfolding withdrawn_no looked_no rules.withdrawn_as
 same_number (Looked.Found x) = refl
 same_number Looked.Length = refl
 same_number Looked.BadKey = refl
@@ -33,23 +33,23 @@ same_number Looked.Damaged = refl
 same_number Looked.Missing = refl
 
 module _ (w t : List ℕ) (s : Session) (model serial issue : ℕ) where
-  pub withdraw-given : Given (withdrawCauses w t s model serial issue) (withdrawnNo (withdraw w t s model serial issue).answer)
+  pub withdraw-given : Given (withdraw_causes w t s model serial issue) (withdrawn_no (withdraw w t s model serial issue).answer)
   withdraw-given =
-      subst (Given (withdrawCauses w t s model serial issue))
-      (sym (ap withdrawnNo (rules.withdraw-as w t s model serial issue) ∙ same_number (lookup w t s model serial issue).answer))
+      subst (Given (withdraw_causes w t s model serial issue))
+      (sym (ap withdrawn_no (rules.withdraw_as w t s model serial issue) ∙ same_number (lookup w t s model serial issue).answer))
       (lookup-given w t s model serial issue)
 
   -- ── What is left ──────────────────────────────────────────────────────────────────────────────────────────────
 
-  not_done : Refused (withdrawnNo (withdraw w t s model serial issue).answer)
+  not_done : Refused (withdrawn_no (withdraw w t s model serial issue).answer)
       → (withdraw w t s model serial issue).answer ≡ Withdrawn.Done → ⊥
-  unfolding withdrawnNo
-  not_done h e = h (ap withdrawnNo e)
+  unfolding withdrawn_no
+  not_done h e = h (ap withdrawn_no e)
 
-  pub withdraw-mended : Refused (withdrawnNo (withdraw w t s model serial issue).answer)
+  pub withdraw-mended : Refused (withdrawn_no (withdraw w t s model serial issue).answer)
       → WalkMended (key_of model serial issue) w t s (withdraw w t s model serial issue)
   withdraw-mended h =
-      let r = rules.withdraw-refused w t s model serial issue (not_done h) in
+      let r = rules.withdraw_refused_lem w t s model serial issue (not_done h) in
       record {
         working = subst (MendedBy s.n s.c (key_of model serial issue) w)
             (sym (rules.withdraw-leaves w t s model serial issue (not_done h)))
@@ -59,23 +59,23 @@ module _ (w t : List ℕ) (s : Session) (model serial issue : ℕ) where
       }
 
   -- nothing before the walk
-  pub withdraw-unwalked : BeforeWalk w t s model serial issue → Unchanged w t s (withdraw w t s model serial issue)
-  unfolding withdraw withdrawRefused
-  withdraw-unwalked h = go (lengthsFor s w t) refl (goodParts model serial issue) refl (fit0 s.n w) refl h
+  pub withdraw_unwalked : BeforeWalk w t s model serial issue → Unchanged w t s (withdraw w t s model serial issue)
+  unfolding withdraw withdraw_refused
+  withdraw_unwalked h = go (lengths_for s w t) refl (good_parts model serial issue) refl (fit0 s.n w) refl h
     where
-      go : (a : Bool) → lengthsFor s w t ≡ a → (b : Bool) → goodParts model serial issue ≡ b → (c : Bool) → fit0 s.n w ≡ c
+      go : (a : Bool) → lengths_for s w t ≡ a → (b : Bool) → good_parts model serial issue ≡ b → (c : Bool) → fit0 s.n w ≡ c
           → BeforeWalk w t s model serial issue → Unchanged w t s (withdraw w t s model serial issue)
       go false p b q c o h = rw (withdraw, p) (record { working = refl; stable = refl; session = refl })
       go true p false q c o h = rw (withdraw, p, q) (record { working = refl; stable = refl; session = refl })
       go true p true q false o h = rw (withdraw, p, q, o) (record { working = refl; stable = refl; session = refl })
-      go true p true q true o (inl h) = absurd (good-lengths w t s p h)
-      go true p true q true o (inr (inl h)) = absurd (good-key model serial issue q h)
-      go true p true q true o (inr (inr h)) = absurd (not-both o h)
+      go true p true q true o (inl h) = absurd (good_lengths_lem w t s p h)
+      go true p true q true o (inr (inl h)) = absurd (good_key_lem model serial issue q h)
+      go true p true q true o (inr (inr h)) = absurd (not_both o h)
 
   -- behind it, the table in which the walk ended
-  pub withdraw-stands : (BeforeWalk w t s model serial issue → ⊥) → Refused (withdrawnNo (withdraw w t s model serial issue).answer)
+  pub withdraw_stands : (BeforeWalk w t s model serial issue → ⊥) → Refused (withdrawn_no (withdraw w t s model serial issue).answer)
       → EndsIn s.n s.c (key_of model serial issue) w (withdraw w t s model serial issue).working
-  withdraw-stands b h =
+  withdraw_stands b h =
       subst (EndsIn s.n s.c (key_of model serial issue) w)
       (sym (rules.withdraw-leaves w t s model serial issue (not_done h)))
-      (lookup-stands w t s model serial issue b)
+      (lookup_stands w t s model serial issue b)

@@ -5,13 +5,13 @@ use Rattle.std.proofs.Math.Option.{some, none}
 use Rattle.rules.specs.Test.{mem}
 use Rattle.rules.specs.Page.{View}
 use Rattle.rules.specs.Table.{read}
-use Rattle.rules.specs.Place.{rootPlace, kids, fits, show}
+use Rattle.rules.specs.Place.{root_place, kids, fits, show}
 use Rattle.rules.specs.Tree.{tree_of}
 use Rattle.rules.specs.declared.Place.{Place}
 
 -- the places of the tree: the root's, and what the entries of what is shown ask for
 pub data InTree (n : ℕ) (t : List ℕ) : Place → Type 0 where
-  at-root : {e : Place} → e ≡ rootPlace t → InTree n t e
+  at_root_lem : {e : Place} → e ≡ root_place t → InTree n t e
   below : {e : Place} (d : Place) (v : View) → InTree n t d → show n t d ≡ some v → Memᴰ e (kids d v) → InTree n t e
 
 -- a damaged place
@@ -26,8 +26,8 @@ pub record NamedTwice (n : ℕ) (t : List ℕ) : Type 0 where
   pub first : List ℕ
   pub others : List ℕ
   pub children : (tree_of n t).children ≡ first ++ others
-  pub in-first : mem number first ≡ true
-  pub in-others : mem number others ≡ true
+  pub in_first : mem number first ≡ true
+  pub in_others : mem number others ≡ true
 
 -- a child that a lost entry names as previous
 pub record ChildSpared (n : ℕ) (t : List ℕ) : Type 0 where

@@ -1,19 +1,19 @@
 -- For each call the conditions of the answers that it can give, in document 01's words and order.
 use Rattle.std.specs.Prelude.{ℕ, ◌<◌, ◌≡◌, ◌⊎◌, true, false, List, [], ◌∷◌, length}
 use Rattle.std.proofs.Math.Option.{Option, some, none}
-use Rattle.rules.specs.Layout.{lastNumber}
+use Rattle.rules.specs.Layout.{last_number}
 use Rattle.rules.specs.Key.{key_of}
 use Rattle.rules.specs.Entry.{Cert, find}
 use Rattle.rules.specs.Table.{pages, number0, fit0, Tables}
-use Rattle.rules.specs.Walk.{Step, numbers, certsAt, way_of, walk_of}
-use Rattle.rules.specs.Marks.{freePages}
-use Rattle.rules.specs.Insert.{splitting, tooSoon, rootSplits, newPages, tooHigh}
+use Rattle.rules.specs.Walk.{Step, numbers, certs_at, way_of, walk_of}
+use Rattle.rules.specs.Marks.{free_pages}
+use Rattle.rules.specs.Insert.{splitting, too_soon, root_splits, new_pages, too_high}
 use Rattle.rules.specs.Newest.{meter}
 use Rattle.rules.specs.HasAny.{first_of}
 use Rattle.rules.specs.List.{up_from}
 use Rattle.rules.specs.declared.Session.{Session}
 use Rattle.rules.specs.declared.Asked.{Asked}
-use Rattle.exchange.specs.Written.{is_set, fileOf}
+use Rattle.exchange.specs.Written.{is_set, file_of}
 use Rattle.answers.specs.Given.{Cause, ◌when◌}
 use Rattle.answers.specs.OneKey.{MeetsDamage}
 use Rattle.answers.specs.Range.{MeetsDamageIn}
@@ -62,16 +62,16 @@ BeforeWalk w t s model serial issue = BadLengths s w t ⊎ (BadKey model serial 
 -- ── 4 none, 5 present, 6 syncfirst, 7 full ──────────────────────────────────────────────────────────────────────
 
 -- the pages entered on a way without damage, leaf first
-unfoldable pub stepsIn : Option (List Step) → List Step
-stepsIn none = []
-stepsIn (some steps) = steps
+unfoldable pub steps_in : Option (List Step) → List Step
+steps_in none = []
+steps_in (some steps) = steps
 
 abbrev pub entered : Session → ℕ → List ℕ → List Step
-entered s k w = stepsIn (way_of s.n s.c k w).steps
+entered s k w = steps_in (way_of s.n s.c k w).steps
 
 -- what the pages entered read under the key
 abbrev pub under : Session → ℕ → List ℕ → Option ℕ
-under s k w = find k (certsAt (entered s k w))
+under s k w = find k (certs_at (entered s k w))
 
 -- the key is there, any record
 abbrev pub Present : Session → ℕ → List ℕ → Type 0
@@ -79,29 +79,29 @@ Present s k w = (x : ℕ) × (under s k w ≡ some x)
 
 -- a full parent that must split has touched = c
 abbrev pub SyncFirst : Session → List Step → Type 0
-SyncFirst s way = tooSoon s.c (splitting way) ≡ true
+SyncFirst s way = too_soon s.c (splitting way) ≡ true
 
 -- free pages are fewer than the new pages needed, or a kind 3 root must split
 abbrev pub Full : Session → List Step → Type 0
 Full s way =
-    (length (freePages s (numbers way)) < newPages way) ⊎ ((rootSplits way ≡ true) × (tooHigh way ≡ true))
+    (length (free_pages s (numbers way)) < new_pages way) ⊎ ((root_splits way ≡ true) × (too_high way ≡ true))
 
 -- ── 11 file ─────────────────────────────────────────────────────────────────────────────────────────────────────
 
 -- it is the file of no set of certificates
 abbrev pub BadFile : List ℕ → Type 0
-BadFile f = (cs : List Cert) → is_set cs ≡ true → f ≡ fileOf cs → ⊥
+BadFile f = (cs : List Cert) → is_set cs ≡ true → f ≡ file_of cs → ⊥
 
 -- ── The calls ───────────────────────────────────────────────────────────────────────────────────────────────────
 
-abbrev pub formatCauses : List ℕ → List ℕ → List Cause
-formatCauses w s = (1 when BadTables w s) ∷ []
+abbrev pub format_causes : List ℕ → List ℕ → List Cause
+format_causes w s = (1 when BadTables w s) ∷ []
 
-abbrev pub openCauses : List ℕ → List ℕ → List Cause
-openCauses w s = (1 when BadTables w s) ∷ (3 when DamagedTree s) ∷ (8 when (lastNumber < number0 s)) ∷ []
+abbrev pub open_causes : List ℕ → List ℕ → List Cause
+open_causes w s = (1 when BadTables w s) ∷ (3 when DamagedTree s) ∷ (8 when (last_number < number0 s)) ∷ []
 
-abbrev pub insertCauses : List ℕ → List ℕ → Session → ℕ → ℕ → ℕ → List Cause
-insertCauses w t s model serial issue =
+abbrev pub insert_causes : List ℕ → List ℕ → Session → ℕ → ℕ → ℕ → List Cause
+insert_causes w t s model serial issue =
     let k = key_of model serial issue in
     (1 when BadLengths s w t)
     ∷ (2 when BadKey model serial issue)
@@ -112,15 +112,15 @@ insertCauses w t s model serial issue =
     ∷ []
 
 -- of the batch itself; each of its items answers as an insert does
-abbrev pub batchCauses : List ℕ → List ℕ → Session → List Cause
-batchCauses w t s = (1 when BadLengths s w t) ∷ []
+abbrev pub batch_causes : List ℕ → List ℕ → Session → List Cause
+batch_causes w t s = (1 when BadLengths s w t) ∷ []
 
 -- of the call that reads a file; each of its certificates answers as an insert does
-abbrev pub readCauses : List ℕ → List ℕ → Session → List ℕ → List Cause
-readCauses w t s f = (1 when BadLengths s w t) ∷ (11 when BadFile f) ∷ []
+abbrev pub read_causes : List ℕ → List ℕ → Session → List ℕ → List Cause
+read_causes w t s f = (1 when BadLengths s w t) ∷ (11 when BadFile f) ∷ []
 
-abbrev pub lookupCauses : List ℕ → List ℕ → Session → ℕ → ℕ → ℕ → List Cause
-lookupCauses w t s model serial issue =
+abbrev pub lookup_causes : List ℕ → List ℕ → Session → ℕ → ℕ → ℕ → List Cause
+lookup_causes w t s model serial issue =
     let k = key_of model serial issue in
     (1 when BadLengths s w t)
     ∷ (2 when BadKey model serial issue)
@@ -129,11 +129,11 @@ lookupCauses w t s model serial issue =
     ∷ []
 
 -- a withdrawal is refused where a lookup is
-abbrev pub withdrawCauses : List ℕ → List ℕ → Session → ℕ → ℕ → ℕ → List Cause
-withdrawCauses w t s model serial issue = lookupCauses w t s model serial issue
+abbrev pub withdraw_causes : List ℕ → List ℕ → Session → ℕ → ℕ → ℕ → List Cause
+withdraw_causes w t s model serial issue = lookup_causes w t s model serial issue
 
-abbrev pub newestCauses : List ℕ → List ℕ → Session → ℕ → ℕ → List Cause
-newestCauses w t s model serial =
+abbrev pub newest_causes : List ℕ → List ℕ → Session → ℕ → ℕ → List Cause
+newest_causes w t s model serial =
     (1 when BadLengths s w t)
     ∷ (2 when BadMeter model serial)
     ∷ (3 when DamagedRange s (meter model serial) w)
@@ -141,12 +141,12 @@ newestCauses w t s model serial =
     ∷ []
 
 -- what lies beyond the first certificate found is not entered, and yes and no are both 0
-abbrev pub anyCauses : List ℕ → List ℕ → Session → ℕ → ℕ → List Cause
-anyCauses w t s model serial =
+abbrev pub any_causes : List ℕ → List ℕ → Session → ℕ → ℕ → List Cause
+any_causes w t s model serial =
     (1 when BadLengths s w t) ∷ (2 when BadMeter model serial) ∷ (3 when DamagedRange s (first_of model serial) w) ∷ []
 
-abbrev pub listCauses : List ℕ → List ℕ → Session → ℕ → List ℕ → List ℕ → List Cause
-listCauses w t s start ks xs = (1 when BadLengths s w t) ∷ (3 when DamagedRange s (up_from start ks xs) w) ∷ []
+abbrev pub list_causes : List ℕ → List ℕ → Session → ℕ → List ℕ → List ℕ → List Cause
+list_causes w t s start ks xs = (1 when BadLengths s w t) ∷ (3 when DamagedRange s (up_from start ks xs) w) ∷ []
 
-abbrev pub syncCauses : List ℕ → List ℕ → Session → List Cause
-syncCauses w t s = (1 when BadLengths s w t) ∷ (8 when (lastNumber < s.c)) ∷ []
+abbrev pub sync_causes : List ℕ → List ℕ → Session → List Cause
+sync_causes w t s = (1 when BadLengths s w t) ∷ (8 when (last_number < s.c)) ∷ []

@@ -16,6 +16,6 @@ Given [] k = k ≡ 0
 Given (c ∷ cs) k = ((k ≡ c.number) × c.holds) ⊎ ((c.holds → ⊥) × Given cs k)
 
 -- the numbers of the table, which a call can give beside 0
-abbrev pub numbersIn : List Cause → List ℕ
-numbersIn [] = []
-numbersIn (c ∷ cs) = c.number ∷ numbersIn cs
+abbrev pub numbers_in : List Cause → List ℕ
+numbers_in [] = []
+numbers_in (c ∷ cs) = c.number ∷ numbers_in cs

@@ -3,7 +3,7 @@ use Rattle.std.specs.Prelude.{ℕ, ◌≡◌, true, false, List, [], ◌∷◌}
 use Rattle.std.proofs.Math.Option.{some, none}
 use Rattle.rules.specs.Test.{mem}
 use Rattle.rules.specs.Table.{read, build}
-use Rattle.rules.specs.Place.{rootPlace, kids, pick, fits, mendable, mended}
+use Rattle.rules.specs.Place.{root_place, kids, pick, fits, mendable, mended}
 use Rattle.rules.specs.Enter.{enter}
 use Rattle.rules.specs.Walk.{Step, numbers}
 use Rattle.rules.specs.declared.Place.{Place}
@@ -11,7 +11,7 @@ use Rattle.rules.specs.declared.Place.{Place}
 -- the walk of key k in table t reaches a place: first the root's, then one that a page entered asks for at the key.
 -- above are the pages entered, the last one first; u is the table by now
 abbrev pub Reaches : ℕ → ℕ → ℕ → List ℕ → List Step → List ℕ → Place → Type 0
-Reaches n c k t [] u e = (u ≡ t) × (e ≡ rootPlace t)
+Reaches n c k t [] u e = (u ≡ t) × (e ≡ root_place t)
 Reaches n c k t (s ∷ above) u e =
     (v : List ℕ) × Reaches n c k t above v s.place
     × (enter n c (numbers above) v s.place ≡ record { table = u; page = some s.page })
@@ -28,7 +28,7 @@ pub record MeetsDamage (n c k : ℕ) (t : List ℕ) : Type 0 where
 -- u is the table in which the walk ends: that in which it reached a damaged place, or that in which it entered a page
 -- that asks for nothing more at the key. Every place above was entered, and mended where it was lost
 pub data EndsIn (n c k : ℕ) (t u : List ℕ) : Type 0 where
-  at-damage : (above : List Step) (e : Place) → Reaches n c k t above u e → (enter n c (numbers above) u e).page ≡ none
+  at_damage : (above : List Step) (e : Place) → Reaches n c k t above u e → (enter n c (numbers above) u e).page ≡ none
       → EndsIn n c k t u
   at_leaf : (s : Step) (above : List Step) (v : List ℕ) → Reaches n c k t above v s.place
       → enter n c (numbers above) v s.place ≡ record { table = u; page = some s.page }

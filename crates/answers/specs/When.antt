@@ -6,79 +6,79 @@ use Rattle.rules.specs.Test.{every}
 use Rattle.rules.specs.Key.{key_of}
 use Rattle.rules.specs.Entry.{rising}
 use Rattle.rules.specs.Walk.{walk_of}
-use Rattle.rules.specs.Call.{formattedNo, openedNo, insertedNo, withdrawnNo, lookedNo, newestNo, anyNo, listedNo, syncedNo}
+use Rattle.rules.specs.Call.{formatted_no, opened_no, inserted_no, withdrawn_no, looked_no, newest_no, any_no, listed_no, synced_no}
 use Rattle.rules.specs.Format.{format}
 use Rattle.rules.specs.Open.{opening}
 use Rattle.rules.specs.Insert.{insert}
 use Rattle.rules.specs.Withdraw.{withdraw}
-use Rattle.rules.specs.Batch.{Between, itemNo, batchedNo, batch}
+use Rattle.rules.specs.Batch.{Between, item_no, batched_no, batch}
 use Rattle.rules.specs.Lookup.{lookup}
-use Rattle.rules.specs.Newest.{newest, newestIn, meter}
-use Rattle.rules.specs.HasAny.{hasAny, anyIn, first_of}
+use Rattle.rules.specs.Newest.{newest, newest_in, meter}
+use Rattle.rules.specs.HasAny.{has_any, any_in, first_of}
 use Rattle.rules.specs.List.{list, up_from}
 use Rattle.rules.specs.Sync.{sync}
 use Rattle.rules.specs.declared.Session.{Session}
 use Rattle.rules.specs.declared.Item.{Item}
-use Rattle.exchange.specs.ReadFile.{readNo, readFile}
+use Rattle.exchange.specs.ReadFile.{read_no, read_file}
 use Rattle.rules.specs.declared.Looked.{Looked}
 use Rattle.rules.specs.declared.Newest.{Newest}
 use Rattle.rules.specs.declared.Any.{Any}
 use Rattle.rules.specs.declared.Listed.{Listed}
-use Rattle.answers.specs.Given.{Given, numbersIn}
-use Rattle.answers.specs.Causes.{under, formatCauses, openCauses, insertCauses, withdrawCauses, batchCauses, readCauses, lookupCauses, newestCauses, anyCauses, listCauses, syncCauses}
+use Rattle.answers.specs.Given.{Given, numbers_in}
+use Rattle.answers.specs.Causes.{under, format_causes, open_causes, insert_causes, withdraw_causes, batch_causes, read_causes, lookup_causes, newest_causes, any_causes, list_causes, sync_causes}
 
 -- for any page bytes, length, session and key
 pub record When : Type 0 where
   -- lower number first
-  pub lower-first : (w t : List ℕ) (s : Session) (model serial issue start : ℕ) (ks xs : List ℕ)
+  pub lower_first : (w t : List ℕ) (s : Session) (model serial issue start : ℕ) (ks xs : List ℕ)
       → every
-      (rising (numbersIn (formatCauses w t))
-      ∷ rising (numbersIn (openCauses w t))
-      ∷ rising (numbersIn (insertCauses w t s model serial issue))
-      ∷ rising (numbersIn (withdrawCauses w t s model serial issue))
-      ∷ rising (numbersIn (readCauses w t s ks))
-      ∷ rising (numbersIn (lookupCauses w t s model serial issue))
-      ∷ rising (numbersIn (newestCauses w t s model serial))
-      ∷ rising (numbersIn (anyCauses w t s model serial))
-      ∷ rising (numbersIn (listCauses w t s start ks xs))
-      ∷ rising (numbersIn (syncCauses w t s))
+      (rising (numbers_in (format_causes w t))
+      ∷ rising (numbers_in (open_causes w t))
+      ∷ rising (numbers_in (insert_causes w t s model serial issue))
+      ∷ rising (numbers_in (withdraw_causes w t s model serial issue))
+      ∷ rising (numbers_in (read_causes w t s ks))
+      ∷ rising (numbers_in (lookup_causes w t s model serial issue))
+      ∷ rising (numbers_in (newest_causes w t s model serial))
+      ∷ rising (numbers_in (any_causes w t s model serial))
+      ∷ rising (numbers_in (list_causes w t s start ks xs))
+      ∷ rising (numbers_in (sync_causes w t s))
       ∷ [])
       ≡ true
   -- the table
-  pub format-when : (w s : List ℕ) (k : ℕ) → (formattedNo (format w s).answer ≡ k) ↔ Given (formatCauses w s) k
-  pub open-when : (w s : List ℕ) (k : ℕ) → (openedNo (opening w s).answer ≡ k) ↔ Given (openCauses w s) k
-  pub insert-when : (w t : List ℕ) (s : Session) (model serial issue x k : ℕ)
-      → (insertedNo (insert w t s model serial issue x).answer ≡ k) ↔ Given (insertCauses w t s model serial issue) k
-  pub withdraw-when : (w t : List ℕ) (s : Session) (model serial issue k : ℕ)
-      → (withdrawnNo (withdraw w t s model serial issue).answer ≡ k) ↔ Given (withdrawCauses w t s model serial issue) k
-  pub batch-when : (w t : List ℕ) (s : Session) (xs : List Item) (k : ℕ)
-      → (batchedNo (batch w t s xs).left.answer ≡ k) ↔ Given (batchCauses w t s) k
-  pub item-when : (t : List ℕ) (m : Between) (x : Item) (k : ℕ)
-      → (itemNo t m x ≡ k) ↔ Given (insertCauses m.working t m.session x.model x.serial x.issue) k
-  pub read-when : (w t : List ℕ) (s : Session) (f : List ℕ) → Bytes f → (k : ℕ)
-      → (readNo (readFile w t s f).left.answer ≡ k) ↔ Given (readCauses w t s f) k
-  pub lookup-when : (w t : List ℕ) (s : Session) (model serial issue k : ℕ)
-      → (lookedNo (lookup w t s model serial issue).answer ≡ k) ↔ Given (lookupCauses w t s model serial issue) k
-  pub newest-when : (w t : List ℕ) (s : Session) (model serial k : ℕ)
-      → (newestNo (newest w t s model serial).answer ≡ k) ↔ Given (newestCauses w t s model serial) k
-  pub any-when : (w t : List ℕ) (s : Session) (model serial k : ℕ)
-      → (anyNo (hasAny w t s model serial).answer ≡ k) ↔ Given (anyCauses w t s model serial) k
-  pub list-when : (w t : List ℕ) (s : Session) (start : ℕ) (ks xs : List ℕ) (k : ℕ)
-      → (listedNo (list w t s start ks xs).answer ≡ k) ↔ Given (listCauses w t s start ks xs) k
-  pub sync-when : (w t : List ℕ) (s : Session) (k : ℕ) → (syncedNo (sync w t s).answer ≡ k) ↔ Given (syncCauses w t s) k
+  pub format_when : (w s : List ℕ) (k : ℕ) → (formatted_no (format w s).answer ≡ k) ↔ Given (format_causes w s) k
+  pub open_when : (w s : List ℕ) (k : ℕ) → (opened_no (opening w s).answer ≡ k) ↔ Given (open_causes w s) k
+  pub insert_when : (w t : List ℕ) (s : Session) (model serial issue x k : ℕ)
+      → (inserted_no (insert w t s model serial issue x).answer ≡ k) ↔ Given (insert_causes w t s model serial issue) k
+  pub withdraw_when : (w t : List ℕ) (s : Session) (model serial issue k : ℕ)
+      → (withdrawn_no (withdraw w t s model serial issue).answer ≡ k) ↔ Given (withdraw_causes w t s model serial issue) k
+  pub batch_when : (w t : List ℕ) (s : Session) (xs : List Item) (k : ℕ)
+      → (batched_no (batch w t s xs).left.answer ≡ k) ↔ Given (batch_causes w t s) k
+  pub item_when : (t : List ℕ) (m : Between) (x : Item) (k : ℕ)
+      → (item_no t m x ≡ k) ↔ Given (insert_causes m.working t m.session x.model x.serial x.issue) k
+  pub read_when : (w t : List ℕ) (s : Session) (f : List ℕ) → Bytes f → (k : ℕ)
+      → (read_no (read_file w t s f).left.answer ≡ k) ↔ Given (read_causes w t s f) k
+  pub lookup_when : (w t : List ℕ) (s : Session) (model serial issue k : ℕ)
+      → (looked_no (lookup w t s model serial issue).answer ≡ k) ↔ Given (lookup_causes w t s model serial issue) k
+  pub newest_when : (w t : List ℕ) (s : Session) (model serial k : ℕ)
+      → (newest_no (newest w t s model serial).answer ≡ k) ↔ Given (newest_causes w t s model serial) k
+  pub any_when : (w t : List ℕ) (s : Session) (model serial k : ℕ)
+      → (any_no (has_any w t s model serial).answer ≡ k) ↔ Given (any_causes w t s model serial) k
+  pub list_when : (w t : List ℕ) (s : Session) (start : ℕ) (ks xs : List ℕ) (k : ℕ)
+      → (listed_no (list w t s start ks xs).answer ≡ k) ↔ Given (list_causes w t s start ks xs) k
+  pub sync_when : (w t : List ℕ) (s : Session) (k : ℕ) → (synced_no (sync w t s).answer ≡ k) ↔ Given (sync_causes w t s) k
   -- and with 0, what is answered beside it
-  pub found-when : (w t : List ℕ) (s : Session) (model serial issue x : ℕ)
+  pub found_when : (w t : List ℕ) (s : Session) (model serial issue x : ℕ)
       → ((lookup w t s model serial issue).answer ≡ Looked.Found x)
-      ↔ (Given (lookupCauses w t s model serial issue) 0 × (under s (key_of model serial issue) w ≡ some x))
-  pub newest-found-when : (w t : List ℕ) (s : Session) (model serial i x : ℕ)
+      ↔ (Given (lookup_causes w t s model serial issue) 0 × (under s (key_of model serial issue) w ≡ some x))
+  pub newest_found_when : (w t : List ℕ) (s : Session) (model serial i x : ℕ)
       → ((newest w t s model serial).answer ≡ Newest.Found i x)
-      ↔ (Given (newestCauses w t s model serial) 0
-      × (newestIn (walk_of s.n s.c (meter model serial) w).found ≡ Newest.Found i x))
-  pub any-told-when : (w t : List ℕ) (s : Session) (model serial : ℕ) (yes_or_no : Any) → anyNo yes_or_no ≡ 0
-      → ((hasAny w t s model serial).answer ≡ yes_or_no)
-      ↔ (Given (anyCauses w t s model serial) 0
-      × (anyIn (walk_of s.n s.c (first_of model serial) w).found ≡ yes_or_no))
-  pub filled-when : (w t : List ℕ) (s : Session) (start : ℕ) (ks xs : List ℕ) (k : ℕ)
+      ↔ (Given (newest_causes w t s model serial) 0
+      × (newest_in (walk_of s.n s.c (meter model serial) w).found ≡ Newest.Found i x))
+  pub any_told_when : (w t : List ℕ) (s : Session) (model serial : ℕ) (yes_or_no : Any) → any_no yes_or_no ≡ 0
+      → ((has_any w t s model serial).answer ≡ yes_or_no)
+      ↔ (Given (any_causes w t s model serial) 0
+      × (any_in (walk_of s.n s.c (first_of model serial) w).found ≡ yes_or_no))
+  pub filled_when : (w t : List ℕ) (s : Session) (start : ℕ) (ks xs : List ℕ) (k : ℕ)
       → ((list w t s start ks xs).answer ≡ Listed.Filled k)
-      ↔ (Given (listCauses w t s start ks xs) 0
+      ↔ (Given (list_causes w t s start ks xs) 0
       × (length (walk_of s.n s.c (up_from start ks xs) w).found ≡ k))

@@ -3,13 +3,13 @@ use Rattle.std.specs.Prelude.{ℕ, zero, suc, Bool, true, false, List, leb}
 use Rattle.rules.specs.Report.{Reported}
 use Rattle.rules.specs.Walk.{Walked}
 use Rattle.rules.specs.Call.{Left}
-use Rattle.rules.specs.HasAny.{anyIn}
+use Rattle.rules.specs.HasAny.{any_in}
 use Rattle.rules.specs.declared.Session.{Session}
 use Rattle.rules.specs.declared.Asked.{Asked}
 use Rattle.rules.specs.declared.Any.{Any}
 use Rattle.rules.specs.declared.AnyOf.{AnyOf}
 use Rattle.rules.specs.declared.Report.{Report}
-use Rattle.head.specs.Head.{certAt}
+use Rattle.head.specs.Head.{cert_at}
 use Rattle.any.specs.declared.Sought.{Sought}
 
 -- with a session beside it
@@ -28,13 +28,13 @@ abbrev pub first : ℕ → ℕ → Asked
 first low high = record { low = low; high = high; room = 1 }
 
 -- the certificate before a spot of a leaf is not below a key; there may be none
-unfoldable pub holdsIn : ℕ → ℕ → List ℕ → Bool
-holdsIn low zero b = false
-holdsIn low (suc j) b = leb low (certAt b j).key
+unfoldable pub holds_in : ℕ → ℕ → List ℕ → Bool
+holds_in low zero b = false
+holds_in low (suc j) b = leb low (cert_at b j).key
 
 -- the answer from what a walk has come to: whether it met a damaged place, and the certificates found
 unfoldable pub answer_of : Walked → Any
-answer_of w = elim w.whole [ false ↦ Any.Damaged | true ↦ anyIn w.found ]
+answer_of w = elim w.whole [ false ↦ Any.Damaged | true ↦ any_in w.found ]
 
 -- the table left, the answer and the report, before the session is handed back
 pub record Seen : Type 0 where

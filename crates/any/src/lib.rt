@@ -2,7 +2,7 @@
 //
 // `has_any` asks nothing and tests everything, in document 01's order: lengths, model and serial, page 0, then leaf
 // after leaf of the meter, up to the first that holds a certificate of it. Answer, report, session and every byte lent
-// are those of the rules' `hasAnyReported`; what was mended on the way stays mended and is reported, also behind a
+// are those of the rules' `has_any_reported`; what was mended on the way stays mended and is reported, also behind a
 // refusal. A leaf beyond the first certificate is not looked at, so its damage is not told.
 //
 // `lean` is the same for callers who keep the session where it is: it takes the session's two numbers alone, and for
@@ -13,20 +13,20 @@
 //
 // Below stand `tables`, which tests lengths, `keys`, and `leaves`, which steps from leaf to leaf.
 ghost use Rattle.std.specs.Prelude.{◌≡◌, true, ◌+◌, ◌*◌, ◌≤◌, length};
-ghost use Rattle.rules.specs.Layout.{pageSize, leafRoom};
-ghost use Rattle.rules.specs.Table.{pageAt, fit0};
+ghost use Rattle.rules.specs.Layout.{page_size, leaf_room};
+ghost use Rattle.rules.specs.Table.{page_at, fit0};
 ghost use Rattle.rules.specs.Walk.{walk_of};
-ghost use Rattle.rules.specs.Reports.{hasAnyReported};
+ghost use Rattle.rules.specs.Reports.{has_any_reported};
 ghost use Rattle.rules.specs.declared.Session.{Session};
-ghost use Rattle.any.specs.Anys.{beside, leaving, first, holdsIn, seeing, seen};
+ghost use Rattle.any.specs.Anys.{beside, leaving, first, holds_in, seeing, seen};
 
 use leaves::Stepped;
 use rules::{Any, AnyOf, LARGEST_ISSUE, Report, Session};
 
 // Whether the last certificate before a spot of leaf i is not below a key.
 fn holds(t: &[u8], i: u16, spot: usize, low: u64) -> bool
-    requires { ((i + 1) * pageSize ≤ length t.now) × (spot ≤ leafRoom) }
-    ensures { result ≡ holdsIn low spot (pageAt t.now i) }
+    requires { ((i + 1) * page_size ≤ length t.now) × (spot ≤ leaf_room) }
+    ensures { result ≡ holds_in low spot (page_at t.now i) }
 {
     if spot == 0 {
         return false;
@@ -43,7 +43,7 @@ pub struct Sought {
 
 // Leaf after leaf of a range, up to the first that holds a key of it.
 fn look(t: &mut [u8], n: usize, c: u32, low: u64, high: u64) -> Sought
-    requires { (length t.old ≡ n * pageSize) × (fit0 n t.old ≡ true) × (low ≤ high) }
+    requires { (length t.old ≡ n * page_size) × (fit0 n t.old ≡ true) × (low ≤ high) }
     ensures { seeing t.new result ≡ seen (walk_of n c (first low high) t.old) }
 {
     let mut cursor = leaves::start();
@@ -85,7 +85,7 @@ fn look(t: &mut [u8], n: usize, c: u32, low: u64, high: u64) -> Sought
 // Has-any by a session's numbers.
 pub fn lean(working: &mut [u8], stable: &[u8], n: u16, c: u32, model: u16, serial: u32) -> Sought
     ensures { (s : Session) → s.n ≡ n → s.c ≡ c → leaving (beside s result) working.new stable.now
-        ≡ hasAnyReported working.old stable.now s model serial }
+        ≡ has_any_reported working.old stable.now s model serial }
 {
     if !tables::lengths_for(n, working, stable) {
         return Sought {
@@ -125,7 +125,7 @@ pub fn has_any(
     serial: u32,
 ) -> AnyOf
     ensures { leaving result working.new stable.now
-        ≡ hasAnyReported working.old stable.now session model serial }
+        ≡ has_any_reported working.old stable.now session model serial }
 {
     let sought = lean(working, stable, session.n, session.c, model, serial);
     let answer = sought.answer;

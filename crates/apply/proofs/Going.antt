@@ -13,14 +13,14 @@ use Rattle.rules.specs.Page.{Page}
 use Rattle.rules.specs.Table.{read}
 use Rattle.rules.specs.Place.{kids, pick}
 use Rattle.rules.specs.Walk.{Step, numbers}
-use Rattle.rules.specs.Insert.{full, tooHigh, divide, Making, making, halve}
+use Rattle.rules.specs.Insert.{full, too_high, divide, Making, making, halve}
 use Rattle.rules.specs.declared.Session.{Session}
-use Rattle.rules.proofs.entries.Tests.{not-both, fails, mem-head, mem-tail, distinct_tail}
-use Rattle.rules.proofs.bytes.All.{all_tail, all_map}
-use Rattle.rules.proofs.entries.Places.{Fits}
-use Rattle.rules.proofs.demand3.steps.Plans.{rootSplits-full, newPages-full}
+use Rattle.rules.proofs.Entries.Tests.{not_both, fails, mem-head, mem_tail, distinct_tail}
+use Rattle.rules.proofs.Bytes.All.{all_tail, all_map}
+use Rattle.rules.proofs.Entries.Places.{Fits}
+use Rattle.rules.proofs.Demand3.Steps.Plans.{root_splits-full, new_pages-full}
 use Rattle.edit.specs.Takes.{TakesTwins}
-use Rattle.split.specs.Split.{stepAt}
+use Rattle.split.specs.Split.{step_at}
 use Rattle.apply.specs.Leads.{Whole, Stands, Leads, Fresh, Chosen}
 use Rattle.apply.proofs.Halving.{Onward, Sites, left-whole, left-others, left-onward, left_at}
 
@@ -30,13 +30,13 @@ pub record Gone (n c k : ℕ) (t : List ℕ) (s : Step) (above : List Step) (new
   pub whole : Whole n c m.table
   pub onward : Onward n k m.table m.at s.place s.page.view
   pub others : (i : ℕ) → 1 ≤ i → mem i (numbers (s ∷ above)) ≡ false → mem i new ≡ false → read m.table i ≡ read t i
-  pub at-is : (mem m.at (numbers (s ∷ above)) ≡ true) ⊎ (mem m.at new ≡ true)
+  pub at_is : (mem m.at (numbers (s ∷ above)) ≡ true) ⊎ (mem m.at new ≡ true)
 
 -- numbers that differ by what they are in
 pub apart_by : {i j : ℕ} (xs : List ℕ) → mem i xs ≡ true → mem j xs ≡ false → i ≢ j
-apart_by xs a b q = not-both (ap (λ (x : ℕ). mem x xs) (sym q) ∙ a) b
+apart_by xs a b q = not_both (ap (λ (x : ℕ). mem x xs) (sym q) ∙ a) b
 
-pub step-here : {n k : ℕ} {t : List ℕ} {s : Step} → Stands n k t s → stepAt t s.place ≡ s
+pub step-here : {n k : ℕ} {t : List ℕ} {s : Step} → Stands n k t s → step_at t s.place ≡ s
 step-here {s = s} st = ap (λ (p : Page). record { place = s.place; page = p }) st.reads
 
 pub stands-still : {n k : ℕ} {t u : List ℕ} {s : Step} → read u s.place.child ≡ read t s.place.child → Stands n k t s → Stands n k u s
@@ -73,7 +73,7 @@ stays {n} {c} {k} {t} s above new m w st f = record {
     roomy = ap (λ (p : Page). full p.view) st.reads ∙ f;
   };
   others = λ i a b q. refl;
-  at-is = inl (mem-head s.place.child (numbers above));
+  at_is = inl (mem-head s.place.child (numbers above));
 }
 
 -- ── One page halved below what splits above have left ───────────────────────────────────────────────────────────
@@ -82,7 +82,7 @@ module _ {n c k : ℕ} (M : Making) (s : Step) (w : Whole n c M.table) (st : Sta
     (f : full s.page.view ≡ true) {a b : ℕ} (x : Sites n s.place a b M.at)
     (tk : TakesTwins s.page.low (divide s.page.view) (read M.table M.at).view) where
   abbrev here : Step
-  here = stepAt M.table s.place
+  here = step_at M.table s.place
 
   pub stands_here : Stands n k M.table here
   stands_here = subst (Stands n k M.table) (sym (step-here st)) st
@@ -96,34 +96,34 @@ module _ {n c k : ℕ} (M : Making) (s : Step) (w : Whole n c M.table) (st : Sta
   abbrev after : Step → Making
   after u = halve c k u a b M
 
-  pub halved-whole : Whole n c (after s).table
-  halved-whole = subst (λ (u : Step). Whole n c (after u).table) (step-here st) (left-whole w stands_here full-here x takes-here M.session)
+  pub halved_whole : Whole n c (after s).table
+  halved_whole = subst (λ (u : Step). Whole n c (after u).table) (step-here st) (left-whole w stands_here full-here x takes-here M.session)
 
-  pub halved-onward : Onward n k (after s).table (after s).at s.place s.page.view
-  halved-onward =
+  pub halved_onward : Onward n k (after s).table (after s).at s.place s.page.view
+  halved_onward =
       subst (λ (u : Step). Onward n k (after u).table (after u).at u.place u.page.view) (step-here st)
       (left-onward w stands_here full-here x takes-here M.session)
 
-  pub halved-others : (i : ℕ) → i ≢ a → i ≢ b → i ≢ M.at → read (after s).table i ≡ read M.table i
-  halved-others i p q r =
+  pub halved_others : (i : ℕ) → i ≢ a → i ≢ b → i ≢ M.at → read (after s).table i ≡ read M.table i
+  halved_others i p q r =
       subst (λ (u : Step). read (after u).table i ≡ read M.table i) (step-here st)
       (left-others w stands_here full-here x takes-here M.session i p q r)
 
-  pub halved-at : ((after s).at ≡ a) ⊎ ((after s).at ≡ b)
-  halved-at =
+  pub halved_at : ((after s).at ≡ a) ⊎ ((after s).at ≡ b)
+  halved_at =
       subst (λ (u : Step). ((after u).at ≡ a) ⊎ ((after u).at ≡ b)) (step-here st)
       (left_at w stands_here full-here x takes-here M.session)
 
 -- ── The numbers for the pages above ─────────────────────────────────────────────────────────────────────────────
 
 pub mem-rest : (i x : ℕ) (xs : List ℕ) → mem i (x ∷ xs) ≡ false → mem i xs ≡ false
-mem-rest i x xs h = fails (mem i xs) (λ q. not-both (mem-tail i x xs q) h)
+mem-rest i x xs h = fails (mem i xs) (λ q. not_both (mem_tail i x xs q) h)
 
-pub mem-not : (i x : ℕ) (xs : List ℕ) → mem i (x ∷ xs) ≡ false → i ≢ x
-mem-not i x xs h q = not-both (ap (λ (j : ℕ). mem j (x ∷ xs)) q ∙ mem-head x xs) h
+pub mem_not : (i x : ℕ) (xs : List ℕ) → mem i (x ∷ xs) ≡ false → i ≢ x
+mem_not i x xs h q = not_both (ap (λ (j : ℕ). mem j (x ∷ xs)) q ∙ mem-head x xs) h
 
-high-more : (s u : Step) (above : List Step) → length (s ∷ (u ∷ above)) ≤ 3 → tooHigh (s ∷ (u ∷ above)) ≡ tooHigh (u ∷ above)
-unfolding tooHigh
+high-more : (s u : Step) (above : List Step) → length (s ∷ (u ∷ above)) ≤ 3 → too_high (s ∷ (u ∷ above)) ≡ too_high (u ∷ above)
+unfolding too_high
 high-more s u [] l = refl
 high-more s u (v ∷ []) l = refl
 high-more s u (v ∷ (x ∷ above)) l = absurd (omega arith)
@@ -141,6 +141,6 @@ pub chosen-above : {n : ℕ} (s u : Step) (above : List Step) (a b : ℕ) (new :
 chosen-above s u above a b new l f x = record {
   fresh = all_map (fresh-above s (u ∷ above)) (all_tail (all_tail x.fresh));
   apart = distinct_tail b new (distinct_tail a (b ∷ new) x.apart);
-  enough = omega (arith, x.enough, newPages-full s (u ∷ above) f);
-  room = λ r. sym (high-more s u above l) ∙ x.room (rootSplits-full s (u ∷ above) f ∙ r);
+  enough = omega (arith, x.enough, new_pages-full s (u ∷ above) f);
+  room = λ r. sym (high-more s u above l) ∙ x.room (root_splits-full s (u ∷ above) f ∙ r);
 }

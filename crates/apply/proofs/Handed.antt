@@ -10,16 +10,16 @@ use lib.Dec.{ltb}
 use lib.ListN.{length, take, get_or, get_or-eq_default}
 use lib.Seq.{length-take-le}
 use Rattle.rules.specs.Walk as rules
-use Rattle.rules.specs.Marks.{freePages}
-use Rattle.rules.specs.Insert.{rootSplits, tooHigh, newPages, noRoom}
+use Rattle.rules.specs.Marks.{free_pages}
+use Rattle.rules.specs.Insert.{root_splits, too_high, new_pages, no_room}
 use Rattle.rules.specs.declared.Session.{Session}
-use Rattle.rules.proofs.bytes.All.{All, all-at, all_take, all_map}
-use Rattle.rules.proofs.entries.Rises.{rising-take, rising-distinct}
-use Rattle.rules.proofs.bytes.Numbers.{FreePage, all-freePages, rising-freePages}
-use Rattle.rules.proofs.entries.Tests.{or-none, and-other}
+use Rattle.rules.proofs.Bytes.All.{All, all-at, all_take, all_map}
+use Rattle.rules.proofs.Entries.Rises.{rising-take, rising-distinct}
+use Rattle.rules.proofs.Bytes.Numbers.{FreePage, all-free_pages, rising-free_pages}
+use Rattle.rules.proofs.Entries.Tests.{or_none, and_other}
 use Rattle.way.specs.declared.Step.{Step}
 use Rattle.way.specs.declared.Way.{Way}
-use Rattle.apply.specs.Leads.{Leads, Fresh, Chosen, Ready, listed, stepsIn, ReadyWay, Level}
+use Rattle.apply.specs.Leads.{Leads, Fresh, Chosen, Ready, listed, steps_in, ReadyWay, Level}
 use Rattle.apply.proofs.Same.{Agree}
 use Rattle.apply.proofs.Levels.{steps-long}
 
@@ -48,20 +48,20 @@ agree-long m a b h q w = go (ltb (length a) m) refl
 
 module _ {k : ℕ} {t : List ℕ} {s : Session} {steps : List rules.Step} {pages : List ℕ} (R : Ready k t s steps pages) where
   abbrev free : List ℕ
-  free = freePages s (rules.numbers steps)
+  free = free_pages s (rules.numbers steps)
 
   abbrev need : ℕ
-  need = newPages steps
+  need = new_pages steps
 
-  room : (ltb (length free) need ≡ false) × ((rootSplits steps && tooHigh steps) ≡ false)
-  unfolding noRoom
-  room = or-none (ltb (length free) need) (rootSplits steps && tooHigh steps) R.room
+  room : (ltb (length free) need ≡ false) × ((root_splits steps && too_high steps) ≡ false)
+  unfolding no_room
+  room = or_none (ltb (length free) need) (root_splits steps && too_high steps) R.room
 
   enough : need ≤ length free
   enough = ltb-false (length free) need room.0
 
   pub ready-long : need ≤ length pages
-  ready-long = agree-long need pages free R.lowest enough (all_map (λ i x. x.page) (all-freePages s (rules.numbers steps)))
+  ready-long = agree-long need pages free R.lowest enough (all_map (λ i x. x.page) (all-free_pages s (rules.numbers steps)))
 
   taken-same : take need pages ≡ take need free
   taken-same = take-agree need pages free R.lowest ready-long enough
@@ -71,10 +71,10 @@ module _ {k : ℕ} {t : List ℕ} {s : Session} {steps : List rules.Step} {pages
 
   free-chosen : Chosen s.n steps (take need free)
   free-chosen = record {
-    fresh = all_take need (all_map fresh (all-freePages s (rules.numbers steps)));
-    apart = rising-distinct (take need free) (rising-take need free (rising-freePages s (rules.numbers steps)));
+    fresh = all_take need (all_map fresh (all-free_pages s (rules.numbers steps)));
+    apart = rising-distinct (take need free) (rising-take need free (rising-free_pages s (rules.numbers steps)));
     enough = omega (arith, length-take-le need free enough);
-    room = and-other (rootSplits steps) (tooHigh steps) room.1;
+    room = and_other (root_splits steps) (too_high steps) room.1;
   }
 
   pub ready-chosen : Chosen s.n steps (take need pages)
@@ -93,5 +93,5 @@ module _ {k : ℕ} {t : List ℕ} {s : Session} {w : Way} {pages : List ℕ} (R 
     new = ready-chosen R.ready;
   }
 
-  pub some-page : w.len ≢ 0
-  some-page q = subst (λ (i : ℕ). Leads s.n k t (stepsIn t (take i (w.leaf ∷ (w.parent ∷ (w.top ∷ [])))))) q R.ready.leads
+  pub some_page : w.len ≢ 0
+  some_page q = subst (λ (i : ℕ). Leads s.n k t (steps_in t (take i (w.leaf ∷ (w.parent ∷ (w.top ∷ [])))))) q R.ready.leads

@@ -7,18 +7,18 @@ use mathlib.Core.Bool.{Bool, false}
 use mathlib.Core.List.{List, [], ◌∷◌}
 use borrow.Author.Tests.{eq-eqb, ne_eqb}
 use lib.ListN.{take, get_or}
-use Rattle.rules.specs.Layout.{mostPages}
+use Rattle.rules.specs.Layout.{most_pages}
 use Rattle.rules.specs.Marks.{taken}
 use Rattle.rules.specs.Insert.{Making, making, halve, split}
 use Rattle.rules.specs.declared.Session.{Session}
-use Rattle.split.specs.Split.{stepAt, retireBy, Halves}
+use Rattle.split.specs.Split.{step_at, retire_by, Halves}
 use Rattle.head.specs.declared.Head.{Head}
-use Rattle.plan.specs.Plan.{fullBy, splitsBy, headsOf}
+use Rattle.plan.specs.Plan.{full_by, splits_by, heads_of}
 use Rattle.way.specs.declared.Step.{Step}
 use Rattle.way.specs.declared.Way.{Way}
-use Rattle.apply.specs.Leads.{listed, stepOn, stepsIn, ReadyWay, Starts, start_of, marksFor, rootMarked, marksBy, Numbered, ReadyPages, ReadySession}
-use Rattle.apply.proofs.Handed.{some-page}
-use Rattle.apply.proofs.Down.{halvings, Asks, turn-asks, turn-leaves, turn-goes-on, way-starts, way-begins, way-ends, turn-halves, reached}
+use Rattle.apply.specs.Leads.{listed, step_on, steps_in, ReadyWay, Starts, start_of, marks_for, root_marked, marks_by, Numbered, ReadyPages, ReadySession}
+use Rattle.apply.proofs.Handed.{some_page}
+use Rattle.apply.proofs.Down.{halvings, Asks, turn-asks, turn-leaves, turn-goes_on, way-starts, way-begins, way-ends, turn_halves, reached}
 
 -- ── Turn by turn ────────────────────────────────────────────────────────────────────────────────────────────────
 
@@ -27,38 +27,38 @@ pub record Turned (c k : ℕ) (w : Way) (pages : List ℕ) (many : ℕ) (m : Mak
   pub session : Session
   pub asks : Asks c k w pages i (making t session at)
   pub goes : halvings c k w pages i (making t session at) ≡ halvings c k w pages many m
-  pub marks : marksFor c w pages i session ≡ marksFor c w pages many m.session
+  pub marks : marks_for c w pages i session ≡ marks_for c w pages many m.session
 
 -- one turn's marks
-pub marks-turn : (c : ℕ) (w : Way) (pages : List ℕ) (i : ℕ) → 0 < i → (x : Step) → x ≡ stepOn w (i - 1) → (s : Session)
-    → marksFor c w pages (i - 1)
-    (retireBy c x.place.child x.head (taken (get_or pages (2 * (i - 1) + 1) 0) (taken (get_or pages (2 * (i - 1)) 0) s)))
-    ≡ marksFor c w pages i s
-unfolding marksFor
+pub marks-turn : (c : ℕ) (w : Way) (pages : List ℕ) (i : ℕ) → 0 < i → (x : Step) → x ≡ step_on w (i - 1) → (s : Session)
+    → marks_for c w pages (i - 1)
+    (retire_by c x.place.child x.head (taken (get_or pages (2 * (i - 1) + 1) 0) (taken (get_or pages (2 * (i - 1)) 0) s)))
+    ≡ marks_for c w pages i s
+unfolding marks_for
 marks-turn c w pages i some x e s =
     let back : suc (i - 1) ≡ i = omega arith in
-    ap (λ (y : Step). marksFor c w pages (i - 1) (retireBy c y.place.child y.head (taken (get_or pages (2 * (i - 1) + 1) 0) (taken (get_or pages (2 * (i - 1)) 0) s)))) e
-    ∙ ap (λ (j : ℕ). marksFor c w pages j s) back
+    ap (λ (y : Step). marks_for c w pages (i - 1) (retire_by c y.place.child y.head (taken (get_or pages (2 * (i - 1) + 1) 0) (taken (get_or pages (2 * (i - 1)) 0) s)))) e
+    ∙ ap (λ (j : ℕ). marks_for c w pages j s) back
 
-pub marks-none : (c : ℕ) (w : Way) (pages : List ℕ) (i : ℕ) (s : Session) → i ≡ 0 → marksFor c w pages i s ≡ s
-unfolding marksFor
-marks-none c w pages i s e = ap (λ (j : ℕ). marksFor c w pages j s) e
+pub marks-none : (c : ℕ) (w : Way) (pages : List ℕ) (i : ℕ) (s : Session) → i ≡ 0 → marks_for c w pages i s ≡ s
+unfolding marks_for
+marks-none c w pages i s e = ap (λ (j : ℕ). marks_for c w pages j s) e
 
 module _ (c k : ℕ) (w : Way) (pages : List ℕ) (many : ℕ) (m : Making) where
   pub turned-first : Asks c k w pages many m → Turned c k w pages many m many m.table m.at
   turned-first a = record { session = m.session; asks = a; goes = refl; marks = refl }
 
   module _ (i : ℕ) (some : 0 < i) {t : List ℕ} {at : ℕ} (T : Turned c k w pages many m i t at) (x : Step)
-      (e : x ≡ stepOn w (i - 1)) where
+      (e : x ≡ step_on w (i - 1)) where
     pub turned-asks : Halves t x.place x.head (get_or pages (2 * (i - 1)) 0) (get_or pages (2 * (i - 1) + 1) 0) at
     turned-asks = turn-asks c k w pages i some (making t T.session at) T.asks x e
 
     abbrev marked : Session → Session
-    marked s = retireBy c x.place.child x.head (taken (get_or pages (2 * (i - 1) + 1) 0) (taken (get_or pages (2 * (i - 1)) 0) s))
+    marked s = retire_by c x.place.child x.head (taken (get_or pages (2 * (i - 1) + 1) 0) (taken (get_or pages (2 * (i - 1)) 0) s))
 
     pub turned-next : (t' : List ℕ) (r : ℕ)
         → ((s : Session) → making t' (marked s) r
-        ≡ halve c k (stepAt t x.place) (get_or pages (2 * (i - 1)) 0) (get_or pages (2 * (i - 1) + 1) 0) (making t s at))
+        ≡ halve c k (step_at t x.place) (get_or pages (2 * (i - 1)) 0) (get_or pages (2 * (i - 1) + 1) 0) (making t s at))
         → Turned c k w pages many m (i - 1) t' r
     turned-next t' r z =
         let now = making t T.session at in
@@ -66,44 +66,44 @@ module _ (c k : ℕ) (w : Way) (pages : List ℕ) (many : ℕ) (m : Making) wher
         record {
           session = marked T.session;
           asks = turn-leaves c k w pages i some now T.asks x e next (z T.session);
-          goes = turn-goes-on c k w pages i some now T.asks x e next (z T.session) ∙ T.goes;
+          goes = turn-goes_on c k w pages i some now T.asks x e next (z T.session) ∙ T.goes;
           marks = marks-turn c w pages i some x e T.session ∙ T.marks;
         }
 
 -- ── A new root ──────────────────────────────────────────────────────────────────────────────────────────────────
 
 module _ (w : Way) (pages : List ℕ) (many : ℕ) (s : Session) where
-  pub root-taken : many ≡ w.len → rootMarked w pages many s ≡ taken (get_or pages (2 * many) 0) s
-  unfolding rootMarked
-  root-taken e = rw (eq-eqb many w.len e, rootMarked)
+  pub root-taken : many ≡ w.len → root_marked w pages many s ≡ taken (get_or pages (2 * many) 0) s
+  unfolding root_marked
+  root-taken e = rw (eq-eqb many w.len e, root_marked)
 
-  pub root-stays : many ≢ w.len → rootMarked w pages many s ≡ s
-  unfolding rootMarked
-  root-stays e = rw (ne_eqb many w.len e, rootMarked)
+  pub root-stays : many ≢ w.len → root_marked w pages many s ≡ s
+  unfolding root_marked
+  root-stays e = rw (ne_eqb many w.len e, root_marked)
 
-  module _ (q : many ≡ splitsBy (headsOf w)) (r u : Session) (z : r ≡ marksFor u.c w pages many u) where
-    all-marked : u ≡ rootMarked w pages many s → u.c ≡ s.c → r ≡ marksBy w pages (splitsBy (headsOf w)) s
-    unfolding marksBy
+  module _ (q : many ≡ splits_by (heads_of w)) (r u : Session) (z : r ≡ marks_for u.c w pages many u) where
+    all-marked : u ≡ root_marked w pages many s → u.c ≡ s.c → r ≡ marks_by w pages (splits_by (heads_of w)) s
+    unfolding marks_by
     all-marked e d =
-        z ∙ (ap (λ (c : ℕ). marksFor c w pages many u) d
-        ∙ (ap (marksFor s.c w pages many) e ∙ ap (λ (j : ℕ). marksBy w pages j s) q))
+        z ∙ (ap (λ (c : ℕ). marks_for c w pages many u) d
+        ∙ (ap (marks_for s.c w pages many) e ∙ ap (λ (j : ℕ). marks_by w pages j s) q))
 
-    pub marked-root : many ≡ w.len → u ≡ taken (get_or pages (2 * many) 0) s → r ≡ marksBy w pages (splitsBy (headsOf w)) s
+    pub marked-root : many ≡ w.len → u ≡ taken (get_or pages (2 * many) 0) s → r ≡ marks_by w pages (splits_by (heads_of w)) s
     marked-root e d = all-marked (d ∙ sym (root-taken e)) (ap (λ (v : Session). v.c) d)
 
-    pub marked-none : many ≢ w.len → u ≡ s → r ≡ marksBy w pages (splitsBy (headsOf w)) s
+    pub marked-none : many ≢ w.len → u ≡ s → r ≡ marks_by w pages (splits_by (heads_of w)) s
     marked-none e d = all-marked (d ∙ sym (root-stays e)) (ap (λ (v : Session). v.c) d)
 
 -- ── The whole way ───────────────────────────────────────────────────────────────────────────────────────────────
 
 module _ {c k : ℕ} {t : List ℕ} {w : Way} {pages : List ℕ} (y : ReadyPages c k t w pages)
-    (many : ℕ) (q : many ≡ splitsBy (headsOf w)) (t₀ : List ℕ) (at₀ : ℕ)
-    (z : (s : Session) → making t₀ (rootMarked w pages many s) at₀ ≡ start_of c t w pages many s) where
+    (many : ℕ) (q : many ≡ splits_by (heads_of w)) (t₀ : List ℕ) (at₀ : ℕ)
+    (z : (s : Session) → making t₀ (root_marked w pages many s) at₀ ≡ start_of c t w pages many s) where
   abbrev s : Session
   s = y.session
 
   abbrev pub first : Making
-  first = making t₀ (rootMarked w pages many s) at₀
+  first = making t₀ (root_marked w pages many s) at₀
 
   started : first ≡ start_of s.c t w pages many s
   started = z s ∙ ap (λ (d : ℕ). start_of d t w pages many s) (sym y.counter)
@@ -113,34 +113,34 @@ module _ {c k : ℕ} {t : List ℕ} {w : Way} {pages : List ℕ} (y : ReadyPages
 
   module _ (i : ℕ) (e : i ≡ 0) (t' : List ℕ) (r : ℕ) where
     last : Turned s.c k w pages many first i t' r
-        → making t' (marksBy w pages (splitsBy (headsOf w)) s) r ≡ split s.c k (stepsIn t (listed w)) pages (making t s 0)
-    unfolding marksBy
+        → making t' (marks_by w pages (splits_by (heads_of w)) s) r ≡ split s.c k (steps_in t (listed w)) pages (making t s 0)
+    unfolding marks_by
     last T =
-        let same : marksBy w pages (splitsBy (headsOf w)) s ≡ T.session =
-        ap (λ (j : ℕ). marksBy w pages j s) (sym q) ∙ (sym T.marks ∙ marks-none s.c w pages i T.session e) in
+        let same : marks_by w pages (splits_by (heads_of w)) s ≡ T.session =
+        ap (λ (j : ℕ). marks_by w pages j s) (sym q) ∙ (sym T.marks ∙ marks-none s.c w pages i T.session e) in
         ap (λ (u : Session). making t' u r) same ∙ way-ends y.ready many q first started i (making t' T.session r) e T.goes
 
     pub turned-last : Turned c k w pages many first i t' r
-        → making t' (marksBy w pages (splitsBy (headsOf w)) s) r ≡ split s.c k (stepsIn t (listed w)) pages (making t s 0)
+        → making t' (marks_by w pages (splits_by (heads_of w)) s) r ≡ split s.c k (steps_in t (listed w)) pages (making t s 0)
     turned-last T = last (subst (λ (d : ℕ). Turned d k w pages many first i t' r) (sym y.counter) T)
 
 -- ── A leaf that has room ────────────────────────────────────────────────────────────────────────────────────────
 
-none-split : (h : Head) (hs : List Head) (n : ℕ) → n ≢ 0 → fullBy h ≡ false → splitsBy (take n (h ∷ hs)) ≡ 0
-unfolding splitsBy
+none-split : (h : Head) (hs : List Head) (n : ℕ) → n ≢ 0 → full_by h ≡ false → splits_by (take n (h ∷ hs)) ≡ 0
+unfolding splits_by
 none-split h hs zero z f = absurd (z refl)
-none-split h hs (suc n) z f = rw (f, splitsBy)
+none-split h hs (suc n) z f = rw (f, splits_by)
 
 pub leaf-marks : {k : ℕ} {t : List ℕ} {s : Session} {w : Way} {pages : List ℕ} → ReadyWay k t s w pages → {b : Bool}
-    → b ≡ fullBy w.leaf.head → b ≡ false → marksBy w pages (splitsBy (headsOf w)) s ≡ s
-unfolding marksBy marksFor rootMarked
+    → b ≡ full_by w.leaf.head → b ≡ false → marks_by w pages (splits_by (heads_of w)) s ≡ s
+unfolding marks_by marks_for root_marked
 leaf-marks {s = s} {w = w} {pages = pages} R q e =
-    let room = none-split w.leaf.head (w.parent.head ∷ (w.top.head ∷ [])) w.len (some-page R) (sym q ∙ e) in
-    ap (λ (j : ℕ). marksBy w pages j s) room ∙ rw (ne_eqb 0 w.len (λ z. some-page R (sym z)), rootMarked)
+    let room = none-split w.leaf.head (w.parent.head ∷ (w.top.head ∷ [])) w.len (some_page R) (sym q ∙ e) in
+    ap (λ (j : ℕ). marks_by w pages j s) room ∙ rw (ne_eqb 0 w.len (λ z. some_page R (sym z)), root_marked)
 
 -- ── Numbers that have marks ─────────────────────────────────────────────────────────────────────────────────────
 
-module _ {s : Session} {w : Way} {pages : List ℕ} (R : ReadySession s w pages) (many : ℕ) (q : many ≡ splitsBy (headsOf w)) where
+module _ {s : Session} {w : Way} {pages : List ℕ} (R : ReadySession s w pages) (many : ℕ) (q : many ≡ splits_by (heads_of w)) where
   starts : Starts R.table w pages many
   starts = way-starts R.ready many q
 
@@ -148,19 +148,19 @@ module _ {s : Session} {w : Way} {pages : List ℕ} (R : ReadySession s w pages)
   over j = reached R.key R.table s w pages (suc j)
 
   halves : (j : ℕ) → j < many
-      → Halves (over j).table (stepOn w j).place (stepOn w j).head (get_or pages (2 * j) 0) (get_or pages (2 * j + 1) 0) (over j).at
+      → Halves (over j).table (step_on w j).place (step_on w j).head (get_or pages (2 * j) 0) (get_or pages (2 * j + 1) 0) (over j).at
   halves j h =
       let m = over j in
-      turn-halves R.ready many q j h m.table m.session m.at refl
+      turn_halves R.ready many q j h m.table m.session m.at refl
 
   pub numbered : Numbered w pages many
   numbered = record {
     short = starts.short;
     len = starts.len;
-    child = λ j h. omega (arith, (halves j h).child-in, (halves j h).few);
+    child = λ j h. omega (arith, (halves j h).child_in_lem, (halves j h).few);
     lower = λ j h. omega (arith, (halves j h).lower_in, (halves j h).few);
     upper = λ j h. omega (arith, (halves j h).upper_in, (halves j h).few);
   }
 
-  pub root-numbered : many ≡ w.len → get_or pages (2 * many) 0 < mostPages
+  pub root-numbered : many ≡ w.len → get_or pages (2 * many) 0 < most_pages
   root-numbered e = omega (arith, (starts.grows e).new_in, (starts.grows e).few)

@@ -9,18 +9,18 @@ use mathlib.Core.List.{List, [], ◌∷◌}
 use lib.ListN.{length, drop, get_or, length-take, length-drop}
 use lib.Seq.{drop-cons}
 use Rattle.rules.specs.Table.{read}
-use Rattle.rules.specs.Insert.{full, newPages, Making, making, grow, halve, split}
+use Rattle.rules.specs.Insert.{full, new_pages, Making, making, grow, halve, split}
 use Rattle.rules.specs.declared.Session.{Session}
-use Rattle.rules.proofs.bytes.All.{all_head}
-use Rattle.rules.proofs.entries.Views.{shaped-read}
-use Rattle.rules.proofs.demand3.steps.Plans.{newPages-full, newPages-none}
-use Rattle.split.specs.Split.{stepAt, Halves, Grows}
-use Rattle.plan.specs.Plan.{fullBy}
-use Rattle.plan.proofs.Pages.{full_by}
+use Rattle.rules.proofs.Bytes.All.{all_head}
+use Rattle.rules.proofs.Entries.Views.{shaped-read}
+use Rattle.rules.proofs.Demand3.Steps.Plans.{new_pages-full, new_pages-none}
+use Rattle.split.specs.Split.{step_at, Halves, Grows}
+use Rattle.plan.specs.Plan.{full_by}
+use Rattle.plan.proofs.Pages.{full_by_lem}
 use Rattle.way.specs.declared.Step.{Step}
-use Rattle.apply.specs.Leads.{HeadRead, stepsIn, Level}
-use Rattle.apply.proofs.Levels.{level-above, level-halves, level-split}
-use Rattle.apply.proofs.Root.{root-grows, root-halves, root-split}
+use Rattle.apply.specs.Leads.{HeadRead, steps_in, Level}
+use Rattle.apply.proofs.Levels.{level-above, level_halves, level-split}
+use Rattle.apply.proofs.Root.{root-grows, root_halves, root-split}
 
 -- ── The first numbers of an array from a spot on ────────────────────────────────────────────────────────────────
 
@@ -44,21 +44,21 @@ first_three i pages h =
     (drop-cons pages (i + 2) 0 (omega arith) ∙ ap (λ (j : ℕ). get_or pages (i + 2) 0 ∷ drop j pages) three)
 
 -- what the header says of the page
-pub full-read : (t : List ℕ) (x : Step) → HeadRead t x → full (read t x.place.child).view ≡ fullBy x.head
-full-read t x h = sym (ap fullBy h ∙ full_by (read t x.place.child) (shaped-read t x.place.child))
+pub full-read : (t : List ℕ) (x : Step) → HeadRead t x → full (read t x.place.child).view ≡ full_by x.head
+full-read t x h = sym (ap full_by h ∙ full_by_lem (read t x.place.child) (shaped-read t x.place.child))
 
 module _ {c k : ℕ} {t : List ℕ} {x : Step} {above : List Step} {pages : List ℕ} (L : Level c k t (x ∷ above) pages)
-    {b : Bool} (q : b ≡ fullBy x.head) where
+    {b : Bool} (q : b ≡ full_by x.head) where
   full-then : full (read t x.place.child).view ≡ b
   full-then = full-read t x (all_head L.heads) ∙ sym q
 
-  enough : newPages (stepsIn t (x ∷ above)) ≤ length pages
-  enough = omega (arith, L.new.enough, length-take (newPages (stepsIn t (x ∷ above))) pages)
+  enough : new_pages (steps_in t (x ∷ above)) ≤ length pages
+  enough = omega (arith, L.new.enough, length-take (new_pages (steps_in t (x ∷ above))) pages)
 
 -- ── A page below another ────────────────────────────────────────────────────────────────────────────────────────
 
 module _ {c k : ℕ} {t : List ℕ} {x y : Step} {above : List Step} (i : ℕ) (pages : List ℕ)
-    (L : Level c k t (x ∷ (y ∷ above)) (drop i pages)) {b : Bool} (q : b ≡ fullBy x.head) (e : b ≡ true) where
+    (L : Level c k t (x ∷ (y ∷ above)) (drop i pages)) {b : Bool} (q : b ≡ full_by x.head) (e : b ≡ true) where
   below-full : full (read t x.place.child).view ≡ true
   below-full = full-then L q ∙ e
 
@@ -66,7 +66,7 @@ module _ {c k : ℕ} {t : List ℕ} {x y : Step} {above : List Step} (i : ℕ) (
   two = get_or pages i 0 ∷ (get_or pages (i + 1) 0 ∷ drop (i + 2) pages)
 
   are-two : drop i pages ≡ two
-  are-two = first_two i pages (omega (arith, enough L q, newPages-full (stepAt t x.place) (stepsIn t (y ∷ above)) below-full))
+  are-two = first_two i pages (omega (arith, enough L q, new_pages-full (step_at t x.place) (steps_in t (y ∷ above)) below-full))
 
   L₂ : Level c k t (x ∷ (y ∷ above)) two
   L₂ = subst (Level c k t (x ∷ (y ∷ above))) are-two L
@@ -74,47 +74,47 @@ module _ {c k : ℕ} {t : List ℕ} {x y : Step} {above : List Step} (i : ℕ) (
   pub below-above : Level c k t (y ∷ above) (drop (i + 2) pages)
   below-above = level-above L₂ below-full
 
-  pub below-halves : (m : Session) (t' : List ℕ) (m' : Session) (at : ℕ)
-      → making t' m' at ≡ split c k (stepsIn t (y ∷ above)) (drop (i + 2) pages) (making t m 0)
+  pub below_halves : (m : Session) (t' : List ℕ) (m' : Session) (at : ℕ)
+      → making t' m' at ≡ split c k (steps_in t (y ∷ above)) (drop (i + 2) pages) (making t m 0)
       → Halves t' x.place x.head (get_or pages i 0) (get_or pages (i + 1) 0) at
-  below-halves m t' m' at z = level-halves L₂ below-full m t' m' at z
+  below_halves m t' m' at z = level_halves L₂ below-full m t' m' at z
 
   pub below_split : (m : Session) (t' : List ℕ) (m' : Session) (at : ℕ) (r : Making)
-      → making t' m' at ≡ split c k (stepsIn t (y ∷ above)) (drop (i + 2) pages) (making t m 0)
-      → r ≡ halve c k (stepAt t' x.place) (get_or pages i 0) (get_or pages (i + 1) 0) (making t' m' at)
-      → r ≡ split c k (stepsIn t (x ∷ (y ∷ above))) (drop i pages) (making t m 0)
+      → making t' m' at ≡ split c k (steps_in t (y ∷ above)) (drop (i + 2) pages) (making t m 0)
+      → r ≡ halve c k (step_at t' x.place) (get_or pages i 0) (get_or pages (i + 1) 0) (making t' m' at)
+      → r ≡ split c k (steps_in t (x ∷ (y ∷ above))) (drop i pages) (making t m 0)
   below_split m t' m' at r z w =
       level-split L₂ below-full m t' m' at r z w
-      ∙ ap (λ (ns : List ℕ). split c k (stepsIn t (x ∷ (y ∷ above))) ns (making t m 0)) (sym are-two)
+      ∙ ap (λ (ns : List ℕ). split c k (steps_in t (x ∷ (y ∷ above))) ns (making t m 0)) (sym are-two)
 
 -- ── The root ────────────────────────────────────────────────────────────────────────────────────────────────────
 
 module _ {c k : ℕ} {t : List ℕ} {x : Step} (i : ℕ) (pages : List ℕ) (L : Level c k t (x ∷ []) (drop i pages))
-    {b : Bool} (q : b ≡ fullBy x.head) (e : b ≡ true) (m : Session) where
+    {b : Bool} (q : b ≡ full_by x.head) (e : b ≡ true) (m : Session) where
   top-full : full (read t x.place.child).view ≡ true
   top-full = full-then L q ∙ e
 
   abbrev three : List ℕ
   three = get_or pages i 0 ∷ (get_or pages (i + 1) 0 ∷ (get_or pages (i + 2) 0 ∷ drop (i + 3) pages))
 
-  are-three : drop i pages ≡ three
-  are-three = first_three i pages (omega (arith, enough L q, newPages-full (stepAt t x.place) [] top-full, newPages-none))
+  are_three : drop i pages ≡ three
+  are_three = first_three i pages (omega (arith, enough L q, new_pages-full (step_at t x.place) [] top-full, new_pages-none))
 
   L₃ : Level c k t (x ∷ []) three
-  L₃ = subst (Level c k t (x ∷ [])) are-three L
+  L₃ = subst (Level c k t (x ∷ [])) are_three L
 
   pub top-grows : Grows t x.place x.head (get_or pages (i + 2) 0)
   top-grows = root-grows L₃ top-full m
 
-  pub top-halves : (t' : List ℕ) (m' : Session) (at : ℕ)
-      → making t' m' at ≡ grow c (stepAt t x.place) (get_or pages (i + 2) 0) (making t m 0)
+  pub top_halves : (t' : List ℕ) (m' : Session) (at : ℕ)
+      → making t' m' at ≡ grow c (step_at t x.place) (get_or pages (i + 2) 0) (making t m 0)
       → Halves t' x.place x.head (get_or pages i 0) (get_or pages (i + 1) 0) at
-  top-halves t' m' at z = root-halves L₃ top-full m t' m' at z
+  top_halves t' m' at z = root_halves L₃ top-full m t' m' at z
 
   pub top_split : (t' : List ℕ) (m' : Session) (at : ℕ) (r : Making)
-      → making t' m' at ≡ grow c (stepAt t x.place) (get_or pages (i + 2) 0) (making t m 0)
-      → r ≡ halve c k (stepAt t' x.place) (get_or pages i 0) (get_or pages (i + 1) 0) (making t' m' at)
-      → r ≡ split c k (stepsIn t (x ∷ [])) (drop i pages) (making t m 0)
+      → making t' m' at ≡ grow c (step_at t x.place) (get_or pages (i + 2) 0) (making t m 0)
+      → r ≡ halve c k (step_at t' x.place) (get_or pages i 0) (get_or pages (i + 1) 0) (making t' m' at)
+      → r ≡ split c k (steps_in t (x ∷ [])) (drop i pages) (making t m 0)
   top_split t' m' at r z w =
       root-split L₃ top-full m t' m' at r z w
-      ∙ ap (λ (ns : List ℕ). split c k (stepsIn t (x ∷ [])) ns (making t m 0)) (sym are-three)
+      ∙ ap (λ (ns : List ℕ). split c k (steps_in t (x ∷ [])) ns (making t m 0)) (sym are_three)

@@ -8,32 +8,32 @@ use lib.ListN.{take}
 use Rattle.rules.specs.Page.{Page}
 use Rattle.rules.specs.Table.{read}
 use Rattle.rules.specs.Walk as rules
-use Rattle.rules.specs.Insert.{full, newPages, divide, Making, making, grow, halve, split}
+use Rattle.rules.specs.Insert.{full, new_pages, divide, Making, making, grow, halve, split}
 use Rattle.rules.specs.declared.Session.{Session}
-use Rattle.rules.proofs.bytes.All.{all_head, all_tail}
-use Rattle.rules.proofs.demand3.steps.Plans.{newPages-full, newPages-none}
-use Rattle.rules.proofs.demand3.steps.SplitWay.{split_one}
+use Rattle.rules.proofs.Bytes.All.{all_head, all_tail}
+use Rattle.rules.proofs.Demand3.Steps.Plans.{new_pages-full, new_pages-none}
+use Rattle.rules.proofs.Demand3.Steps.SplitWay.{split_one}
 use Rattle.edit.specs.Takes.{TakesTwins}
 use Rattle.head.proofs.Headers.{head_of}
-use Rattle.split.specs.Split.{stepAt, Halves, Grows}
+use Rattle.split.specs.Split.{step_at, Halves, Grows}
 use Rattle.way.specs.declared.Step.{Step}
-use Rattle.apply.specs.Leads.{Stands, Chosen, stepsIn, Level}
+use Rattle.apply.specs.Leads.{Stands, Chosen, steps_in, Level}
 use Rattle.apply.proofs.Halving.{halves}
 use Rattle.apply.proofs.Growing.{grows}
 use Rattle.apply.proofs.Going.{step-here}
-use Rattle.apply.proofs.Whole.{short, root-whole, root_stands, root-sites, takes-root}
+use Rattle.apply.proofs.Whole.{short, root-whole, root_stands, root_sites, takes-root}
 
 module _ {c k : ℕ} {t : List ℕ} {x : Step} {a b g : ℕ} {new : List ℕ} (L : Level c k t (x ∷ []) (a ∷ (b ∷ (g ∷ new))))
     (f : full (read t x.place.child).view ≡ true) (m : Session) where
   abbrev s : rules.Step
-  s = stepAt t x.place
+  s = step_at t x.place
 
   abbrev M : Making
   M = grow c s g (making t m 0)
 
   chosen : Chosen L.n (s ∷ []) (a ∷ (b ∷ (g ∷ [])))
   chosen =
-      let q : newPages (s ∷ []) ≡ 3 = omega (arith, newPages-full s [] f, newPages-none) in
+      let q : new_pages (s ∷ []) ≡ 3 = omega (arith, new_pages-full s [] f, new_pages-none) in
       subst (λ (i : ℕ). Chosen L.n (s ∷ []) (take i (a ∷ (b ∷ (g ∷ new))))) q L.new
 
   pub root-grows : Grows t x.place x.head g
@@ -53,18 +53,18 @@ module _ {c k : ℕ} {t : List ℕ} {x : Step} {a b g : ℕ} {new : List ℕ} (L
       halves (root-whole s a b g [] m L.whole L.leads f chosen)
       (subst (Stands L.n k M.table) (sym (step-here st)) st)
       (ap (λ (p : Page). full p.view) same ∙ f)
-      (root-sites s a b g [] m L.whole L.leads f chosen)
+      (root_sites s a b g [] m L.whole L.leads f chosen)
       (subst (λ (p : Page). TakesTwins p.low (divide p.view) (read M.table M.at).view) (sym same)
       (takes-root s a b g [] m L.whole L.leads f chosen))
       x.head (all_head L.heads ∙ ap head_of (sym same))
 
-  pub root-halves : (t' : List ℕ) (m' : Session) (i : ℕ) → making t' m' i ≡ M → Halves t' x.place x.head a b i
-  root-halves t' m' i q = subst (λ (z : Making). Halves z.table x.place x.head a b z.at) (sym q) here
+  pub root_halves : (t' : List ℕ) (m' : Session) (i : ℕ) → making t' m' i ≡ M → Halves t' x.place x.head a b i
+  root_halves t' m' i q = subst (λ (z : Making). Halves z.table x.place x.head a b z.at) (sym q) here
 
   pub root-split : (t' : List ℕ) (m' : Session) (i : ℕ) (r : Making) → making t' m' i ≡ M
-      → r ≡ halve c k (stepAt t' x.place) a b (making t' m' i)
-      → r ≡ split c k (stepsIn t (x ∷ [])) (a ∷ (b ∷ (g ∷ new))) (making t m 0)
+      → r ≡ halve c k (step_at t' x.place) a b (making t' m' i)
+      → r ≡ split c k (steps_in t (x ∷ [])) (a ∷ (b ∷ (g ∷ new))) (making t m 0)
   root-split t' m' i r q z =
-      z ∙ (ap (λ (w : Making). halve c k (stepAt w.table x.place) a b w) q
+      z ∙ (ap (λ (w : Making). halve c k (step_at w.table x.place) a b w) q
       ∙ (ap (λ (p : Page). halve c k (record { place = x.place; page = p }) a b M) same
       ∙ sym (split_one c k s (a ∷ (b ∷ (g ∷ new))) (making t m 0) f)))

@@ -4,19 +4,19 @@ use mathlib.Core.Path.{◌≡◌, sym, ap, ◌∙◌}
 use mathlib.Core.List.{[], ◌∷◌}
 use lib.ListN.{get_or}
 use lib.Seq.{get_or-take}
-use Rattle.way.specs.Ways.{noStep}
+use Rattle.way.specs.Ways.{no_step}
 use Rattle.way.specs.declared.Way.{Way}
-use Rattle.apply.specs.Leads.{stepOn}
+use Rattle.apply.specs.Leads.{step_on}
 
 module _ (w : Way) (i : ℕ) (h : i < w.len) where
-  here : stepOn w i ≡ get_or (w.leaf ∷ (w.parent ∷ (w.top ∷ []))) i noStep
-  here = get_or-take w.len (w.leaf ∷ (w.parent ∷ (w.top ∷ []))) i noStep h
+  here : step_on w i ≡ get_or (w.leaf ∷ (w.parent ∷ (w.top ∷ []))) i no_step
+  here = get_or-take w.len (w.leaf ∷ (w.parent ∷ (w.top ∷ []))) i no_step h
 
-  pub step-first : i ≡ 0 → w.leaf ≡ stepOn w i
-  step-first e = sym (here ∙ ap (λ (j : ℕ). get_or (w.leaf ∷ (w.parent ∷ (w.top ∷ []))) j noStep) e)
+  pub step-first : i ≡ 0 → w.leaf ≡ step_on w i
+  step-first e = sym (here ∙ ap (λ (j : ℕ). get_or (w.leaf ∷ (w.parent ∷ (w.top ∷ []))) j no_step) e)
 
-  pub step-second : i ≡ 1 → w.parent ≡ stepOn w i
-  step-second e = sym (here ∙ ap (λ (j : ℕ). get_or (w.leaf ∷ (w.parent ∷ (w.top ∷ []))) j noStep) e)
+  pub step-second : i ≡ 1 → w.parent ≡ step_on w i
+  step-second e = sym (here ∙ ap (λ (j : ℕ). get_or (w.leaf ∷ (w.parent ∷ (w.top ∷ []))) j no_step) e)
 
-  pub step-third : i ≡ 2 → w.top ≡ stepOn w i
-  step-third e = sym (here ∙ ap (λ (j : ℕ). get_or (w.leaf ∷ (w.parent ∷ (w.top ∷ []))) j noStep) e)
+  pub step-third : i ≡ 2 → w.top ≡ step_on w i
+  step-third e = sym (here ∙ ap (λ (j : ℕ). get_or (w.leaf ∷ (w.parent ∷ (w.top ∷ []))) j no_step) e)

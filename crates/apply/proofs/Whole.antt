@@ -9,32 +9,32 @@ use mathlib.Core.List.{List, [], ◌∷◌}
 use lib.Dec.{eqb}
 use lib.ListN.{length}
 use borrow.Author.Tests.{eqb-false}
-use Rattle.rules.specs.Layout.{topKind}
+use Rattle.rules.specs.Layout.{top_kind}
 use Rattle.rules.specs.Test.{mem}
 use Rattle.rules.specs.Page.{Page}
 use Rattle.rules.specs.Table.{read}
 use Rattle.rules.specs.Walk.{Step, numbers}
-use Rattle.rules.specs.Insert.{full, rootSplits, tooHigh, divide, Making, making, grow, halve, split}
+use Rattle.rules.specs.Insert.{full, root_splits, too_high, divide, Making, making, grow, halve, split}
 use Rattle.rules.specs.declared.Session.{Session}
-use Rattle.rules.proofs.entries.Tests.{mem-head, mem-tail, distinct_head, distinct_tail}
-use Rattle.rules.proofs.bytes.All.{all_head, all_tail}
-use Rattle.rules.proofs.demand3.steps.Plans.{rootSplits-full, newPages-full, rootSplits-none, newPages-none}
-use Rattle.rules.proofs.demand3.steps.SplitWay.{split_one, split-more, split-none}
+use Rattle.rules.proofs.Entries.Tests.{mem-head, mem_tail, distinct_head, distinct_tail}
+use Rattle.rules.proofs.Bytes.All.{all_head, all_tail}
+use Rattle.rules.proofs.Demand3.Steps.Plans.{root_splits-full, new_pages-full, root_splits-none, new_pages-none}
+use Rattle.rules.proofs.Demand3.Steps.SplitWay.{split_one, split-more, split-none}
 use Rattle.edit.specs.Takes.{TakesTwins}
-use Rattle.split.specs.Split.{stepAt}
+use Rattle.split.specs.Split.{step_at}
 use Rattle.apply.specs.Leads.{Whole, Stands, Leads, Fresh, Chosen}
 use Rattle.apply.proofs.Halving.{Sites}
 use Rattle.apply.proofs.Growing.{grown-whole, grown-others, grown-takes}
-use Rattle.apply.proofs.Going.{Gone, step-here, stands-still, stays, halved-whole, halved-onward, halved-others, halved-at, mem-rest, mem-not, chosen-above}
+use Rattle.apply.proofs.Going.{Gone, step-here, stands-still, stays, halved_whole, halved_onward, halved_others, halved_at, mem-rest, mem_not, chosen-above}
 use Rattle.apply.proofs.Splits.{gone-below}
 
 -- ── The root ────────────────────────────────────────────────────────────────────────────────────────────────────
 
-pub root-splits : (s : Step) → full s.page.view ≡ true → rootSplits (s ∷ []) ≡ true
-root-splits s f = rootSplits-full s [] f ∙ rootSplits-none
+pub root_splits_lem : (s : Step) → full s.page.view ≡ true → root_splits (s ∷ []) ≡ true
+root_splits_lem s f = root_splits-full s [] f ∙ root_splits-none
 
-high-root : (s : Step) → tooHigh (s ∷ []) ≡ eqb s.page.view.kind topKind
-unfolding tooHigh
+high-root : (s : Step) → too_high (s ∷ []) ≡ eqb s.page.view.kind top_kind
+unfolding too_high
 high-root s = refl
 
 module _ {n c k : ℕ} {t : List ℕ} (s : Step) (a b g : ℕ) (new : List ℕ) (m : Session) (w : Whole n c t) (l : Leads n k t (s ∷ []))
@@ -45,10 +45,10 @@ module _ {n c k : ℕ} {t : List ℕ} (s : Step) (a b g : ℕ) (new : List ℕ) 
   abbrev M : Making
   M = grow c s g (making t m 0)
 
-  pub short : s.page.view.kind < topKind
+  pub short : s.page.view.kind < top_kind
   short =
-      let h = eqb-false s.page.view.kind topKind (sym (high-root s) ∙ x.room (root-splits s f)) in
-      omega (arith, st.fits.sound.kind-to, h)
+      let h = eqb-false s.page.view.kind top_kind (sym (high-root s) ∙ x.room (root_splits_lem s f)) in
+      omega (arith, st.fits.sound.kind_to, h)
 
   fa : Fresh n (numbers (s ∷ [])) a
   fa = all_head x.fresh
@@ -59,13 +59,13 @@ module _ {n c k : ℕ} {t : List ℕ} (s : Step) (a b g : ℕ) (new : List ℕ) 
   fg : Fresh n (numbers (s ∷ [])) g
   fg = all_head (all_tail (all_tail x.fresh))
 
-  stands_here : Stands n k t (stepAt t s.place)
+  stands_here : Stands n k t (step_at t s.place)
   stands_here = subst (Stands n k t) (sym (step-here st)) st
 
   full-here : full (read t s.place.child).view ≡ true
   full-here = ap (λ (p : Page). full p.view) st.reads ∙ f
 
-  short-here : (read t s.place.child).view.kind < topKind
+  short-here : (read t s.place.child).view.kind < top_kind
   short-here = omega (arith, short, ap (λ (p : Page). p.view.kind) st.reads)
 
   pub root-whole : Whole n c M.table
@@ -83,57 +83,57 @@ module _ {n c k : ℕ} {t : List ℕ} (s : Step) (a b g : ℕ) (new : List ℕ) 
       subst (λ (u : Step). TakesTwins u.page.low (divide u.page.view) (read (grow c u g (making t m 0)).table g).view) (step-here st)
       (grown-takes w stands_here full-here short-here fg.page fg.below m)
 
-  at-root : M.at ≡ g
+  at_root_lem : M.at ≡ g
   unfolding grow
-  at-root = refl
+  at_root_lem = refl
 
-  child-not : (i : ℕ) → mem i (numbers (s ∷ [])) ≡ false → s.place.child ≢ i
+  child_not : (i : ℕ) → mem i (numbers (s ∷ [])) ≡ false → s.place.child ≢ i
   unfolding numbers
-  child-not i h q = mem-not i s.place.child [] h (sym q)
+  child_not i h q = mem_not i s.place.child [] h (sym q)
 
   pub root_stands : Stands n k M.table s
-  root_stands = stands-still (root-others s.place.child st.page (child-not g fg.apart)) st
+  root_stands = stands-still (root-others s.place.child st.page (child_not g fg.apart)) st
 
-  a-new : mem a (b ∷ (g ∷ new)) ≡ false
-  a-new = distinct_head a (b ∷ (g ∷ new)) x.apart
+  a_new : mem a (b ∷ (g ∷ new)) ≡ false
+  a_new = distinct_head a (b ∷ (g ∷ new)) x.apart
 
-  b-new : mem b (g ∷ new) ≡ false
-  b-new = distinct_head b (g ∷ new) (distinct_tail a (b ∷ (g ∷ new)) x.apart)
+  b_new : mem b (g ∷ new) ≡ false
+  b_new = distinct_head b (g ∷ new) (distinct_tail a (b ∷ (g ∷ new)) x.apart)
 
-  pub root-sites : Sites n s.place a b M.at
+  pub root_sites : Sites n s.place a b M.at
   unfolding grow
-  root-sites = record {
-    lower-page = fa.page;
-    lower-below = fa.below;
-    upper-page = fb.page;
-    upper-below = fb.below;
-    at-below = fg.below;
-    two = mem-not a b (g ∷ new) a-new;
-    child-lower = child-not a fa.apart;
-    at-lower = λ q. mem-not a g new (mem-rest a b (g ∷ new) a-new) (sym q);
-    at-upper = λ q. mem-not b g new b-new (sym q);
+  root_sites = record {
+    lower_page_lem = fa.page;
+    lower_below = fa.below;
+    upper_page_lem = fb.page;
+    upper_below = fb.below;
+    at_below = fg.below;
+    two = mem_not a b (g ∷ new) a_new;
+    child_lower = child_not a fa.apart;
+    at_lower = λ q. mem_not a g new (mem-rest a b (g ∷ new) a_new) (sym q);
+    at_upper = λ q. mem_not b g new b_new (sym q);
   }
 
   pub takes-root : TakesTwins s.page.low (divide s.page.view) (read M.table M.at).view
-  takes-root = subst (λ (i : ℕ). TakesTwins s.page.low (divide s.page.view) (read M.table i).view) (sym at-root) root-takes
+  takes-root = subst (λ (i : ℕ). TakesTwins s.page.low (divide s.page.view) (read M.table i).view) (sym at_root_lem) root-takes
 
   pub gone-root : Gone n c k t s [] (a ∷ (b ∷ (g ∷ new))) (halve c k s a b M)
   gone-root = record {
-    whole = halved-whole M s root-whole root_stands f root-sites takes-root;
-    onward = halved-onward M s root-whole root_stands f root-sites takes-root;
+    whole = halved_whole M s root-whole root_stands f root_sites takes-root;
+    onward = halved_onward M s root-whole root_stands f root_sites takes-root;
     others = λ i p q r.
         let r₁ = mem-rest i a (b ∷ (g ∷ new)) r in
-        let not-g = mem-not i g new (mem-rest i b (g ∷ new) r₁) in
-        halved-others M s root-whole root_stands f root-sites takes-root i (mem-not i a (b ∷ (g ∷ new)) r)
-        (mem-not i b (g ∷ new) r₁) (λ e. not-g (e ∙ at-root))
+        let not-g = mem_not i g new (mem-rest i b (g ∷ new) r₁) in
+        halved_others M s root-whole root_stands f root_sites takes-root i (mem_not i a (b ∷ (g ∷ new)) r)
+        (mem_not i b (g ∷ new) r₁) (λ e. not-g (e ∙ at_root_lem))
         ∙ root-others i p not-g;
-    at-is = inr (which (halved-at M s root-whole root_stands f root-sites takes-root));
+    at_is = inr (which (halved_at M s root-whole root_stands f root_sites takes-root));
   }
     where
       which : ((halve c k s a b M).at ≡ a) ⊎ ((halve c k s a b M).at ≡ b)
           → mem (halve c k s a b M).at (a ∷ (b ∷ (g ∷ new))) ≡ true
       which (inl e) = ap (λ (i : ℕ). mem i (a ∷ (b ∷ (g ∷ new)))) e ∙ mem-head a (b ∷ (g ∷ new))
-      which (inr e) = ap (λ (i : ℕ). mem i (a ∷ (b ∷ (g ∷ new)))) e ∙ mem-tail b a (b ∷ (g ∷ new)) (mem-head b (g ∷ new))
+      which (inr e) = ap (λ (i : ℕ). mem i (a ∷ (b ∷ (g ∷ new)))) e ∙ mem_tail b a (b ∷ (g ∷ new)) (mem-head b (g ∷ new))
 
 -- ── The way ─────────────────────────────────────────────────────────────────────────────────────────────────────
 
@@ -141,9 +141,9 @@ module _ {n c k : ℕ} {t : List ℕ} (m : Session) (w : Whole n c t) where
   root-gone : (s : Step) (new : List ℕ) → Leads n k t (s ∷ []) → Chosen n (s ∷ []) new → (b : Bool) → full s.page.view ≡ b
       → Gone n c k t s [] new (split c k (s ∷ []) new (making t m 0))
   root-gone s new l x false f = subst (Gone n c k t s [] new) (sym (split-none c k s [] new (making t m 0) f)) (stays s [] new m w l.0 f)
-  root-gone s [] l x true f = absurd (omega (arith, x.enough, newPages-full s [] f))
-  root-gone s (a ∷ []) l x true f = absurd (omega (arith, x.enough, newPages-full s [] f))
-  root-gone s (a ∷ (b ∷ [])) l x true f = absurd (omega (arith, x.enough, newPages-full s [] f, newPages-none))
+  root-gone s [] l x true f = absurd (omega (arith, x.enough, new_pages-full s [] f))
+  root-gone s (a ∷ []) l x true f = absurd (omega (arith, x.enough, new_pages-full s [] f))
+  root-gone s (a ∷ (b ∷ [])) l x true f = absurd (omega (arith, x.enough, new_pages-full s [] f, new_pages-none))
   root-gone s (a ∷ (b ∷ (g ∷ new))) l x true f =
       subst (Gone n c k t s [] (a ∷ (b ∷ (g ∷ new)))) (sym (split_one c k s (a ∷ (b ∷ (g ∷ new))) (making t m 0) f))
       (gone-root s a b g new m w l f x)
@@ -160,8 +160,8 @@ module _ {n c k : ℕ} {t : List ℕ} (m : Session) (w : Whole n c t) where
           → Gone n c k t s (u ∷ above) ns (split c k (s ∷ (u ∷ above)) ns (making t m 0))
       go ns y false f ih =
           subst (Gone n c k t s (u ∷ above) ns) (sym (split-none c k s (u ∷ above) ns (making t m 0) f)) (stays s (u ∷ above) ns m w l.0 f)
-      go [] y true f ih = absurd (omega (arith, y.enough, newPages-full s (u ∷ above) f))
-      go (a ∷ []) y true f ih = absurd (omega (arith, y.enough, newPages-full s (u ∷ above) f))
+      go [] y true f ih = absurd (omega (arith, y.enough, new_pages-full s (u ∷ above) f))
+      go (a ∷ []) y true f ih = absurd (omega (arith, y.enough, new_pages-full s (u ∷ above) f))
       go (a ∷ (b ∷ ns)) y true f ih =
           subst (Gone n c k t s (u ∷ above) (a ∷ (b ∷ ns)))
           (sym (split-more c k s u above (a ∷ (b ∷ ns)) (making t m 0) f))

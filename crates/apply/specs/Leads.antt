@@ -2,30 +2,30 @@
 use Rattle.std.specs.Prelude.{ℕ, zero, suc, ◌+◌, ◌-◌, ◌^◌, ◌*◌, ◌≤◌, ◌<◌, ◌≡◌, true, false, List, [], ◌∷◌, eqb, length, take, get_or}
 use Rattle.std.proofs.Math.Option.{some, none}
 use Rattle.fields.specs.Field.{Bytes}
-use Rattle.rules.specs.Layout.{pageSize, mostPages, topKind, lastKey}
+use Rattle.rules.specs.Layout.{page_size, most_pages, top_kind, last_key}
 use Rattle.rules.specs.Test.{mem, distinct}
 use Rattle.rules.specs.Entry.{find}
-use Rattle.rules.specs.Page.{isLeaf}
+use Rattle.rules.specs.Page.{is_leaf}
 use Rattle.rules.specs.Table.{read}
 use Rattle.rules.specs.Place.{kids, pick}
-use Rattle.rules.specs.Marks.{taken, freePages}
-use Rattle.rules.specs.Walk.{Step, numbers, certsAt}
+use Rattle.rules.specs.Marks.{taken, free_pages}
+use Rattle.rules.specs.Walk.{Step, numbers, certs_at}
 use Rattle.rules.specs.Call.{Left}
-use Rattle.rules.specs.Insert.{rootSplits, tooHigh, newPages, noRoom, Making, making, grow}
+use Rattle.rules.specs.Insert.{root_splits, too_high, new_pages, no_room, Making, making, grow}
 use Rattle.rules.specs.declared.Session.{Session}
 use Rattle.rules.specs.declared.Inserted.{Inserted}
-use Rattle.rules.proofs.bytes.All.{All}
-use Rattle.rules.proofs.entries.Places.{Fits}
+use Rattle.rules.proofs.Bytes.All.{All}
+use Rattle.rules.proofs.Entries.Places.{Fits}
 use Rattle.head.proofs.Headers.{head_of}
-use Rattle.split.specs.Split.{stepAt, retireBy, Grows}
-use Rattle.way.specs.Ways.{noStep}
+use Rattle.split.specs.Split.{step_at, retire_by, Grows}
+use Rattle.way.specs.Ways.{no_step}
 use Rattle.way.specs.declared.Step as way
 use Rattle.way.specs.declared.Way.{Way}
 
 -- a table of n pages, and a counter that fits its field
 pub record Whole (n c : ℕ) (t : List ℕ) : Type 0 where
-  pub long : length t ≡ n * pageSize
-  pub few : n ≤ mostPages
+  pub long : length t ≡ n * page_size
+  pub few : n ≤ most_pages
   pub bytes : Bytes t
   pub counter : c < 256 ^ 4
 
@@ -42,7 +42,7 @@ pub record Stands (n k : ℕ) (t : List ℕ) (s : Step) : Type 0 where
 -- steps from the leaf up to the root, each asked for by the one above it
 abbrev pub Leads : ℕ → ℕ → List ℕ → List Step → Type 0
 Leads n k t [] = ⊥
-Leads n k t (s ∷ []) = Stands n k t s × (s.place.low ≡ 0) × (s.place.high ≡ lastKey)
+Leads n k t (s ∷ []) = Stands n k t s × (s.place.low ≡ 0) × (s.place.high ≡ last_key)
 Leads n k t (s ∷ (u ∷ above)) =
     Stands n k t s
     × (mem s.place.child (numbers (u ∷ above)) ≡ false)
@@ -59,32 +59,32 @@ pub record Fresh (n : ℕ) (entered : List ℕ) (i : ℕ) : Type 0 where
 pub record Chosen (n : ℕ) (way : List Step) (new : List ℕ) : Type 0 where
   pub fresh : All (Fresh n (numbers way)) new
   pub apart : distinct new ≡ true
-  pub enough : newPages way ≤ length new
-  pub room : rootSplits way ≡ true → tooHigh way ≡ false
+  pub enough : new_pages way ≤ length new
+  pub room : root_splits way ≡ true → too_high way ≡ false
 
 -- ── Handed over in the rules' words ─────────────────────────────────────────────────────────────────────────────
 
 -- the way ends in a leaf
 abbrev pub EndsInLeaf : List Step → Type 0
 EndsInLeaf [] = ⊥
-EndsInLeaf (s ∷ above) = isLeaf s.page.view ≡ true
+EndsInLeaf (s ∷ above) = is_leaf s.page.view ≡ true
 
 -- what an insert knows before it writes: the way stands and its leaf has not the key, pages enough are free, and the
 -- numbers at hand are the lowest of them
 pub record Ready (k : ℕ) (t : List ℕ) (s : Session) (steps : List Step) (chosen : List ℕ) : Type 0 where
   pub whole : Whole s.n s.c t
   pub leads : Leads s.n k t steps
-  pub short : length steps ≤ topKind
+  pub short : length steps ≤ top_kind
   pub ends : EndsInLeaf steps
-  pub absent : find k (certsAt steps) ≡ none
-  pub room : noRoom steps (freePages s (numbers steps)) ≡ false
-  pub lowest : (j : ℕ) → j < newPages steps → get_or chosen j 0 ≡ get_or (freePages s (numbers steps)) j 0
+  pub absent : find k (certs_at steps) ≡ none
+  pub room : no_room steps (free_pages s (numbers steps)) ≡ false
+  pub lowest : (j : ℕ) → j < new_pages steps → get_or chosen j 0 ≡ get_or (free_pages s (numbers steps)) j 0
 
 -- ── Handed over in the code's words ─────────────────────────────────────────────────────────────────────────────
 
 -- how many new pages an insert can need: two for each of three levels, and a root
-abbrev pub mostNew : ℕ
-mostNew = 7
+abbrev pub most_new : ℕ
+most_new = 7
 
 -- a page on the way is known by its place and its header
 abbrev pub HeadRead : List ℕ → way.Step → Type 0
@@ -95,70 +95,70 @@ abbrev pub listed : Way → List way.Step
 listed w = take w.len (w.leaf ∷ (w.parent ∷ (w.top ∷ [])))
 
 -- one of them
-abbrev pub stepOn : Way → ℕ → way.Step
-stepOn w i = get_or (listed w) i noStep
+abbrev pub step_on : Way → ℕ → way.Step
+step_on w i = get_or (listed w) i no_step
 
 -- the steps as the rules see them, where their pages stand in a table
-abbrev pub stepsIn : List ℕ → List way.Step → List Step
-stepsIn t [] = []
-stepsIn t (x ∷ xs) = stepAt t x.place ∷ stepsIn t xs
+abbrev pub steps_in : List ℕ → List way.Step → List Step
+steps_in t [] = []
+steps_in t (x ∷ xs) = step_at t x.place ∷ steps_in t xs
 
 pub record ReadyWay (k : ℕ) (t : List ℕ) (s : Session) (w : Way) (chosen : List ℕ) : Type 0 where
-  pub len : w.len ≤ topKind
+  pub len : w.len ≤ top_kind
   pub heads : All (HeadRead t) (listed w)
-  pub ready : Ready k t s (stepsIn t (listed w)) chosen
+  pub ready : Ready k t s (steps_in t (listed w)) chosen
 
 -- the upper end of a way, and numbers for its new pages
 pub record Level (c k : ℕ) (t : List ℕ) (xs : List way.Step) (chosen : List ℕ) : Type 0 where
   pub n : ℕ
   pub whole : Whole n c t
-  pub leads : Leads n k t (stepsIn t xs)
-  pub short : length xs ≤ topKind
+  pub leads : Leads n k t (steps_in t xs)
+  pub short : length xs ≤ top_kind
   pub heads : All (HeadRead t) xs
-  pub new : Chosen n (stepsIn t xs) (take (newPages (stepsIn t xs)) chosen)
+  pub new : Chosen n (steps_in t xs) (take (new_pages (steps_in t xs)) chosen)
 
 -- where so many pages split, from the leaf up, what a new root over all of them asks for
 pub record Starts (t : List ℕ) (w : Way) (chosen : List ℕ) (many : ℕ) : Type 0 where
   pub some : 1 ≤ w.len
-  pub len : w.len ≤ topKind
+  pub len : w.len ≤ top_kind
   pub short : many ≤ w.len
-  pub grows : many ≡ w.len → Grows t (stepOn w (many - 1)).place (stepOn w (many - 1)).head (get_or chosen (2 * many) 0)
+  pub grows : many ≡ w.len → Grows t (step_on w (many - 1)).place (step_on w (many - 1)).head (get_or chosen (2 * many) 0)
 
 -- what stands above them: that new root, or the page that has room
 unfoldable pub start_of : ℕ → List ℕ → Way → List ℕ → ℕ → Session → Making
 start_of c t w chosen many s =
     elim (eqb many w.len) [
-      | true ↦ grow c (stepAt t (stepOn w (many - 1)).place) (get_or chosen (2 * many) 0) (making t s 0)
-      | false ↦ making t s (stepOn w many).place.child
+      | true ↦ grow c (step_at t (step_on w (many - 1)).place) (get_or chosen (2 * many) 0) (making t s 0)
+      | false ↦ making t s (step_on w many).place.child
     ]
 
 -- ── The session's part ──────────────────────────────────────────────────────────────────────────────────────────
 
 -- the halves of a step's page are taken, and the page retires
-abbrev pub marksAt : ℕ → Way → List ℕ → ℕ → Session → Session
-marksAt c w chosen j s =
-    retireBy c (stepOn w j).place.child (stepOn w j).head
+abbrev pub marks_at : ℕ → Way → List ℕ → ℕ → Session → Session
+marks_at c w chosen j s =
+    retire_by c (step_on w j).place.child (step_on w j).head
     (taken (get_or chosen (2 * j + 1) 0) (taken (get_or chosen (2 * j) 0) s))
 
 -- so for the last so many steps, the highest first
-unfoldable pub marksFor : ℕ → Way → List ℕ → ℕ → Session → Session
-marksFor c w chosen zero s = s
-marksFor c w chosen (suc j) s = marksFor c w chosen j (marksAt c w chosen j s)
+unfoldable pub marks_for : ℕ → Way → List ℕ → ℕ → Session → Session
+marks_for c w chosen zero s = s
+marks_for c w chosen (suc j) s = marks_for c w chosen j (marks_at c w chosen j s)
 
 -- a new root's page is taken before them
-unfoldable pub rootMarked : Way → List ℕ → ℕ → Session → Session
-rootMarked w chosen many s = elim (eqb many w.len) [ true ↦ taken (get_or chosen (2 * many) 0) s | false ↦ s ]
+unfoldable pub root_marked : Way → List ℕ → ℕ → Session → Session
+root_marked w chosen many s = elim (eqb many w.len) [ true ↦ taken (get_or chosen (2 * many) 0) s | false ↦ s ]
 
-unfoldable pub marksBy : Way → List ℕ → ℕ → Session → Session
-marksBy w chosen many s = marksFor s.c w chosen many (rootMarked w chosen many s)
+unfoldable pub marks_by : Way → List ℕ → ℕ → Session → Session
+marks_by w chosen many s = marks_for s.c w chosen many (root_marked w chosen many s)
 
 -- numbers that have marks: of the pages that split and of their halves
 pub record Numbered (w : Way) (chosen : List ℕ) (many : ℕ) : Type 0 where
   pub short : many ≤ w.len
-  pub len : w.len ≤ topKind
-  pub child : (j : ℕ) → j < many → (stepOn w j).place.child < mostPages
-  pub lower : (j : ℕ) → j < many → get_or chosen (2 * j) 0 < mostPages
-  pub upper : (j : ℕ) → j < many → get_or chosen (2 * j + 1) 0 < mostPages
+  pub len : w.len ≤ top_kind
+  pub child : (j : ℕ) → j < many → (step_on w j).place.child < most_pages
+  pub lower : (j : ℕ) → j < many → get_or chosen (2 * j) 0 < most_pages
+  pub upper : (j : ℕ) → j < many → get_or chosen (2 * j + 1) 0 < most_pages
 
 -- ── Handed over apart ───────────────────────────────────────────────────────────────────────────────────────────
 

@@ -1,6 +1,6 @@
 // The way of an insert split from the top down, and the entry put in its leaf: the rules' `split` and what follows it.
 //
-// `apply` leaves the table that the rules' `insertDone` leaves, and `marked` the session. The two go apart, and the
+// `apply` leaves the table that the rules' `insert_done` leaves, and `marked` the session. The two go apart, and the
 // session is changed once, at the end: a session that goes through the splits by value would lie on the stack at each
 // step. A page that is full is split after the page above it, so that one has room; the page that then stands at the
 // end of the way has room for the new entry. What is asked for here, that the way stands, that its leaf has not the key
@@ -9,14 +9,14 @@
 //
 // Below stand `split`, which splits one page, and `edit`, which puts the entry.
 ghost use Rattle.std.specs.Prelude.{◌≡◌, List, ℕ, ◌+◌, ◌≤◌, ◌<◌, get_or};
-ghost use Rattle.rules.specs.Layout.{topKind};
+ghost use Rattle.rules.specs.Layout.{top_kind};
 ghost use Rattle.rules.specs.Marks.{taken};
-ghost use Rattle.rules.specs.Insert.{making, halve, split, insertDone};
+ghost use Rattle.rules.specs.Insert.{making, halve, split, insert_done};
 ghost use Rattle.rules.specs.declared.Session.{Session};
-ghost use Rattle.plan.specs.Plan.{headsOf, splitsBy};
-ghost use Rattle.split.specs.Split.{stepAt, retireBy, Halves};
-ghost use Rattle.apply.specs.Leads.{mostNew, listed, stepOn, stepsIn, Starts, start_of, done};
-ghost use Rattle.apply.specs.Leads.{marksFor, rootMarked, marksBy, Numbered, ReadyPages, ReadySession};
+ghost use Rattle.plan.specs.Plan.{heads_of, splits_by};
+ghost use Rattle.split.specs.Split.{step_at, retire_by, Halves};
+ghost use Rattle.apply.specs.Leads.{most_new, listed, step_on, steps_in, Starts, start_of, done};
+ghost use Rattle.apply.specs.Leads.{marks_for, root_marked, marks_by, Numbered, ReadyPages, ReadySession};
 
 use marks::Chosen;
 use rules::Session;
@@ -35,11 +35,11 @@ fn halve_step(
     pages: [u16; NEW],
     from: usize,
 ) -> u16
-    requires { (from + 2 ≤ mostNew)
+    requires { (from + 2 ≤ most_new)
         × Halves table.old step.place step.head (get_or pages from 0) (get_or pages (from + 1) 0) over }
     ensures { (s : Session)
-        → making table.new (retireBy c step.place.child step.head (taken (get_or pages (from + 1) 0) (taken (get_or pages from 0) s))) result
-        ≡ halve c key (stepAt table.old step.place) (get_or pages from 0) (get_or pages (from + 1) 0)
+        → making table.new (retire_by c step.place.child step.head (taken (get_or pages (from + 1) 0) (taken (get_or pages from 0) s))) result
+        ≡ halve c key (step_at table.old step.place) (get_or pages from 0) (get_or pages (from + 1) 0)
         (making table.old s over) }
 {
     let lower = pages[from];
@@ -49,8 +49,8 @@ fn halve_step(
 
 // A step of a way, the leaf's first.
 fn step_on(way: Way, i: usize) -> Step
-    requires { (i < way.len) × (way.len ≤ topKind) }
-    ensures { result ≡ stepOn way i }
+    requires { (i < way.len) × (way.len ≤ top_kind) }
+    ensures { result ≡ step_on way i }
 {
     if i == 0 {
         return way.leaf;
@@ -64,7 +64,7 @@ fn step_on(way: Way, i: usize) -> Step
 // What stands above the pages that split: a new root over them all, or the first page from the leaf up that has room.
 fn start(table: &mut [u8], c: u32, way: Way, pages: [u16; NEW], many: usize) -> u16
     requires { Starts table.old way pages many }
-    ensures { (s : Session) → making table.new (rootMarked way pages many s) result
+    ensures { (s : Session) → making table.new (root_marked way pages many s) result
         ≡ start_of c table.old way pages many s }
 {
     if many == way.len {
@@ -81,8 +81,8 @@ fn start(table: &mut [u8], c: u32, way: Way, pages: [u16; NEW], many: usize) -> 
 fn split_way(table: &mut [u8], c: u32, key: u64, way: Way, pages: [u16; NEW]) -> u16
     requires { ReadyPages c key table.old way pages }
     ensures { (y : ReadyPages c key table.old way pages)
-        → making table.new (marksBy way pages (splitsBy (headsOf way)) y.session) result
-        ≡ split y.session.c key (stepsIn table.old (listed way)) pages (making table.old y.session 0) }
+        → making table.new (marks_by way pages (splits_by (heads_of way)) y.session) result
+        ≡ split y.session.c key (steps_in table.old (listed way)) pages (making table.old y.session 0) }
 {
     let many = plan::splits(way);
     let mut at = start(table, c, way, pages, many);
@@ -99,8 +99,8 @@ fn split_way(table: &mut [u8], c: u32, key: u64, way: Way, pages: [u16; NEW]) ->
 pub fn apply(table: &mut [u8], c: u32, key: u64, value: u32, way: Way, chosen: Chosen)
     requires { ReadyPages c key table.old way chosen.pages }
     ensures { (y : ReadyPages c key table.old way chosen.pages) (stable : List ℕ)
-        → done (marksBy way chosen.pages (splitsBy (headsOf way)) y.session) table.new stable
-        ≡ insertDone key value y.session (stepsIn table.old (listed way)) table.old stable }
+        → done (marks_by way chosen.pages (splits_by (heads_of way)) y.session) table.new stable
+        ≡ insert_done key value y.session (steps_in table.old (listed way)) table.old stable }
 {
     if !plan::is_full(way.leaf.head) {
         edit::put_cert(table, way.leaf.place.child as usize, key, value, c);
@@ -114,7 +114,7 @@ pub fn apply(table: &mut [u8], c: u32, key: u64, value: u32, way: Way, chosen: C
 // The marks of the pages that split and of their halves, the highest first.
 fn mark_halves(session: Session, way: Way, pages: [u16; NEW], many: usize) -> Session
     requires { Numbered way pages many }
-    ensures { result ≡ marksFor session.c way pages many session }
+    ensures { result ≡ marks_for session.c way pages many session }
 {
     let c = session.c;
     let mut left = session;
@@ -132,7 +132,7 @@ fn mark_halves(session: Session, way: Way, pages: [u16; NEW], many: usize) -> Se
 // The session of an insert that is done.
 pub fn marked(session: Session, way: Way, chosen: Chosen) -> Session
     requires { ReadySession session way chosen.pages }
-    ensures { result ≡ marksBy way chosen.pages (splitsBy (headsOf way)) session }
+    ensures { result ≡ marks_by way chosen.pages (splits_by (heads_of way)) session }
 {
     let many = plan::splits(way);
     let pages = chosen.pages;

@@ -1,5 +1,5 @@
 -- No second outcome satisfies the contract of `batch`. The checker has no plain reading of a contract over a slice of structs, so
--- the reading is written out here, and `ensures-is` says that it is the contract's. Assumes nothing.
+-- the reading is written out here, and `ensures_is` says that it is the contract's. Assumes nothing.
 use mathlib.Core.Path.{◌≡◌, refl, sym, ◌∙◌}
 use Prim.Native.Nat.{ℕ}
 use mathlib.Core.List.{List}
@@ -22,14 +22,14 @@ abbrev pub Post : (κs : Lfts 3) (a : Args this.batch.signature κs) → Batchin
 Post κs a z l =
     leaving z l.0 a.1.0.now l.1.1.1.0 ≡ rules.batch a.0.now a.1.0.now a.1.1.0 a.1.1.1.0.now
 
-pub ensures-is : {M : Type 1} {𝓤 : Ura M} (𝓛 : Logic 𝓤) (mem : Memory → SProp 𝓤) (run : Routine → Fun 𝓤)
+pub ensures_is : {M : Type 1} {𝓤 : Ura M} (𝓛 : Logic 𝓤) (mem : Memory → SProp 𝓤) (run : Routine → Fun 𝓤)
     (κs : Lfts 3) (a : Args this.batch.signature κs) (z : Batching) (l : Lasts this.batch.ended κs a)
     → (this.batch.clauses 𝓛 mem run κs a).ensures tt z (at_exit this.batch.ended κs a l) ≡ fact 𝓤 (Post κs a z l)
-ensures-is 𝓛 mem run κs a z l = refl
+ensures_is 𝓛 mem run κs a z l = refl
 
-pub batch-tight : (κs : Lfts 3) (a : Args this.batch.signature κs) (z z' : Batching) (l l' : Lasts this.batch.ended κs a)
+pub batch_tight : (κs : Lfts 3) (a : Args this.batch.signature κs) (z z' : Batching) (l l' : Lasts this.batch.ended κs a)
     → Post κs a z l → Post κs a z' l' → (z ≡ z') × (l ≡ l')
-batch-tight κs a z z' l l' p q =
+batch_tight κs a z z' l l' p q =
     let e = p ∙ sym q in (
       (λ i. record { answer = (e i).left.answer; report = (e i).report; session = (e i).left.session }),
       (λ i. ((e i).left.working, (tt, (tt, ((e i).left.items, tt))))),

@@ -4,9 +4,9 @@ use Prim.Native.Nat.{ℕ}
 use mathlib.Core.Bool.{Bool, true, false}
 use mathlib.Core.List.{List, [], ◌∷◌}
 use Rattle.rules.specs.Report.{Reported, nothing}
-use Rattle.rules.specs.Call.{lengthsFor, insertedNo}
-use Rattle.rules.specs.Reports.{insertReported}
-use Rattle.rules.specs.Batch.{Between, between, insertItem, joins, afterItem, afterItems, itemsAnswered, answered, itemNo, BatchLeft, batch}
+use Rattle.rules.specs.Call.{lengths_for, inserted_no}
+use Rattle.rules.specs.Reports.{insert_reported}
+use Rattle.rules.specs.Batch.{Between, between, insert_item, joins, after_item, after_items, items_answered, answered, item_no, BatchLeft, batch}
 use Rattle.rules.specs.declared.Session.{Session}
 use Rattle.rules.specs.declared.Item.{Item}
 use Rattle.rules.specs.declared.Report.{Report}
@@ -14,8 +14,8 @@ use Rattle.rules.specs.declared.Inserting.{Inserting}
 use Rattle.rules.specs.declared.Batched.{Batched}
 use Rattle.rules.specs.declared.Batching.{Batching}
 use Rattle.insert.specs.Inserts.{leaving as inserted}
-use Rattle.rules.proofs.demand1.Batches.{batch-refused, batch-done}
-use Rattle.batch.specs.Turns.{Running, Turning, running, turning, leaving, standing, begun, triedOf, turn_of, goes, fills}
+use Rattle.rules.proofs.Demand1.Batches.{batch_refused, batch-done}
+use Rattle.batch.specs.Turns.{Running, Turning, running, turning, leaving, standing, begun, tried_of, turn_of, goes, fills}
 
 -- ── One turn more ───────────────────────────────────────────────────────────────────────────────────────────────
 
@@ -42,14 +42,14 @@ left_alone t w m x h =
 -- ── An item that is tried ───────────────────────────────────────────────────────────────────────────────────────
 
 pub tried-is : (w t : List ℕ) (m : Batching) (x : Item) (r : Inserting) (l : List ℕ) (k : ℕ) (q : Report)
-    → inserted r l t ≡ insertReported w t m.session x.model x.serial x.issue x.value
-    → k ≡ insertedNo r.answer → q ≡ joins m.report r.report
+    → inserted r l t ≡ insert_reported w t m.session x.model x.serial x.issue x.value
+    → k ≡ inserted_no r.answer → q ≡ joins m.report r.report
     → turning (record { item = answered k x; made = record { answer = Batched.Done; report = q; session = r.session } }) l
-    ≡ triedOf t (running m w) x
-unfolding triedOf itemNo afterItem insertItem
+    ≡ tried_of t (running m w) x
+unfolding tried_of item_no after_item insert_item
 tried-is w t m x r l k q e f g =
     (λ i. made (f i) (g i) r.session l)
-    ∙ (λ i. made (insertedNo (e i).left.answer) (joins m.report (e i).report) (e i).left.session (e i).left.working)
+    ∙ (λ i. made (inserted_no (e i).left.answer) (joins m.report (e i).report) (e i).left.session (e i).left.working)
   where
     made : ℕ → Report → Session → List ℕ → Turning
     made j y s v = record {
@@ -70,15 +70,15 @@ module _ (t : List ℕ) where
   refused-fills m [] = refl
   refused-fills m (x ∷ xs) = ap (λ (ys : List Item). x ∷ ys) (refused-fills m xs)
 
-  done-goes : (m : Between) (xs : List Item) → goes t (standing Batched.Done m) xs ≡ standing Batched.Done (afterItems t m xs)
-  unfolding goes turn_of triedOf afterItems
+  done-goes : (m : Between) (xs : List Item) → goes t (standing Batched.Done m) xs ≡ standing Batched.Done (after_items t m xs)
+  unfolding goes turn_of tried_of after_items
   done-goes m [] = refl
-  done-goes m (x ∷ xs) = done-goes (afterItem t m x) xs
+  done-goes m (x ∷ xs) = done-goes (after_item t m x) xs
 
-  done-fills : (m : Between) (xs : List Item) → fills t (standing Batched.Done m) xs ≡ itemsAnswered t m xs
-  unfolding fills turn_of triedOf itemsAnswered
+  done-fills : (m : Between) (xs : List Item) → fills t (standing Batched.Done m) xs ≡ items_answered t m xs
+  unfolding fills turn_of tried_of items_answered
   done-fills m [] = refl
-  done-fills m (x ∷ xs) = ap (λ (ys : List Item). answered (itemNo t m x) x ∷ ys) (done-fills (afterItem t m x) xs)
+  done-fills m (x ∷ xs) = ap (λ (ys : List Item). answered (item_no t m x) x ∷ ys) (done-fills (after_item t m x) xs)
 
 -- ── The call ────────────────────────────────────────────────────────────────────────────────────────────────────
 
@@ -88,14 +88,14 @@ left_by t m ys = leaving m.made m.working t ys
 pub turns-batch : (w t : List ℕ) (s : Session) (xs : List Item) (m : Running) (ys : List Item)
     → goes t (begun w t s) xs ≡ m → fills t (begun w t s) xs ≡ ys → leaving m.made m.working t ys ≡ batch w t s xs
 unfolding begun
-turns-batch w t s xs m ys g f = (λ i. left_by t (sym g i) (sym f i)) ∙ go (lengthsFor s w t) refl
+turns-batch w t s xs m ys g f = (λ i. left_by t (sym g i) (sym f i)) ∙ go (lengths_for s w t) refl
   where
-    go : (a : Bool) → lengthsFor s w t ≡ a
+    go : (a : Bool) → lengths_for s w t ≡ a
         → left_by t (goes t (begun w t s) xs) (fills t (begun w t s) xs) ≡ batch w t s xs
     go false h =
         rw (begun, h)
         ((λ i. left_by t (refused-goes t (between w s nothing) xs i) (refused-fills t (between w s nothing) xs i))
-        ∙ sym (batch-refused w t s xs h))
+        ∙ sym (batch_refused w t s xs h))
     go true h =
         rw (begun, h)
         ((λ i. left_by t (done-goes t (between w s nothing) xs i) (done-fills t (between w s nothing) xs i))

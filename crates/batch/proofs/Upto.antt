@@ -11,9 +11,9 @@ use lib.ListN.{length, get_or, set, length-append}
 use borrow.Author.Tests.{ltb-true}
 
 module _ {A : Type 0} where
-  pub getD-here : (before : List A) (x : A) (rest : List A) (d : A) → get_or (before ++ (x ∷ rest)) (length before) d ≡ x
-  getD-here [] x rest d = refl
-  getD-here (y ∷ before) x rest d = getD-here before x rest d
+  pub get_d_here : (before : List A) (x : A) (rest : List A) (d : A) → get_or (before ++ (x ∷ rest)) (length before) d ≡ x
+  get_d_here [] x rest d = refl
+  get_d_here (y ∷ before) x rest d = get_d_here before x rest d
 
   pub set_here : (before : List A) (x : A) (rest : List A) (z : A)
       → set (before ++ (x ∷ rest)) (length before) z ≡ (before ++ (z ∷ [])) ++ rest
@@ -40,8 +40,8 @@ module _ {A : Type 0} where
   at-end (y ∷ before) = ap suc (at-end before)
 
 -- at the end there is nothing below
-pub not-below : (i n : ℕ) → i ≡ n → ltb i n ≡ false
-not-below i n e = go (ltb i n) refl
+pub not_below : (i n : ℕ) → i ≡ n → ltb i n ≡ false
+not_below i n e = go (ltb i n) refl
   where
     go : (b : Bool) → ltb i n ≡ b → b ≡ false
     go false h = refl

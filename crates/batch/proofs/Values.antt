@@ -23,14 +23,14 @@ use Rattle.batch.specs.declared.Turned.{Turned}
 use Rattle.batch.specs.contracts.Turned as T
 use Rattle.batch.proofs.Turned.TheLaws as T'
 
-abbrev pub sessionVal : Session → Val
-sessionVal = LL.val S.the_type S'.the_laws
+abbrev pub session_val : Session → Val
+session_val = LL.val S.the_type S'.the_laws
 
 abbrev pub made_val : Batching → Val
 made_val = LL.val B.the_type B'.the_laws
 
-abbrev pub itemVal : Item → Val
-itemVal = LL.val I.the_type I'.the_laws
+abbrev pub item_val : Item → Val
+item_val = LL.val I.the_type I'.the_laws
 
 abbrev pub byte : Ty
 byte = ty_int w8
@@ -38,35 +38,35 @@ byte = ty_int w8
 abbrev pub word : Ty
 word = ty_int w64
 
-abbrev pub working-ty : Ty
-working-ty = slice_ty (ty_ref (named 0) mut byte)
+abbrev pub working_ty : Ty
+working_ty = slice_ty (ty_ref (named 0) mut byte)
 
-abbrev pub stable-ty : Ty
-stable-ty = slice_ty (ty_ref (named 1) imm byte)
+abbrev pub stable_ty : Ty
+stable_ty = slice_ty (ty_ref (named 1) imm byte)
 
-abbrev pub items-ty : Ty
-items-ty = slice_ty (ty_ref (named 2) mut (pointee (I.the_row).written))
+abbrev pub items_ty : Ty
+items_ty = slice_ty (ty_ref (named 2) mut (pointee (I.the_row).written))
 
 -- a table that is lent again
-abbrev pub lent-ty : Ty
-lent-ty = ty_ref erased mut byte
+abbrev pub lent_ty : Ty
+lent_ty = ty_ref erased mut byte
 
 -- what a turn handed back, field by field
-pub turned-item : (r : Turned) (v : Val) → Is T.the_row r (v ∷ []) → Is I.the_row r.item (itemVal r.item ∷ [])
+pub turned-item : (r : Turned) (v : Val) → Is T.the_row r (v ∷ []) → Is I.the_row r.item (item_val r.item ∷ [])
 turned-item r v is = (LL.owed T.the_type T'.the_laws r _ is).0
 
 pub turned-made : (r : Turned) (v : Val) → Is T.the_row r (v ∷ []) → Is B.the_row r.made (made_val r.made ∷ [])
 turned-made r v is = (LL.owed T.the_type T'.the_laws r _ is).1.0
 
 module _ {M : Type 1} {𝓤 : Ura M} (𝓛 : Logic 𝓤) where
-  pub session-typed : (s : Session) (v : Val) → Is S.the_row s (v ∷ []) → Holds (has_ty S'.mir v) × WT v
-  session-typed s v is = ((LL.lawful S.the_type S'.the_laws 𝓛).typed s _ is).0
+  pub session_typed : (s : Session) (v : Val) → Is S.the_row s (v ∷ []) → Holds (has_ty S'.mir v) × WT v
+  session_typed s v is = ((LL.lawful S.the_type S'.the_laws 𝓛).typed s _ is).0
 
-  pub made-typed : (m : Batching) (v : Val) → Is B.the_row m (v ∷ []) → Holds (has_ty B'.mir v) × WT v
-  made-typed m v is = ((LL.lawful B.the_type B'.the_laws 𝓛).typed m _ is).0
+  pub made_typed : (m : Batching) (v : Val) → Is B.the_row m (v ∷ []) → Holds (has_ty B'.mir v) × WT v
+  made_typed m v is = ((LL.lawful B.the_type B'.the_laws 𝓛).typed m _ is).0
 
-  pub item-typed : (z : Item) (v : Val) → Is I.the_row z (v ∷ []) → Holds (has_ty I'.mir v) × WT v
-  item-typed z v is = ((LL.lawful I.the_type I'.the_laws 𝓛).typed z _ is).0
+  pub item_typed : (z : Item) (v : Val) → Is I.the_row z (v ∷ []) → Holds (has_ty I'.mir v) × WT v
+  item_typed z v is = ((LL.lawful I.the_type I'.the_laws 𝓛).typed z _ is).0
 
-  pub turned-typed : (r : Turned) (v : Val) → Is T.the_row r (v ∷ []) → Holds (has_ty T'.mir v) × WT v
-  turned-typed r v is = ((LL.lawful T.the_type T'.the_laws 𝓛).typed r _ is).0
+  pub turned_typed : (r : Turned) (v : Val) → Is T.the_row r (v ∷ []) → Holds (has_ty T'.mir v) × WT v
+  turned_typed r v is = ((LL.lawful T.the_type T'.the_laws 𝓛).typed r _ is).0

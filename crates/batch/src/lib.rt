@@ -10,7 +10,7 @@
 // Below stand `tables`, which tests lengths, `insert`, and `numbers`.
 ghost use Rattle.std.specs.Prelude.{◌≡◌};
 ghost use Rattle.rules.specs.Batch;
-ghost use Rattle.batch.specs.Turns.{running, turning, begun, triedOf, turn_of, leaving};
+ghost use Rattle.batch.specs.Turns.{running, turning, begun, tried_of, turn_of, leaving};
 
 use rules::{Batched, Batching, Item, Report, Session};
 
@@ -43,7 +43,7 @@ fn begin(working: &mut [u8], stable: &[u8], session: Session) -> Batching
 // An item is inserted, and its answer filled in.
 fn tried(working: &mut [u8], stable: &[u8], made: Batching, item: Item) -> Turned
     ensures { turning result working.new
-        ≡ triedOf stable.now (running made working.old) item }
+        ≡ tried_of stable.now (running made working.old) item }
 {
     let session = made.session;
     let before = made.report;

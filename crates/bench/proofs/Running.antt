@@ -7,11 +7,11 @@ use lib.ListN.{length, drop, get_or, drop_of_length-le}
 use lib.Seq.{drop-cons}
 use Rattle.driver.specs.declared.Bench.{Bench}
 use Rattle.driver.specs.declared.Step.{Step}
-use Rattle.driver.specs.Acts.{Stepped, stepped, stepLeft}
+use Rattle.driver.specs.Acts.{Stepped, stepped, step_left}
 use Rattle.bench.specs.Runs.{Stand, stand, after, run}
 
 -- what a step leaves
-pub step_after : (r : Step) (v t : List ℕ) (b : ℕ) (m : Bench) (w s : List ℕ) → stepLeft r v t ≡ stepped m b w s → stand r.bench v t ≡ after b (stand m w s)
+pub step_after : (r : Step) (v t : List ℕ) (b : ℕ) (m : Bench) (w s : List ℕ) → step_left r v t ≡ stepped m b w s → stand r.bench v t ≡ after b (stand m w s)
 unfolding after
 step_after r v t b m w s e = ap (λ (x : Stepped). stand x.bench x.working x.stable) e
 

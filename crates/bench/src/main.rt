@@ -6,7 +6,7 @@
 //
 // Below stand `driver`, `words`, which spells the lines out, `format`, `opening` and the kit's `io`.
 ghost use Rattle.std.specs.Prelude.{◌≡◌, true, length};
-ghost use Rattle.driver.specs.Acts.{benchBytes};
+ghost use Rattle.driver.specs.Acts.{bench_bytes};
 ghost use Rattle.bench.specs.Runs.{run, stand};
 
 use driver::Bench;
@@ -41,7 +41,7 @@ fn print(reply: Reply) -> bool {
 
 // The bytes of a chunk, one after the other, up to one whose line can't be written.
 fn feed(input: &[u8], working: &mut [u8], stable: &mut [u8], bench: Bench) -> Fed
-    requires { (length working.old ≡ benchBytes) × (length stable.old ≡ benchBytes) }
+    requires { (length working.old ≡ bench_bytes) × (length stable.old ≡ bench_bytes) }
     ensures { result.on ≡ true → stand result.bench working.new stable.new
         ≡ run input.now (stand bench working.old stable.old) }
 {
@@ -65,7 +65,7 @@ fn feed(input: &[u8], working: &mut [u8], stable: &mut [u8], bench: Bench) -> Fe
 
 // Reads once. At the end of the input a last line without a newline is a line.
 fn read_some(working: &mut [u8], stable: &mut [u8], bench: Bench) -> Fed
-    requires { (length working.old ≡ benchBytes) × (length stable.old ≡ benchBytes) }
+    requires { (length working.old ≡ bench_bytes) × (length stable.old ≡ bench_bytes) }
 {
     let mut chunk = [0u8; CHUNK];
     let got = libc::read(STDIN_FILENO, &mut chunk);
@@ -89,7 +89,7 @@ fn read_some(working: &mut [u8], stable: &mut [u8], bench: Bench) -> Fed
 
 // A proved loop must end, and nothing says that the input does: the turns count down from a number that no run uses up.
 fn serve(working: &mut [u8], stable: &mut [u8], bench: Bench)
-    requires { (length working.old ≡ benchBytes) × (length stable.old ≡ benchBytes) }
+    requires { (length working.old ≡ bench_bytes) × (length stable.old ≡ bench_bytes) }
 {
     let mut m = bench;
     let mut turns = u64::MAX;

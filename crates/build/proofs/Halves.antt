@@ -8,72 +8,72 @@ use native.Mathlib.Omega.{arith}
 use lib.Dec.{eqb}
 use lib.ListN.{length, take, drop, length-drop}
 use lib.Seq.{take_all, take-nil}
-use Rattle.fields.specs.Field.{leAt}
-use Rattle.rules.specs.Layout.{pageSize, leafHeader, innerHeader, leafKind, leafHalf, innerHalf, certSize, child_size}
+use Rattle.fields.specs.Field.{le_at}
+use Rattle.rules.specs.Layout.{page_size, leaf_header, inner_header, leaf_kind, leaf_half, inner_half, cert_size, child_size}
 use Rattle.rules.specs.Entry.{keys}
-use Rattle.rules.specs.Page.{viewIn, isLeaf, readEach, certIn, childIn}
-use Rattle.rules.specs.Insert.{divide, lowerHalf, upperHalf}
-use Rattle.rules.proofs.bytes.Each.{length-readEach}
-use Rattle.rules.proofs.bytes.Pages.{viewIn-leaf, viewIn-inner, kind-viewIn, count-viewIn}
-use Rattle.entries.specs.Spot.{headerSize, size_of}
+use Rattle.rules.specs.Page.{view_in, is_leaf, read_each, cert_in, child_in}
+use Rattle.rules.specs.Insert.{divide, lower_half, upper_half}
+use Rattle.rules.proofs.Bytes.Each.{length-read_each}
+use Rattle.rules.proofs.Bytes.Pages.{view_in-leaf, view_in-inner, kind-view_in, count-view_in}
+use Rattle.entries.specs.Spot.{header_size, size_of}
 use Rattle.entries.proofs.KeysIn.{keys-certs, keys-children, key-at}
 use Rattle.entries.proofs.Passed.{within}
 use Rattle.build.proofs.Built.{entries_fit}
-use Rattle.build.specs.Range.{rangeView, half_of, Divides}
+use Rattle.build.specs.Range.{range_view, half_of, Divides}
 
-module _ (b : List ℕ) (h : half_of (leAt b 0 2) < leAt b 2 2) where
+module _ (b : List ℕ) (h : half_of (le_at b 0 2) < le_at b 2 2) where
   -- where the key that divides a page stands
-  pub divide-at : divide (viewIn b) ≡ leAt b (headerSize (leAt b 0 2) + size_of (leAt b 0 2) * half_of (leAt b 0 2)) 8
-  unfolding divide isLeaf headerSize size_of half_of keys
-  divide-at = go (eqb (leAt b 0 2) leafKind) refl
+  pub divide-at : divide (view_in b) ≡ le_at b (header_size (le_at b 0 2) + size_of (le_at b 0 2) * half_of (le_at b 0 2)) 8
+  unfolding divide is_leaf header_size size_of half_of keys
+  divide-at = go (eqb (le_at b 0 2) leaf_kind) refl
     where
-      go : (t : Bool) → eqb (leAt b 0 2) leafKind ≡ t → divide (viewIn b) ≡ leAt b (headerSize (leAt b 0 2) + size_of (leAt b 0 2) * half_of (leAt b 0 2)) 8
+      go : (t : Bool) → eqb (le_at b 0 2) leaf_kind ≡ t → divide (view_in b) ≡ le_at b (header_size (le_at b 0 2) + size_of (le_at b 0 2) * half_of (le_at b 0 2)) 8
       go true e =
           let k = rw (half_of, e) at h in
-          rw (viewIn-leaf b e, append-nil, keys-certs (leAt b 2 2) b, headerSize, size_of, half_of, e) (key-at leafHeader certSize (leAt b 2 2) leafHalf b k)
+          rw (view_in-leaf b e, append-nil, keys-certs (le_at b 2 2) b, header_size, size_of, half_of, e) (key-at leaf_header cert_size (le_at b 2 2) leaf_half b k)
       go false e =
           let k = rw (half_of, e) at h in
-          rw (viewIn-inner b e, keys-children (leAt b 2 2) b, headerSize, size_of, half_of, e) (key-at innerHeader child_size (leAt b 2 2) innerHalf b k)
+          rw (view_in-inner b e, keys-children (le_at b 2 2) b, header_size, size_of, half_of, e) (key-at inner_header child_size (le_at b 2 2) inner_half b k)
 
-  pub lower-half : lowerHalf (viewIn b) ≡ rangeView 0 (half_of (leAt b 0 2)) (viewIn b)
-  unfolding lowerHalf rangeView half_of
-  lower-half = go (eqb (leAt b 0 2) leafKind) refl
+  pub lower_half_lem : lower_half (view_in b) ≡ range_view 0 (half_of (le_at b 0 2)) (view_in b)
+  unfolding lower_half range_view half_of
+  lower_half_lem = go (eqb (le_at b 0 2) leaf_kind) refl
     where
-      go : (t : Bool) → eqb (leAt b 0 2) leafKind ≡ t → lowerHalf (viewIn b) ≡ rangeView 0 (half_of (leAt b 0 2)) (viewIn b)
-      go true e = rw (viewIn-leaf b e, half_of, e)
-      go false e = rw (viewIn-inner b e, half_of, e)
+      go : (t : Bool) → eqb (le_at b 0 2) leaf_kind ≡ t → lower_half (view_in b) ≡ range_view 0 (half_of (le_at b 0 2)) (view_in b)
+      go true e = rw (view_in-leaf b e, half_of, e)
+      go false e = rw (view_in-inner b e, half_of, e)
 
-  pub upper-half : upperHalf (viewIn b) ≡ rangeView (half_of (leAt b 0 2)) (leAt b 2 2) (viewIn b)
-  unfolding upperHalf rangeView half_of
-  upper-half = go (eqb (leAt b 0 2) leafKind) refl
+  pub upper_half_lem : upper_half (view_in b) ≡ range_view (half_of (le_at b 0 2)) (le_at b 2 2) (view_in b)
+  unfolding upper_half range_view half_of
+  upper_half_lem = go (eqb (le_at b 0 2) leaf_kind) refl
     where
-      all : {A : Type 0} (xs : List A) (half : ℕ) → length xs ≡ leAt b 2 2 → take (leAt b 2 2 - half) (drop half xs) ≡ drop half xs
-      all xs half f = take_all (leAt b 2 2 - half) (drop half xs) (rw (length-drop, f) (omega arith))
+      all : {A : Type 0} (xs : List A) (half : ℕ) → length xs ≡ le_at b 2 2 → take (le_at b 2 2 - half) (drop half xs) ≡ drop half xs
+      all xs half f = take_all (le_at b 2 2 - half) (drop half xs) (rw (length-drop, f) (omega arith))
 
-      go : (t : Bool) → eqb (leAt b 0 2) leafKind ≡ t → upperHalf (viewIn b) ≡ rangeView (half_of (leAt b 0 2)) (leAt b 2 2) (viewIn b)
+      go : (t : Bool) → eqb (le_at b 0 2) leaf_kind ≡ t → upper_half (view_in b) ≡ range_view (half_of (le_at b 0 2)) (le_at b 2 2) (view_in b)
       go true e =
-          let certs = readEach certIn certSize (leAt b 2 2) (drop leafHeader b) in
-          rw (viewIn-leaf b e, half_of, e, all certs leafHalf (length-readEach certIn certSize (leAt b 2 2) (drop leafHeader b)), take-nil)
+          let certs = read_each cert_in cert_size (le_at b 2 2) (drop leaf_header b) in
+          rw (view_in-leaf b e, half_of, e, all certs leaf_half (length-read_each cert_in cert_size (le_at b 2 2) (drop leaf_header b)), take-nil)
       go false e =
-          let children = readEach childIn child_size (leAt b 2 2) (drop innerHeader b) in
-          rw (viewIn-inner b e, half_of, e, all children innerHalf (length-readEach childIn child_size (leAt b 2 2) (drop innerHeader b)), take-nil)
+          let children = read_each child_in child_size (le_at b 2 2) (drop inner_header b) in
+          rw (view_in-inner b e, half_of, e, all children inner_half (length-read_each child_in child_size (le_at b 2 2) (drop inner_header b)), take-nil)
 
-pub half-below : (b : List ℕ) → Divides (viewIn b) → half_of (leAt b 0 2) < leAt b 2 2
-half-below b d = rw (← kind-viewIn b, ← count-viewIn b) d.past
+pub half_below : (b : List ℕ) → Divides (view_in b) → half_of (le_at b 0 2) < le_at b 2 2
+half_below b d = rw (← kind-view_in b, ← count-view_in b) d.past
 
 pub size-bound : (kind : ℕ) → 12 ≤ size_of kind
 unfolding size_of
-size-bound kind = go (eqb kind leafKind)
+size-bound kind = go (eqb kind leaf_kind)
   where
-    go : (t : Bool) → 12 ≤ elim t [ true ↦ certSize | false ↦ child_size ]
+    go : (t : Bool) → 12 ≤ elim t [ true ↦ cert_size | false ↦ child_size ]
     go true = omega arith
     go false = omega arith
 
 -- that key lies within its page
-pub middle-fits : (b : List ℕ) (kind header size half : ℕ) → Divides (viewIn b) → kind ≡ leAt b 0 2 → header ≡ headerSize kind → size ≡ size_of kind → half ≡ half_of kind
-    → header + size * half + 8 ≤ pageSize
+pub middle-fits : (b : List ℕ) (kind header size half : ℕ) → Divides (view_in b) → kind ≡ le_at b 0 2 → header ≡ header_size kind → size ≡ size_of kind → half ≡ half_of kind
+    → header + size * half + 8 ≤ page_size
 middle-fits b kind header size half d e f s m =
-    let k : half < leAt b 2 2 = rw (m, e) (half-below b d) in
-    let w = within size half (leAt b 2 2) k in
-    let v : header + size * leAt b 2 2 ≤ pageSize = rw (f, s, e) (entries_fit b d.roomy) in
+    let k : half < le_at b 2 2 = rw (m, e) (half_below b d) in
+    let w = within size half (le_at b 2 2) k in
+    let v : header + size * le_at b 2 2 ≤ page_size = rw (f, s, e) (entries_fit b d.roomy) in
     omega (arith, size-bound kind)

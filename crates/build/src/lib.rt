@@ -9,13 +9,13 @@
 
 ghost use Rattle.std.specs.Prelude.{◌≡◌, ◌+◌, ◌*◌, ◌-◌, ◌≤◌, ◌<◌, length};
 ghost use Rattle.std.proofs.lemmas.List.Edits.{sets};
-ghost use Rattle.rules.specs.Layout.{pageSize, commonHeader, leafKind, lastKey};
-ghost use Rattle.rules.specs.Page.{count, viewIn, fresh};
+ghost use Rattle.rules.specs.Layout.{page_size, common_header, leaf_kind, last_key};
+ghost use Rattle.rules.specs.Page.{count, view_in, fresh};
 ghost use Rattle.rules.specs.Table.{read, build};
 ghost use Rattle.rules.specs.Place.{mended};
-ghost use Rattle.rules.specs.Insert.{divide, newChild, lowerPage, upperPage};
+ghost use Rattle.rules.specs.Insert.{divide, new_child, lower_page, upper_page};
 ghost use Rattle.entries.specs.Spot.{spot_of, start_of};
-ghost use Rattle.build.specs.Range.{headerOf, keys_of, rangeView, rootView, half_of, Roomy, Ordered, Divides};
+ghost use Rattle.build.specs.Range.{header_of, keys_of, range_view, root_view, half_of, Roomy, Ordered, Divides};
 
 use rules::{
     AT_BIRTH, AT_BUILT, AT_COUNT, AT_HIGH, AT_KIND, AT_LOW, AT_TOUCHED, CHILD, INNER_HALF,
@@ -40,8 +40,8 @@ fn header(
     low: u64,
     high: u64,
 )
-    requires { at + commonHeader ≤ length table.old }
-    ensures { table.new ≡ sets table.old at (headerOf kind count birth c low high) }
+    requires { at + common_header ≤ length table.old }
+    ensures { table.new ≡ sets table.old at (header_of kind count birth c low high) }
 {
     fields::put16(table, at + AT_KIND, kind);
     fields::put16(table, at + AT_COUNT, count);
@@ -65,10 +65,10 @@ fn build_range(
     low: u64,
     high: u64,
 )
-    requires page_size_in_bounds { ((to + 1) * pageSize ≤ length table.old) × ((from + 1) * pageSize ≤ length table.old) }
+    requires page_size_in_bounds { ((to + 1) * page_size ≤ length table.old) × ((from + 1) * page_size ≤ length table.old) }
     requires roomy { Roomy (read table.old from).view }
     requires first_bound { (first ≤ count (read table.old from).view) × (past ≤ count (read table.old from).view) }
-    ensures { table.new ≡ build table.old to (fresh c birth low high (rangeView first past (read table.old from).view)) }
+    ensures { table.new ≡ build table.old to (fresh c birth low high (range_view first past (read table.old from).view)) }
 {
     let kind = fields::get16(table, from * PAGE + AT_KIND);
     let header_size = entries::header_size(kind);
@@ -94,8 +94,8 @@ struct Run {
 }
 
 fn run_in(page: &[u8], low: u64, high: u64) -> Run
-    requires page_len { length page.now ≡ pageSize }
-    requires roomy { Roomy (viewIn page.now) }
+    requires page_len { length page.now ≡ page_size }
+    requires roomy { Roomy (view_in page.now) }
     ensures { (result.first ≡ start_of low (keys_of page.now)) × (result.past ≡ spot_of high (keys_of page.now)) }
 {
     let kind = fields::get16(page, AT_KIND);
@@ -117,9 +117,9 @@ fn half_of(kind: u16) -> usize
 
 // The upper half's low: the first key that the lower half does not take.
 fn middle(page: &[u8]) -> u64
-    requires page_len { length page.now ≡ pageSize }
-    requires divides { Divides (viewIn page.now) }
-    ensures { result ≡ divide (viewIn page.now) }
+    requires page_len { length page.now ≡ page_size }
+    requires divides { Divides (view_in page.now) }
+    ensures { result ≡ divide (view_in page.now) }
 {
     let kind = fields::get16(page, AT_KIND);
     fields::get64(
@@ -130,7 +130,7 @@ fn middle(page: &[u8]) -> u64
 
 // The child at a place becomes the entries of its previous page with keys in the place's range.
 pub fn build_mended(table: &mut [u8], e: Place, c: u32)
-    requires page_size_in_bounds { ((e.child + 1) * pageSize ≤ length table.old) × ((e.previous + 1) * pageSize ≤ length table.old) }
+    requires page_size_in_bounds { ((e.child + 1) * page_size ≤ length table.old) × ((e.previous + 1) * page_size ≤ length table.old) }
     requires ordered { Ordered (read table.old e.previous).view }
     ensures { table.new ≡ build table.old e.child (mended c e (read table.old e.previous)) }
 {
@@ -152,7 +152,7 @@ pub fn build_mended(table: &mut [u8], e: Place, c: u32)
 
 // The upper half's low, of a page that is to be split.
 pub fn middle_at(table: &[u8], i: usize) -> u64
-    requires page_size_in_bounds { (i + 1) * pageSize ≤ length table.now }
+    requires page_size_in_bounds { (i + 1) * page_size ≤ length table.now }
     requires divides { Divides (read table.now i).view }
     ensures { result ≡ divide (read table.now i).view }
 {
@@ -163,9 +163,9 @@ pub fn middle_at(table: &[u8], i: usize) -> u64
 
 // A page becomes the lower half of another.
 pub fn build_lower(table: &mut [u8], to: usize, from: usize, c: u32)
-    requires page_size_in_bounds { ((to + 1) * pageSize ≤ length table.old) × ((from + 1) * pageSize ≤ length table.old) }
+    requires page_size_in_bounds { ((to + 1) * page_size ≤ length table.old) × ((from + 1) * page_size ≤ length table.old) }
     requires divides { Divides (read table.old from).view }
-    ensures { table.new ≡ build table.old to (lowerPage c (read table.old from)) }
+    ensures { table.new ≡ build table.old to (lower_page c (read table.old from)) }
 {
     let half = half_of(fields::get16(table, from * PAGE + AT_KIND));
     let low = fields::get64(table, from * PAGE + AT_LOW);
@@ -175,9 +175,9 @@ pub fn build_lower(table: &mut [u8], to: usize, from: usize, c: u32)
 
 // A page becomes the upper half of another.
 pub fn build_upper(table: &mut [u8], to: usize, from: usize, c: u32)
-    requires page_size_in_bounds { ((to + 1) * pageSize ≤ length table.old) × ((from + 1) * pageSize ≤ length table.old) }
+    requires page_size_in_bounds { ((to + 1) * page_size ≤ length table.old) × ((from + 1) * page_size ≤ length table.old) }
     requires divides { Divides (read table.old from).view }
-    ensures { table.new ≡ build table.old to (upperPage c (read table.old from)) }
+    ensures { table.new ≡ build table.old to (upper_page c (read table.old from)) }
 {
     let half = half_of(fields::get16(table, from * PAGE + AT_KIND));
     let count = fields::get16(table, from * PAGE + AT_COUNT) as usize;
@@ -197,9 +197,9 @@ pub fn build_root(
     previous: u16,
     birth: u32,
 )
-    requires page_size_in_bounds { (to + 1) * pageSize ≤ length table.old }
-    requires leaf_kind_lt_kind { leafKind < kind }
-    ensures { table.new ≡ build table.old to (fresh c c 0 lastKey (rootView kind (newChild birth key child previous))) }
+    requires page_size_in_bounds { (to + 1) * page_size ≤ length table.old }
+    requires leaf_kind_lt_kind { leaf_kind < kind }
+    ensures { table.new ≡ build table.old to (fresh c c 0 last_key (root_view kind (new_child birth key child previous))) }
 {
     let at = to * PAGE;
     entries::write_child(table, at + INNER_HEADER, key, child, previous, birth);

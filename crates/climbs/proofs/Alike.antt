@@ -11,16 +11,16 @@ use Rattle.rules.specs.Entry.{Cert, keys, cut}
 use Rattle.rules.specs.Page.{Page}
 use Rattle.rules.specs.Place.{kids}
 use Rattle.rules.specs.Enter.{enter}
-use Rattle.rules.specs.Walk.{Walked, enters, finds, walkEach, walk, noted}
+use Rattle.rules.specs.Walk.{Walked, enters, finds, walk_each, walk, noted}
 use Rattle.rules.specs.declared.Asked.{Asked}
 use Rattle.rules.specs.declared.Place.{Place}
-use Rattle.rules.proofs.entries.Tests.{same_test, between-low, between-high, between-of, all_head, all_tail}
-use Rattle.rules.proofs.entries.Entries.{cut_in, cut_out, cut-nil}
-use Rattle.rules.proofs.entries.Places.{Fits}
-use Rattle.rules.proofs.entries.Asks.{kids-mem, kids-within}
-use Rattle.rules.proofs.demand1.WalkSteps.{walk-past, walk-damaged, walk-entered}
+use Rattle.rules.proofs.Entries.Tests.{same_test, between-low, between-high, between-of, all_head, all_tail}
+use Rattle.rules.proofs.Entries.Entries.{cut_in, cut_out, cut-nil}
+use Rattle.rules.proofs.Entries.Places.{Fits}
+use Rattle.rules.proofs.Entries.Asks.{kids-mem, kids-within}
+use Rattle.rules.proofs.Demand1.WalkSteps.{walk-past, walk-damaged, walk-entered}
 use Rattle.enter.proofs.Stands.{comes, found-fits}
-use Rattle.climbs.proofs.Steps.{enters-true, enters-of, finds-same, each_same}
+use Rattle.climbs.proofs.Steps.{enters_true, enters-of, finds-same, each_same}
 
 pub record Alike (from : ℕ) (a b : Asked) : Type 0 where
   pub low : a.low ≤ from
@@ -40,9 +40,9 @@ alike-back x = record {
 -- ── Entering and finding ────────────────────────────────────────────────────────────────────────────────────────
 
 module _ {from : ℕ} {a b : Asked} (x : Alike from a b) (e : Place) (l : from ≤ e.low) (r : e.low ≤ e.high) (w : Walked) where
-  enters-too : enters a e w ≡ true → enters b e w ≡ true
-  enters-too h =
-      let y = enters-true a e w h in
+  enters_too : enters a e w ≡ true → enters b e w ≡ true
+  enters_too h =
+      let y = enters_true a e w h in
       enters-of b e w record {
         whole = y.whole;
         room = omega (arith, y.room, x.room (omega (arith, y.from)));
@@ -52,7 +52,7 @@ module _ {from : ℕ} {a b : Asked} (x : Alike from a b) (e : Place) (l : from �
 
 enters-alike : {from : ℕ} {a b : Asked} → Alike from a b → (e : Place) → from ≤ e.low → e.low ≤ e.high → (w : Walked)
     → enters a e w ≡ enters b e w
-enters-alike {a = a} {b} x e l r w = same_test (enters a e w) (enters b e w) (enters-too x e l r w) (enters-too (alike-back x) e l r w)
+enters-alike {a = a} {b} x e l r w = same_test (enters a e w) (enters b e w) (enters_too x e l r w) (enters_too (alike-back x) e l r w)
 
 module _ {from : ℕ} {a b : Asked} (x : Alike from a b) where
   between-alike : (k : ℕ) → from ≤ k → between a.low a.high k ≡ between b.low b.high k
@@ -100,15 +100,15 @@ walk-alike (suc level) n c {from = from} {a} {b} x above e w l r =
         → walk level n c a (e.child ∷ above) d v ≡ walk level n c b (e.child ∷ above) d v
 
     inside : (p : Page) → (enter n c above w.table e).page ≡ some p → enters a e w ≡ true → Rest
-        → walkEach (walk level n c a (e.child ∷ above)) (kids e p.view) (finds a p.view (noted n e w) t)
-        ≡ walkEach (walk level n c b (e.child ∷ above)) (kids e p.view) (finds b p.view (noted n e w) t)
+        → walk_each (walk level n c a (e.child ∷ above)) (kids e p.view) (finds a p.view (noted n e w) t)
+        ≡ walk_each (walk level n c b (e.child ∷ above)) (kids e p.view) (finds b p.view (noted n e w) t)
     inside p h q ih =
         let f : Fits n e p = found-fits r (enter n c above w.table e) (comes n c above w.table e) p h in
         let v : Walked = noted n e w in
         let y : finds a p.view v t ≡ finds b p.view v t = finds-same a b p.view v t
-        (x.room (omega (arith, (enters-true a e w q).from)))
-        (cut-alike x e.low e.high l p.view.certs f.sound.certs-within) in
-        ap (walkEach (walk level n c a (e.child ∷ above)) (kids e p.view)) y
+        (x.room (omega (arith, (enters_true a e w q).from)))
+        (cut-alike x e.low e.high l p.view.certs f.sound.certs_within) in
+        ap (walk_each (walk level n c a (e.child ∷ above)) (kids e p.view)) y
         ∙ each_same (walk level n c a (e.child ∷ above)) (walk level n c b (e.child ∷ above)) (kids e p.view) (finds b p.view v t)
         (λ d v m.
         let z = kids-mem e f.sound d m in

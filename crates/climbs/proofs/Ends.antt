@@ -6,14 +6,14 @@ use mathlib.Core.Bool.{Bool, true, false}
 use mathlib.Core.List.{List, []}
 use lib.ListN.{length}
 use borrow.Author.Tests.{lt-ltb, le-ltb}
-use Rattle.rules.specs.Place.{rootPlace}
+use Rattle.rules.specs.Place.{root_place}
 use Rattle.rules.specs.Walk.{Walked, unwalked, walk_of}
 use Rattle.rules.specs.declared.Asked.{Asked}
-use Rattle.rules.proofs.entries.Tests.{not-both}
-use Rattle.rules.proofs.demand1.WalkSteps.{walk-past}
+use Rattle.rules.proofs.Entries.Tests.{not_both}
+use Rattle.rules.proofs.Demand1.WalkSteps.{walk-past}
 use Rattle.climbs.specs.Rest.{rest}
 use Rattle.climbs.specs.After.{after}
-use Rattle.climbs.proofs.Steps.{Enters, enters-not}
+use Rattle.climbs.proofs.Steps.{Enters, enters_not}
 
 -- ── What is asked for behind a leaf ─────────────────────────────────────────────────────────────────────────────
 
@@ -33,15 +33,15 @@ unfolding walk_of rest
 rest-begins n c a t = refl
 
 -- what is not entered at the root is not walked
-rest-past : (n c : ℕ) (a : Asked) (w : Walked) → (Enters a (rootPlace w.table) w → ⊥) → rest n c a w ≡ w
+rest-past : (n c : ℕ) (a : Asked) (w : Walked) → (Enters a (root_place w.table) w → ⊥) → rest n c a w ≡ w
 unfolding rest
-rest-past n c a w h = walk-past 2 n c a [] (rootPlace w.table) w (enters-not a (rootPlace w.table) w h)
+rest-past n c a w h = walk-past 2 n c a [] (root_place w.table) w (enters_not a (root_place w.table) w h)
 
 pub rest-full : (n c : ℕ) (a : Asked) (w : Walked) → a.room ≤ length w.found → rest n c a w ≡ w
 rest-full n c a w h = rest-past n c a w (λ x. omega (arith, x.room))
 
 pub rest-stopped : (n c : ℕ) (a : Asked) (w : Walked) → w.whole ≡ false → rest n c a w ≡ w
-rest-stopped n c a w h = rest-past n c a w (λ x. not-both x.whole h)
+rest-stopped n c a w h = rest-past n c a w (λ x. not_both x.whole h)
 
 -- the range has ended
 pub rest_ended : (n c end : ℕ) (a : Asked) (w : Walked) → a.high ≤ end → rest n c (after end a) w ≡ w

@@ -13,16 +13,16 @@ use Rattle.rules.specs.Entry.{Cert, cut}
 use Rattle.rules.specs.Page.{View, Page}
 use Rattle.rules.specs.Table.{read}
 use Rattle.rules.specs.Enter.{enter}
-use Rattle.rules.specs.Report.{adds, reasonAt}
-use Rattle.rules.specs.Walk.{Walked, reporting, enters, finds, stops, walkEach, walk}
+use Rattle.rules.specs.Report.{adds, reason_at}
+use Rattle.rules.specs.Walk.{Walked, reporting, enters, finds, stops, walk_each, walk}
 use Rattle.rules.specs.declared.Asked.{Asked}
 use Rattle.rules.specs.declared.Place.{Place}
 use Rattle.rules.specs.declared.Report.{Report}
-use Rattle.rules.proofs.entries.Tests.{every_true, every_of, fails}
-use Rattle.rules.proofs.entries.Entries.{cut-nil}
-use Rattle.rules.proofs.entries.Places.{Fits, fits-of}
-use Rattle.rules.proofs.entries.Reasons.{adds-fits}
-use Rattle.rules.proofs.demand1.WalkSteps.{walk-past}
+use Rattle.rules.proofs.Entries.Tests.{every_true, every_of, fails}
+use Rattle.rules.proofs.Entries.Entries.{cut-nil}
+use Rattle.rules.proofs.Entries.Places.{Fits, fits-of}
+use Rattle.rules.proofs.Entries.Reasons.{adds-fits}
+use Rattle.rules.proofs.Demand1.WalkSteps.{walk-past}
 
 -- ── Whether a place is entered ──────────────────────────────────────────────────────────────────────────────────
 
@@ -32,9 +32,9 @@ pub record Enters (a : Asked) (e : Place) (w : Walked) : Type 0 where
   pub from : e.low ≤ a.high
   pub to : a.low ≤ e.high
 
-pub enters-true : (a : Asked) (e : Place) (w : Walked) → enters a e w ≡ true → Enters a e w
+pub enters_true : (a : Asked) (e : Place) (w : Walked) → enters a e w ≡ true → Enters a e w
 unfolding enters
-enters-true a e w h =
+enters_true a e w h =
     let f = every_true _ h in
     record {
       whole = f.0;
@@ -57,8 +57,8 @@ enters-of a e w x =
       ),
     )
 
-pub enters-not : (a : Asked) (e : Place) (w : Walked) → (Enters a e w → ⊥) → enters a e w ≡ false
-enters-not a e w h = fails (enters a e w) (λ q. h (enters-true a e w q))
+pub enters_not : (a : Asked) (e : Place) (w : Walked) → (Enters a e w → ⊥) → enters a e w ≡ false
+enters_not a e w h = fails (enters a e w) (λ q. h (enters_true a e w q))
 
 -- ── What is found ───────────────────────────────────────────────────────────────────────────────────────────────
 
@@ -103,15 +103,15 @@ enter-standing n c above t e p a h f =
     rw (a, enter, h, fits-of n e p f) (ap (λ (q : Page). record { table = t; page = some q }) h)
 
 -- it adds nothing to a report
-pub adds-standing : (n : ℕ) (t : List ℕ) (e : Place) (x : Report) → Fits n e (read t e.child) → adds (reasonAt n t e) x ≡ x
+pub adds-standing : (n : ℕ) (t : List ℕ) (e : Place) (x : Report) → Fits n e (read t e.child) → adds (reason_at n t e) x ≡ x
 adds-standing n t e x f = adds-fits n t e x (fits-of n e (read t e.child) f)
 
 -- ── Over the places of a page ───────────────────────────────────────────────────────────────────────────────────
 
-pub walk-skips : (level n c : ℕ) (a : Asked) (above : List ℕ) (e : Place) (w : Walked) → 1 ≤ level → enters a e w ≡ false
+pub walk_skips : (level n c : ℕ) (a : Asked) (above : List ℕ) (e : Place) (w : Walked) → 1 ≤ level → enters a e w ≡ false
     → walk level n c a above e w ≡ w
-walk-skips zero n c a above e w l h = absurd (omega arith)
-walk-skips (suc level) n c a above e w l h = walk-past level n c a above e w h
+walk_skips zero n c a above e w l h = absurd (omega arith)
+walk_skips (suc level) n c a above e w l h = walk-past level n c a above e w h
 
 -- damage ends a walk
 pub walk-stopped : (level n c : ℕ) (a : Asked) (above : List ℕ) (e : Place) (w : Walked) (t : List ℕ)
@@ -121,21 +121,21 @@ walk-stopped zero n c a above e w t = refl
 walk-stopped (suc level) n c a above e w t = walk-past level n c a above e (stops w t) refl
 
 module _ (f : Place → Walked → Walked) where
-  pub each_append : (ds es : List Place) (w : Walked) → walkEach f (ds ++ es) w ≡ walkEach f es (walkEach f ds w)
-  unfolding walkEach
+  pub each_append : (ds es : List Place) (w : Walked) → walk_each f (ds ++ es) w ≡ walk_each f es (walk_each f ds w)
+  unfolding walk_each
   each_append [] es w = refl
   each_append (d ∷ ds) es w = each_append ds es (f d w)
 
   -- places that leave everything as it is
-  pub each-past : (es : List Place) (w : Walked) → ((d : Place) → Memᴰ d es → f d w ≡ w) → walkEach f es w ≡ w
-  unfolding walkEach
-  each-past [] w h = refl
-  each-past (e ∷ es) w h =
-      ap (walkEach f es) (h e (Memᴰ.head refl)) ∙ each-past es w (λ d m. h d (Memᴰ.tail m))
+  pub each_past : (es : List Place) (w : Walked) → ((d : Place) → Memᴰ d es → f d w ≡ w) → walk_each f es w ≡ w
+  unfolding walk_each
+  each_past [] w h = refl
+  each_past (e ∷ es) w h =
+      ap (walk_each f es) (h e (Memᴰ.head refl)) ∙ each_past es w (λ d m. h d (Memᴰ.tail m))
 
   pub each_same : (g : Place → Walked → Walked) (es : List Place) (w : Walked)
-      → ((d : Place) (v : Walked) → Memᴰ d es → f d v ≡ g d v) → walkEach f es w ≡ walkEach g es w
-  unfolding walkEach
+      → ((d : Place) (v : Walked) → Memᴰ d es → f d v ≡ g d v) → walk_each f es w ≡ walk_each g es w
+  unfolding walk_each
   each_same g [] w h = refl
   each_same g (e ∷ es) w h =
-      each_same g es (f e w) (λ d v m. h d v (Memᴰ.tail m)) ∙ ap (walkEach g es) (h e w (Memᴰ.head refl))
+      each_same g es (f e w) (λ d v m. h d v (Memᴰ.tail m)) ∙ ap (walk_each g es) (h e w (Memᴰ.head refl))

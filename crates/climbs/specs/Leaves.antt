@@ -1,7 +1,7 @@
 -- The leaves of a range, climbed to one after the other, each from the root.
 use Rattle.std.specs.Prelude.{ℕ, zero, suc, true, false, List, [], ◌∷◌, ltb, length}
 use Rattle.std.proofs.Math.Option.{some, none}
-use Rattle.rules.specs.Walk.{Step, way_of, wayReport, Walked, reporting, finds, stops}
+use Rattle.rules.specs.Walk.{Step, way_of, way_report, Walked, reporting, finds, stops}
 use Rattle.rules.specs.declared.Asked.{Asked}
 use Rattle.climbs.specs.After.{after}
 
@@ -18,6 +18,6 @@ leaves (suc turns) n c a w =
       | false ↦ w
       | true ↦
           let way = way_of n c a.low w.table in
-          let told = reporting (wayReport n c a.low w.table w.report) w in
+          let told = reporting (way_report n c a.low w.table w.report) w in
           elim way.steps [ none ↦ stops told way.table | some ss ↦ passes (leaves turns n c) a told way.table ss ]
     ]

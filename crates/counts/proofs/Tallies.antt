@@ -7,46 +7,46 @@ use mathlib.Core.List.{List, [], ◌∷◌, ◌++◌}
 use lib.Dec.{eqb}
 use lib.ListN.{length, drop}
 use borrow.Author.Tests.{eq-eqb, ne_eqb}
-use Rattle.rules.specs.Layout.{leafHeader, certSize}
+use Rattle.rules.specs.Layout.{leaf_header, cert_size}
 use Rattle.rules.specs.Test.{between}
 use Rattle.rules.specs.Entry.{Cert, cut}
-use Rattle.rules.specs.Page.{readEach, certIn}
-use Rattle.rules.proofs.entries.Tests.{between-of, between-below, between-above}
-use Rattle.rules.proofs.entries.Entries.{cut-nil, cut_in, cut_out}
-use Rattle.head.specs.Head.{certAt}
+use Rattle.rules.specs.Page.{read_each, cert_in}
+use Rattle.rules.proofs.Entries.Tests.{between-of, between-below, between-above}
+use Rattle.rules.proofs.Entries.Entries.{cut-nil, cut_in, cut_out}
+use Rattle.head.specs.Head.{cert_at}
 use Rattle.head.proofs.Left.{left, left-all, left-more, left-none}
-use Rattle.counts.specs.Tally.{noTally, oneMore, counted, countedIn, countedAll, Few}
+use Rattle.counts.specs.Tally.{no_tally, one_more, counted, counted_in, counted_all, Few}
 use Rattle.counts.specs.declared.Tally.{Tally}
 
 -- ── One certificate ─────────────────────────────────────────────────────────────────────────────────────────────
 
 module _ (by last key count : ℕ) where
-  pub more_same : last / by ≡ key / by → oneMore by last key count ≡ count
-  unfolding oneMore
-  more_same e = rw (oneMore, eq-eqb (last / by) (key / by) e)
+  pub more_same : last / by ≡ key / by → one_more by last key count ≡ count
+  unfolding one_more
+  more_same e = rw (one_more, eq-eqb (last / by) (key / by) e)
 
-  pub more-other : (last / by ≡ key / by → ⊥) → oneMore by last key count ≡ count + 1
-  unfolding oneMore
-  more-other e = rw (oneMore, ne_eqb (last / by) (key / by) e)
+  pub more-other : (last / by ≡ key / by → ⊥) → one_more by last key count ≡ count + 1
+  unfolding one_more
+  more-other e = rw (one_more, ne_eqb (last / by) (key / by) e)
 
-  pub more-up : count ≤ oneMore by last key count
-  unfolding oneMore
+  pub more-up : count ≤ one_more by last key count
+  unfolding one_more
   more-up = go (eqb (last / by) (key / by)) refl
     where
-      go : (b : Bool) → eqb (last / by) (key / by) ≡ b → count ≤ oneMore by last key count
-      go true e = rw (oneMore, e) (omega arith)
-      go false e = rw (oneMore, e) (omega arith)
+      go : (b : Bool) → eqb (last / by) (key / by) ≡ b → count ≤ one_more by last key count
+      go true e = rw (one_more, e) (omega arith)
+      go false e = rw (one_more, e) (omega arith)
 
-  pub more-most : oneMore by last key count ≤ count + 1
-  unfolding oneMore
+  pub more-most : one_more by last key count ≤ count + 1
+  unfolding one_more
   more-most = go (eqb (last / by) (key / by)) refl
     where
-      go : (b : Bool) → eqb (last / by) (key / by) ≡ b → oneMore by last key count ≤ count + 1
-      go true e = rw (oneMore, e) (omega arith)
-      go false e = rw (oneMore, e) (omega arith)
+      go : (b : Bool) → eqb (last / by) (key / by) ≡ b → one_more by last key count ≤ count + 1
+      go true e = rw (one_more, e) (omega arith)
+      go false e = rw (one_more, e) (omega arith)
 
-pub few-none : Few noTally
-unfolding noTally
+pub few-none : Few no_tally
+unfolding no_tally
 few-none = record { models = omega arith; meters = omega arith }
 
 pub few-counted : (c : Tally) (key : ℕ) → Few c → Few (counted c key)
@@ -56,24 +56,24 @@ few-counted c key f = record {
   meters = omega (arith, f.meters, more-most 65536 c.last key c.meters);
 }
 
-pub few-all : (c : Tally) (xs : List Cert) → Few c → Few (countedAll c xs)
-unfolding countedAll
+pub few-all : (c : Tally) (xs : List Cert) → Few c → Few (counted_all c xs)
+unfolding counted_all
 few-all c [] f = f
 few-all c (x ∷ xs) f = few-all (counted c x.key) xs (few-counted c x.key f)
 
-pub certs-all : (c : Tally) (xs : List Cert) → (countedAll c xs).certs ≡ c.certs + length xs
-unfolding countedAll counted
+pub certs-all : (c : Tally) (xs : List Cert) → (counted_all c xs).certs ≡ c.certs + length xs
+unfolding counted_all counted
 certs-all c [] = omega arith
 certs-all c (x ∷ xs) = certs-all (counted c x.key) xs ∙ omega arith
 
-pub certs-found : (xs : List Cert) → (countedAll noTally xs).certs ≡ length xs
-unfolding noTally
-certs-found xs = certs-all noTally xs ∙ omega arith
+pub certs-found : (xs : List Cert) → (counted_all no_tally xs).certs ≡ length xs
+unfolding no_tally
+certs-found xs = certs-all no_tally xs ∙ omega arith
 
 -- ── A list of them ──────────────────────────────────────────────────────────────────────────────────────────────
 
-pub all_append : (c : Tally) (xs ys : List Cert) → countedAll c (xs ++ ys) ≡ countedAll (countedAll c xs) ys
-unfolding countedAll
+pub all_append : (c : Tally) (xs ys : List Cert) → counted_all c (xs ++ ys) ≡ counted_all (counted_all c xs) ys
+unfolding counted_all
 all_append c [] ys = refl
 all_append c (x ∷ xs) ys = all_append (counted c x.key) xs ys
 
@@ -83,8 +83,8 @@ pub record Grows (c d : Tally) : Type 0 where
   pub meters : c.meters ≤ d.meters
   pub certs : c.certs ≤ d.certs
 
-pub all-grows : (c : Tally) (xs : List Cert) → Grows c (countedAll c xs)
-unfolding countedAll counted
+pub all-grows : (c : Tally) (xs : List Cert) → Grows c (counted_all c xs)
+unfolding counted_all counted
 all-grows c [] = record { models = omega arith; meters = omega arith; certs = omega arith }
 all-grows c (x ∷ xs) =
     let g = all-grows (counted c x.key) xs in
@@ -98,61 +98,61 @@ all-grows c (x ∷ xs) =
 
 module _ (low high : ℕ) where
   module _ (c : Tally) (key : ℕ) where
-    pub in-below : key < low → c ≡ countedIn low high c key
-    unfolding countedIn
-    in-below h = rw (countedIn, between-below low high key h)
+    pub in_below : key < low → c ≡ counted_in low high c key
+    unfolding counted_in
+    in_below h = rw (counted_in, between-below low high key h)
 
-    pub in-above : high < key → c ≡ countedIn low high c key
-    unfolding countedIn
-    in-above h = rw (countedIn, between-above low high key h)
+    pub in_above : high < key → c ≡ counted_in low high c key
+    unfolding counted_in
+    in_above h = rw (counted_in, between-above low high key h)
 
-    pub in-here : low ≤ key → key ≤ high → counted c key ≡ countedIn low high c key
-    unfolding countedIn
-    in-here l h = rw (countedIn, between-of low high key l h)
+    pub in_here : low ≤ key → key ≤ high → counted c key ≡ counted_in low high c key
+    unfolding counted_in
+    in_here l h = rw (counted_in, between-of low high key l h)
 
     -- one more at the most
-    pub in-few : Few c → Few (countedIn low high c key)
-    unfolding countedIn
-    in-few f = go (between low high key) refl
+    pub in_few : Few c → Few (counted_in low high c key)
+    unfolding counted_in
+    in_few f = go (between low high key) refl
       where
-        go : (b : Bool) → between low high key ≡ b → Few (countedIn low high c key)
-        go true e = rw (countedIn, e) (few-counted c key f)
-        go false e = rw (countedIn, e) f
+        go : (b : Bool) → between low high key ≡ b → Few (counted_in low high c key)
+        go true e = rw (counted_in, e) (few-counted c key f)
+        go false e = rw (counted_in, e) f
 
-    pub in-most : (countedIn low high c key).certs ≤ c.certs + 1
-    unfolding countedIn counted
-    in-most = go (between low high key) refl
+    pub in_most : (counted_in low high c key).certs ≤ c.certs + 1
+    unfolding counted_in counted
+    in_most = go (between low high key) refl
       where
-        go : (b : Bool) → between low high key ≡ b → (countedIn low high c key).certs ≤ c.certs + 1
-        go true e = rw (countedIn, e) (omega arith)
-        go false e = rw (countedIn, e) (omega arith)
+        go : (b : Bool) → between low high key ≡ b → (counted_in low high c key).certs ≤ c.certs + 1
+        go true e = rw (counted_in, e) (omega arith)
+        go false e = rw (counted_in, e) (omega arith)
 
   cut-cons : (x : Cert) (xs : List Cert) (c : Tally)
-      → countedAll (countedIn low high c x.key) (cut low high xs) ≡ countedAll c (cut low high (x ∷ xs))
-  unfolding countedAll countedIn
+      → counted_all (counted_in low high c x.key) (cut low high xs) ≡ counted_all c (cut low high (x ∷ xs))
+  unfolding counted_all counted_in
   cut-cons x xs c = go (between low high x.key) refl
     where
       go : (b : Bool) → between low high x.key ≡ b
-          → countedAll (countedIn low high c x.key) (cut low high xs) ≡ countedAll c (cut low high (x ∷ xs))
-      go true e = rw (countedIn, e, cut_in low high x xs e)
-      go false e = rw (countedIn, e, cut_out low high x xs e)
+          → counted_all (counted_in low high c x.key) (cut low high xs) ≡ counted_all c (cut low high (x ∷ xs))
+      go true e = rw (counted_in, e, cut_in low high x xs e)
+      go false e = rw (counted_in, e, cut_out low high x xs e)
 
   -- the loop over a leaf
   module _ (b : List ℕ) (entries : ℕ) where
     -- what is left to count
     abbrev pub counts : ℕ → Tally → Tally
-    counts j c = countedAll c (cut low high (left certIn leafHeader certSize b entries j))
+    counts j c = counted_all c (cut low high (left cert_in leaf_header cert_size b entries j))
 
-    pub counts-turn : (j key : ℕ) (c d : Tally) → j < entries → key ≡ (certAt b j).key → d ≡ countedIn low high c key
+    pub counts-turn : (j key : ℕ) (c d : Tally) → j < entries → key ≡ (cert_at b j).key → d ≡ counted_in low high c key
         → counts (j + 1) d ≡ counts j c
-    unfolding certAt
+    unfolding cert_at
     counts-turn j key c d h k f =
-        rw (f, k, left-more certIn leafHeader certSize b entries j h)
-        (cut-cons (certIn (drop (leafHeader + certSize * j) b)) (left certIn leafHeader certSize b entries (j + 1)) c)
+        rw (f, k, left-more cert_in leaf_header cert_size b entries j h)
+        (cut-cons (cert_in (drop (leaf_header + cert_size * j) b)) (left cert_in leaf_header cert_size b entries (j + 1)) c)
 
     pub counts_end : (j : ℕ) (c : Tally) → entries ≤ j → counts j c ≡ c
-    unfolding countedAll
-    counts_end j c h = rw (left-none certIn leafHeader certSize b entries j h, cut-nil low high)
+    unfolding counted_all
+    counts_end j c h = rw (left-none cert_in leaf_header cert_size b entries j h, cut-nil low high)
 
-    pub counts_start : (c : Tally) → counts 0 c ≡ countedAll c (cut low high (readEach certIn certSize entries (drop leafHeader b)))
-    counts_start c = ap (λ (xs : List Cert). countedAll c (cut low high xs)) (sym (left-all certIn leafHeader certSize b entries))
+    pub counts_start : (c : Tally) → counts 0 c ≡ counted_all c (cut low high (read_each cert_in cert_size entries (drop leaf_header b)))
+    counts_start c = ap (λ (xs : List Cert). counted_all c (cut low high xs)) (sym (left-all cert_in leaf_header cert_size b entries))

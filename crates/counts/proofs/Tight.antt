@@ -3,14 +3,14 @@ use mathlib.Core.Path.{refl, sym, ◌∙◌}
 use Rattle.tight.specs.Tight.{Tight}
 use Rattle.counts.proofs as this
 
-pub everything-tight : Tight this.everything.Kinds.ps this.everything.Kinds.r this.everything.Reads.Pre this.everything.Reads.Post
-everything-tight κs a pre z z' l l' p q = (p ∙ sym q, refl)
+pub everything_tight : Tight this.everything.Kinds.ps this.everything.Kinds.r this.everything.Reads.Pre this.everything.Reads.Post
+everything_tight κs a pre z z' l l' p q = (p ∙ sym q, refl)
 
-pub no-tally-tight : Tight this.no_tally.Kinds.ps this.no_tally.Kinds.r this.no_tally.Reads.Pre this.no_tally.Reads.Post
-no-tally-tight κs a pre z z' l l' p q = (p ∙ sym q, refl)
+pub no_tally_tight : Tight this.no_tally.Kinds.ps this.no_tally.Kinds.r this.no_tally.Reads.Pre this.no_tally.Reads.Post
+no_tally_tight κs a pre z z' l l' p q = (p ∙ sym q, refl)
 
-pub counted-tight : Tight this.counted.Kinds.ps this.counted.Kinds.r this.counted.Reads.Pre this.counted.Reads.Post
-counted-tight κs a pre z z' l l' p q = (p ∙ sym q, refl)
+pub counted_tight : Tight this.counted.Kinds.ps this.counted.Kinds.r this.counted.Reads.Pre this.counted.Reads.Post
+counted_tight κs a pre z z' l l' p q = (p ∙ sym q, refl)
 
-pub count-of-tight : Tight this.count_of.Kinds.ps this.count_of.Kinds.r this.count_of.Reads.Pre this.count_of.Reads.Post
-count-of-tight κs a pre z z' l l' p q = (p ∙ sym q, refl)
+pub count_of_tight : Tight this.count_of.Kinds.ps this.count_of.Kinds.r this.count_of.Reads.Pre this.count_of.Reads.Post
+count_of_tight κs a pre z z' l l' p q = (p ∙ sym q, refl)

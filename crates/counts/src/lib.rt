@@ -6,11 +6,11 @@
 //
 // Below stand `dry`, which steps from leaf to leaf, and `head`, which reads entries.
 ghost use Rattle.std.specs.Prelude.{◌≡◌, true, ◌+◌, ◌*◌, ◌≤◌, ◌<◌, length, drop};
-ghost use Rattle.rules.specs.Layout.{pageSize, leafHeader, certSize, leafRoom};
+ghost use Rattle.rules.specs.Layout.{page_size, leaf_header, cert_size, leaf_room};
 ghost use Rattle.rules.specs.Entry.{cut};
-ghost use Rattle.rules.specs.Page.{readEach, certIn};
-ghost use Rattle.rules.specs.Table.{pageAt, fit0};
-ghost use Rattle.counts.specs.Tally.{everything, noTally, oneMore, counted, countedIn, countedAll, Few, ahead_of};
+ghost use Rattle.rules.specs.Page.{read_each, cert_in};
+ghost use Rattle.rules.specs.Table.{page_at, fit0};
+ghost use Rattle.counts.specs.Tally.{everything, no_tally, one_more, counted, counted_in, counted_all, Few, ahead_of};
 
 use dry::Step;
 use head::{cert_key_at, head_at};
@@ -53,7 +53,7 @@ pub fn everything() -> Asked
 
 // Before the first certificate.
 pub fn no_tally() -> Tally
-    ensures { result ≡ noTally }
+    ensures { result ≡ no_tally }
 {
     Tally {
         models: 0,
@@ -66,7 +66,7 @@ pub fn no_tally() -> Tally
 // One more, unless both keys stand under the same.
 fn one_more(by: u64, last: u64, key: u64, count: usize) -> usize
     requires { (0 < by) × (count ≤ 4294967295) }
-    ensures { result ≡ oneMore by last key count }
+    ensures { result ≡ one_more by last key count }
 {
     if last / by == key / by {
         return count;
@@ -93,7 +93,7 @@ pub fn counted(c: Tally, key: u64) -> Tally
 // The same, if its key lies in a range.
 fn counted_in(low: u64, high: u64, c: Tally, key: u64) -> Tally
     requires { Few c × (c.certs ≤ 4294967295) }
-    ensures { result ≡ countedIn low high c key }
+    ensures { result ≡ counted_in low high c key }
 {
     if key < low {
         return c;
@@ -106,8 +106,8 @@ fn counted_in(low: u64, high: u64, c: Tally, key: u64) -> Tally
 
 // The certificates of a leaf that lie in a range.
 fn count_leaf(table: &[u8], page: usize, entries: usize, low: u64, high: u64, c: Tally) -> Tally
-    requires { ((page + 1) * pageSize ≤ length table.now) × (entries ≤ leafRoom) × Few c × (c.certs + leafRoom ≤ 4294967295) }
-    ensures { result ≡ countedAll c (cut low high (readEach certIn certSize entries (drop leafHeader (pageAt table.now page)))) }
+    requires { ((page + 1) * page_size ≤ length table.now) × (entries ≤ leaf_room) × Few c × (c.certs + leaf_room ≤ 4294967295) }
+    ensures { result ≡ counted_all c (cut low high (read_each cert_in cert_size entries (drop leaf_header (page_at table.now page)))) }
 {
     let mut t = c;
     let mut j = 0;
@@ -120,7 +120,7 @@ fn count_leaf(table: &[u8], page: usize, entries: usize, low: u64, high: u64, c:
 
 // The whole walk, from the root on.
 pub fn count_of(table: &[u8], n: usize) -> Ahead
-    requires { (length table.now ≡ n * pageSize) × (fit0 n table.now ≡ true) }
+    requires { (length table.now ≡ n * page_size) × (fit0 n table.now ≡ true) }
     ensures { result ≡ ahead_of n table.now }
 {
     let a = everything();

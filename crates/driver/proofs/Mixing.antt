@@ -9,11 +9,11 @@ use lib.Dec.{eqb, ltb}
 use lib.ListN.{length, take, get_or, length-take, get_or-eq_default}
 use lib.Seq.{get_or-take}
 use borrow.Author.Tests.{eq-eqb, ne_eqb, eqb-true, eqb-false, ltb-true, ltb-false}
-use Rattle.rules.specs.Layout.{pageSize}
-use Rattle.rules.specs.Table.{pageAt, setPage}
+use Rattle.rules.specs.Layout.{page_size}
+use Rattle.rules.specs.Table.{page_at, set_page}
 use Rattle.rules.specs.Crash.{mix, crashed}
-use Rattle.rules.proofs.bytes.Tables.{Has, has-page, length-pageAt, length-setPage, pageAt-setPage-same, pageAt-setPage-other, pages-ext}
-use Rattle.rules.proofs.bytes.Mixes.{chosen, length-mix, pageAt-mix}
+use Rattle.rules.proofs.Bytes.Tables.{Has, has-page, length-page_at, length-set_page, page_at-set_page-same, page_at-set_page-other, pages_ext}
+use Rattle.rules.proofs.Bytes.Mixes.{chosen, length-mix, page_at-mix}
 
 module _ (marks : List Bool) (i : ℕ) where
   -- the marks so far have none for page i
@@ -40,59 +40,59 @@ abbrev so_far : List Bool → List ℕ → List ℕ → ℕ → List ℕ
 so_far marks w s i = mix (take i marks) w s
 
 abbrev next-page : List Bool → List ℕ → List ℕ → ℕ → List ℕ
-next-page marks w s i = chosen (get_or marks i false) (pageAt w i) (pageAt (so_far marks w s i) i)
+next-page marks w s i = chosen (get_or marks i false) (page_at w i) (page_at (so_far marks w s i) i)
 
 module _ (n : ℕ) (marks : List Bool) (w s : List ℕ) (i : ℕ)
-    (hw : length w ≡ n * pageSize) (hs : length s ≡ n * pageSize) (h : i < n) where
+    (hw : length w ≡ n * page_size) (hs : length s ≡ n * page_size) (h : i < n) where
   same_length : length w ≡ length s
   same_length = hw ∙ sym hs
 
-  length-far : length (so_far marks w s i) ≡ n * pageSize
-  length-far = length-mix (take i marks) w s same_length ∙ hs
+  length_far : length (so_far marks w s i) ≡ n * page_size
+  length_far = length-mix (take i marks) w s same_length ∙ hs
 
-  has-far : Has (so_far marks w s i) i
-  has-far = has-page (so_far marks w s i) n i length-far h
+  has_far : Has (so_far marks w s i) i
+  has_far = has-page (so_far marks w s i) n i length_far h
 
-  length-page : length (next-page marks w s i) ≡ pageSize
+  length-page : length (next-page marks w s i) ≡ page_size
   length-page = go (get_or marks i false)
     where
-      go : (b : Bool) → length (chosen b (pageAt w i) (pageAt (so_far marks w s i) i)) ≡ pageSize
-      go true = length-pageAt w i (has-page w n i hw h)
-      go false = length-pageAt (so_far marks w s i) i has-far
+      go : (b : Bool) → length (chosen b (page_at w i) (page_at (so_far marks w s i) i)) ≡ page_size
+      go true = length-page_at w i (has-page w n i hw h)
+      go false = length-page_at (so_far marks w s i) i has_far
 
   -- the page of the new mark, and every other page
-  page-new : pageAt (mix (take (i + 1) marks) w s) i ≡ next-page marks w s i
+  page-new : page_at (mix (take (i + 1) marks) w s) i ≡ next-page marks w s i
   page-new =
       let p = has-page s n i hs h in
-      rw (pageAt-mix (take (i + 1) marks) w s i same_length p, mark-new marks i, pageAt-mix (take i marks) w s i same_length p, mark-none marks i)
+      rw (page_at-mix (take (i + 1) marks) w s i same_length p, mark-new marks i, page_at-mix (take i marks) w s i same_length p, mark-none marks i)
 
-  page-old : (j : ℕ) → j < n → j ≢ i → pageAt (mix (take (i + 1) marks) w s) j ≡ pageAt (so_far marks w s i) j
+  page-old : (j : ℕ) → j < n → j ≢ i → page_at (mix (take (i + 1) marks) w s) j ≡ page_at (so_far marks w s i) j
   page-old j g d =
       let p = has-page s n j hs g in
-      rw (pageAt-mix (take (i + 1) marks) w s j same_length p, mark-old marks i j d, pageAt-mix (take i marks) w s j same_length p)
+      rw (page_at-mix (take (i + 1) marks) w s j same_length p, mark-old marks i j d, page_at-mix (take i marks) w s j same_length p)
 
-  pub mix-more : mix (take (i + 1) marks) w s ≡ setPage (so_far marks w s i) i (next-page marks w s i)
+  pub mix-more : mix (take (i + 1) marks) w s ≡ set_page (so_far marks w s i) i (next-page marks w s i)
   mix-more =
-      pages-ext n (mix (take (i + 1) marks) w s) (setPage (so_far marks w s i) i (next-page marks w s i))
+      pages_ext n (mix (take (i + 1) marks) w s) (set_page (so_far marks w s i) i (next-page marks w s i))
       (length-mix (take (i + 1) marks) w s same_length ∙ hs)
-      (length-setPage (so_far marks w s i) i (next-page marks w s i) has-far length-page ∙ length-far)
+      (length-set_page (so_far marks w s i) i (next-page marks w s i) has_far length-page ∙ length_far)
       (λ j g. go j g (eqb j i) refl)
     where
       go : (j : ℕ) → j < n → (b : Bool) → eqb j i ≡ b
-          → pageAt (mix (take (i + 1) marks) w s) j ≡ pageAt (setPage (so_far marks w s i) i (next-page marks w s i)) j
+          → page_at (mix (take (i + 1) marks) w s) j ≡ page_at (set_page (so_far marks w s i) i (next-page marks w s i)) j
       go j g true f =
           rw (eqb-true j i f)
-          (page-new ∙ sym (pageAt-setPage-same (so_far marks w s i) i (next-page marks w s i) has-far length-page))
+          (page-new ∙ sym (page_at-set_page-same (so_far marks w s i) i (next-page marks w s i) has_far length-page))
       go j g false f =
           let d = eqb-false j i f in
           page-old j g d
-          ∙ sym (pageAt-setPage-other (so_far marks w s i) i (next-page marks w s i) has-far length-page j d)
+          ∙ sym (page_at-set_page-other (so_far marks w s i) i (next-page marks w s i) has_far length-page j d)
 
 module _ (marks : List Bool) (n : ℕ) (w s : List ℕ) where
   -- after a refused opening nothing is written
-  pub crashed-not : n ≡ 0 → s ≡ crashed marks n w s
+  pub crashed_not : n ≡ 0 → s ≡ crashed marks n w s
   unfolding crashed
-  crashed-not e = sym (rw (eq-eqb n 0 e, crashed))
+  crashed_not e = sym (rw (eq-eqb n 0 e, crashed))
 
   pub crashed-mix : n ≢ 0 → mix marks w s ≡ crashed marks n w s
   unfolding crashed

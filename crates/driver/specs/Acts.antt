@@ -1,7 +1,7 @@
 -- One line's effect on the bench program's store, in the rules' words: the call that the line asks for, with its answer
 -- as what is to be printed.
 use Rattle.std.specs.Prelude.{ℕ, Bool, true, false, List, [], ◌∷◌, eqb}
-use Rattle.rules.specs.Call.{Left, openedNo, insertedNo, lookedNo, syncedNo}
+use Rattle.rules.specs.Call.{Left, opened_no, inserted_no, looked_no, synced_no}
 use Rattle.rules.specs.Open.{opening}
 use Rattle.rules.specs.Insert.{insert}
 use Rattle.rules.specs.Lookup.{lookup}
@@ -14,37 +14,37 @@ use Rattle.rules.specs.declared.Looked.{Looked}
 use Rattle.rules.specs.declared.Synced.{Synced}
 use Rattle.lines.specs.declared.Line.{Line}
 use Rattle.words.specs.declared.Reply.{Reply}
-use Rattle.lines.specs.Reader.{start_of, fedOf, lineIn}
+use Rattle.lines.specs.Reader.{start_of, fed_of, line_in}
 use Rattle.words.specs.Words.{newline}
 use Rattle.driver.specs.declared.Turn.{Turn}
 use Rattle.driver.specs.declared.Bench.{Bench}
 use Rattle.driver.specs.declared.Step.{Step}
 
 -- the bench program's store has five pages
-abbrev pub benchPages : ℕ
-benchPages = 5
+abbrev pub bench_pages : ℕ
+bench_pages = 5
 
-abbrev pub benchBytes : ℕ
-benchBytes = 2560
+abbrev pub bench_bytes : ℕ
+bench_bytes = 2560
 
 -- ── What is printed ─────────────────────────────────────────────────────────────────────────────────────────────
 
-abbrev pub insertedReply : Inserted → Reply
-insertedReply a = Reply.Answer (insertedNo a)
+abbrev pub inserted_reply : Inserted → Reply
+inserted_reply a = Reply.Answer (inserted_no a)
 
-abbrev pub syncedReply : Synced → Reply
-syncedReply a = Reply.Answer (syncedNo a)
+abbrev pub synced_reply : Synced → Reply
+synced_reply a = Reply.Answer (synced_no a)
 
-abbrev pub openedReply : Opened → Reply
-openedReply a = Reply.Answer (openedNo a)
+abbrev pub opened_reply : Opened → Reply
+opened_reply a = Reply.Answer (opened_no a)
 
 -- after a successful find, the record
-unfoldable pub lookedReply : Looked → Reply
-lookedReply (Looked.Found x) = Reply.Record x
-lookedReply Looked.Length = Reply.Answer (lookedNo Looked.Length)
-lookedReply Looked.BadKey = Reply.Answer (lookedNo Looked.BadKey)
-lookedReply Looked.Damaged = Reply.Answer (lookedNo Looked.Damaged)
-lookedReply Looked.Missing = Reply.Answer (lookedNo Looked.Missing)
+unfoldable pub looked_reply : Looked → Reply
+looked_reply (Looked.Found x) = Reply.Record x
+looked_reply Looked.Length = Reply.Answer (looked_no Looked.Length)
+looked_reply Looked.BadKey = Reply.Answer (looked_no Looked.BadKey)
+looked_reply Looked.Damaged = Reply.Answer (looked_no Looked.Damaged)
+looked_reply Looked.Missing = Reply.Answer (looked_no Looked.Missing)
 
 -- ── What a line does ────────────────────────────────────────────────────────────────────────────────────────────
 
@@ -54,16 +54,16 @@ told reply r = record { answer = reply r.answer; session = r.session; working = 
 
 -- a line of any other shape does nothing
 unfoldable pub acted : Line → Session → List ℕ → List ℕ → Left Reply
-acted (Line.Insert model serial issue x) session w s = told insertedReply (insert w s session model serial issue x)
-acted (Line.Find model serial issue) session w s = told lookedReply (lookup w s session model serial issue)
-acted Line.Sync session w s = told syncedReply (sync w s session)
+acted (Line.Insert model serial issue x) session w s = told inserted_reply (insert w s session model serial issue x)
+acted (Line.Find model serial issue) session w s = told looked_reply (lookup w s session model serial issue)
+acted Line.Sync session w s = told synced_reply (sync w s session)
 acted (Line.Crash a b c d e) session w s =
-    told openedReply (opening w (crashed (a ∷ b ∷ c ∷ d ∷ e ∷ []) session.n w s))
+    told opened_reply (opening w (crashed (a ∷ b ∷ c ∷ d ∷ e ∷ []) session.n w s))
 acted Line.Other session w s = record { answer = Reply.Line; session = session; working = w; stable = s }
 
 -- what a turn of the driver leaves, from what it hands back and the two tables
-abbrev pub turnLeft : Turn → List ℕ → List ℕ → Left Reply
-turnLeft r w s = record { answer = r.reply; session = r.session; working = w; stable = s }
+abbrev pub turn_left : Turn → List ℕ → List ℕ → Left Reply
+turn_left r w s = record { answer = r.reply; session = r.session; working = w; stable = s }
 
 -- ── Byte by byte ────────────────────────────────────────────────────────────────────────────────────────────────
 
@@ -80,7 +80,7 @@ fresh session = record { reader = start_of; begun = false; session = session }
 
 -- a byte of a line is read
 abbrev pub fed : Bench → ℕ → Bench
-fed m b = record { reader = fedOf m.reader b; begun = true; session = m.session }
+fed m b = record { reader = fed_of m.reader b; begun = true; session = m.session }
 
 abbrev pub silent : Bench → List ℕ → List ℕ → Stepped
 silent m w s = record { reply = Reply.Silent; bench = m; working = w; stable = s }
@@ -90,7 +90,7 @@ answered r = record { reply = r.answer; bench = fresh r.session; working = r.wor
 
 -- a line is at its end
 unfoldable pub closed : Bench → List ℕ → List ℕ → Stepped
-closed m w s = answered (acted (lineIn m.reader) m.session w s)
+closed m w s = answered (acted (line_in m.reader) m.session w s)
 
 unfoldable pub stepped : Bench → ℕ → List ℕ → List ℕ → Stepped
 stepped m b w s = elim (eqb b newline) [ true ↦ closed m w s | false ↦ silent (fed m b) w s ]
@@ -99,5 +99,5 @@ stepped m b w s = elim (eqb b newline) [ true ↦ closed m w s | false ↦ silen
 unfoldable pub finished : Bench → List ℕ → List ℕ → Stepped
 finished m w s = elim m.begun [ true ↦ closed m w s | false ↦ silent m w s ]
 
-abbrev pub stepLeft : Step → List ℕ → List ℕ → Stepped
-stepLeft r w s = record { reply = r.reply; bench = r.bench; working = w; stable = s }
+abbrev pub step_left : Step → List ℕ → List ℕ → Stepped
+step_left r w s = record { reply = r.reply; bench = r.bench; working = w; stable = s }

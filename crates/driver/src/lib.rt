@@ -8,11 +8,11 @@
 // Below stand `lines`, which reads, `words`, for what is to be printed, `numbers`, for the number of an answer, `tables`
 // and the calls insert, lookup, sync and open.
 ghost use Rattle.std.specs.Prelude.{◌≡◌, ◌<◌, length};
-ghost use Rattle.rules.specs.Table.{pageAt, setPage};
+ghost use Rattle.rules.specs.Table.{page_at, set_page};
 ghost use Rattle.rules.specs.Crash.{mix, crashed};
-ghost use Rattle.rules.proofs.bytes.Mixes.{chosen};
+ghost use Rattle.rules.proofs.Bytes.Mixes.{chosen};
 ghost use Rattle.lines.specs.declared.Line.{Line};
-ghost use Rattle.driver.specs.Acts.{benchPages, benchBytes, lookedReply, acted, turnLeft, fresh, closed, stepped, finished, stepLeft};
+ghost use Rattle.driver.specs.Acts.{bench_pages, bench_bytes, looked_reply, acted, turn_left, fresh, closed, stepped, finished, step_left};
 
 use lines::{Line, Reader};
 use rules::{Looked, PAGE, Session};
@@ -47,7 +47,7 @@ pub struct Step {
 
 // After a successful find the record is printed behind the word.
 fn looked_reply(answer: Looked) -> Reply
-    ensures { result ≡ lookedReply answer }
+    ensures { result ≡ looked_reply answer }
 {
     if let Looked::Found(x) = answer {
         return Reply::Record(x);
@@ -66,7 +66,7 @@ fn insert_line(
     issue: u16,
     x: u32,
 ) -> Turn
-    ensures { turnLeft result working.new stable.now
+    ensures { turn_left result working.new stable.now
         ≡ acted (Line.Insert model serial issue x) session working.old stable.now }
 {
     let left = insert::insert(working, stable, session, model, serial, issue, x);
@@ -86,7 +86,7 @@ fn find_line(
     serial: u32,
     issue: u16,
 ) -> Turn
-    ensures { turnLeft result working.new stable.now
+    ensures { turn_left result working.new stable.now
         ≡ acted (Line.Find model serial issue) session working.old stable.now }
 {
     let left = lookup::lookup(working, stable, session, model, serial, issue);
@@ -99,7 +99,7 @@ fn find_line(
 }
 
 fn sync_line(working: &mut [u8], stable: &mut [u8], session: Session) -> Turn
-    ensures { turnLeft result working.new stable.new
+    ensures { turn_left result working.new stable.new
         ≡ acted Line.Sync session working.old stable.old }
 {
     let left = sync::sync(working, stable, session);
@@ -113,8 +113,8 @@ fn sync_line(working: &mut [u8], stable: &mut [u8], session: Session) -> Turn
 
 // A page of the stable table becomes the working one, if it is written.
 fn write_page(working: &[u8], stable: &mut [u8], i: usize, written: bool)
-    requires { (i < benchPages) × (length working.now ≡ benchBytes) × (length stable.old ≡ benchBytes) }
-    ensures { stable.new ≡ setPage stable.old i (chosen written (pageAt working.now i) (pageAt stable.old i)) }
+    requires { (i < bench_pages) × (length working.now ≡ bench_bytes) × (length stable.old ≡ bench_bytes) }
+    ensures { stable.new ≡ set_page stable.old i (chosen written (page_at working.now i) (page_at stable.old i)) }
 {
     if written {
         let from = i * PAGE;
@@ -125,7 +125,7 @@ fn write_page(working: &[u8], stable: &mut [u8], i: usize, written: bool)
 
 // The pages of the stable table as a crash leaves them.
 fn write_pages(working: &[u8], stable: &mut [u8], written: [bool; 5])
-    requires { (length working.now ≡ benchBytes) × (length stable.old ≡ benchBytes) × (length written ≡ benchPages) }
+    requires { (length working.now ≡ bench_bytes) × (length stable.old ≡ bench_bytes) × (length written ≡ bench_pages) }
     ensures { stable.new ≡ mix written working.now stable.old }
 {
     let mut i = 0;
@@ -137,7 +137,7 @@ fn write_pages(working: &[u8], stable: &mut [u8], written: [bool; 5])
 
 // What a crash leaves in the stable table. After an opening that was refused no page is written.
 fn crash(working: &[u8], stable: &mut [u8], n: u16, written: [bool; 5])
-    requires { (length working.now ≡ benchBytes) × (length stable.old ≡ benchBytes) × (length written ≡ benchPages) }
+    requires { (length working.now ≡ bench_bytes) × (length stable.old ≡ bench_bytes) × (length written ≡ bench_pages) }
     ensures { stable.new ≡ crashed written n working.now stable.old }
 {
     if n == 0 {
@@ -156,8 +156,8 @@ fn crash_line(
     s: bool,
     t: bool,
 ) -> Turn
-    requires { (length working.old ≡ benchBytes) × (length stable.old ≡ benchBytes) }
-    ensures { turnLeft result working.new stable.new
+    requires { (length working.old ≡ bench_bytes) × (length stable.old ≡ bench_bytes) }
+    ensures { turn_left result working.new stable.new
         ≡ acted (Line.Crash p q r s t) session working.old stable.old }
 {
     crash(working, stable, session.n, [p, q, r, s, t]);
@@ -172,8 +172,8 @@ fn crash_line(
 
 // One line's effect: the call that it asks for.
 pub fn act(working: &mut [u8], stable: &mut [u8], session: Session, line: Line) -> Turn
-    requires { (length working.old ≡ benchBytes) × (length stable.old ≡ benchBytes) }
-    ensures { turnLeft result working.new stable.new
+    requires { (length working.old ≡ bench_bytes) × (length stable.old ≡ bench_bytes) }
+    ensures { turn_left result working.new stable.new
         ≡ acted line session working.old stable.old }
 {
     match line {
@@ -201,8 +201,8 @@ impl Bench {
 
     // The line read so far is at its end.
     fn close(self, working: &mut [u8], stable: &mut [u8]) -> Step
-        requires { (length working.old ≡ benchBytes) × (length stable.old ≡ benchBytes) }
-        ensures { stepLeft result working.new stable.new
+        requires { (length working.old ≡ bench_bytes) × (length stable.old ≡ bench_bytes) }
+        ensures { step_left result working.new stable.new
             ≡ closed self working.old stable.old }
     {
         let reader = self.reader;
@@ -218,8 +218,8 @@ impl Bench {
 
     // One byte of the input.
     pub fn step(self, working: &mut [u8], stable: &mut [u8], b: u8) -> Step
-        requires { (length working.old ≡ benchBytes) × (length stable.old ≡ benchBytes) }
-        ensures { stepLeft result working.new stable.new
+        requires { (length working.old ≡ bench_bytes) × (length stable.old ≡ bench_bytes) }
+        ensures { step_left result working.new stable.new
             ≡ stepped self b working.old stable.old }
     {
         if b == NEWLINE {
@@ -239,8 +239,8 @@ impl Bench {
 
     // The end of the input. A last line without a newline is a line.
     pub fn finish(self, working: &mut [u8], stable: &mut [u8]) -> Step
-        requires { (length working.old ≡ benchBytes) × (length stable.old ≡ benchBytes) }
-        ensures { stepLeft result working.new stable.new
+        requires { (length working.old ≡ bench_bytes) × (length stable.old ≡ bench_bytes) }
+        ensures { step_left result working.new stable.new
             ≡ finished self working.old stable.old }
     {
         if self.begun {

@@ -12,23 +12,23 @@ use lib.Dec.{eqb, lit<}
 use borrow.Author.Tests.{ne_eqb}
 use lib.ListN.{length, take, length-replicate}
 use Rattle.fields.specs.Field.{Bytes}
-use Rattle.rules.specs.Layout.{pageSize, topKind, mostPages}
+use Rattle.rules.specs.Layout.{page_size, top_kind, most_pages}
 use Rattle.rules.specs.Test.{mem}
 use Rattle.rules.specs.Entry.{Cert, Child, cut}
-use Rattle.rules.specs.Page.{View, isLeaf}
-use Rattle.rules.specs.Place.{rootPlace, highBefore, place_of, placesIn, kids}
+use Rattle.rules.specs.Page.{View, is_leaf}
+use Rattle.rules.specs.Place.{root_place, high_before, place_of, places_in, kids}
 use Rattle.rules.specs.Report.{nothing}
-use Rattle.rules.specs.Walk.{Walked, unwalked, noted, enters, finds, stops, walkEach, walk, walk_of}
+use Rattle.rules.specs.Walk.{Walked, unwalked, noted, enters, finds, stops, walk_each, walk, walk_of}
 use Rattle.rules.specs.declared.Asked.{Asked}
 use Rattle.rules.specs.declared.Place.{Place}
-use Rattle.fields.proofs.Field.{leAt-bound}
+use Rattle.fields.proofs.Field.{le_at-bound}
 use Rattle.rules.specs.Table.{root0, birth0}
-use Rattle.rules.proofs.entries.Tests.{not-both}
-use Rattle.rules.proofs.entries.Views.{inner-kind}
+use Rattle.rules.proofs.Entries.Tests.{not_both}
+use Rattle.rules.proofs.Entries.Views.{inner-kind}
 use Rattle.seen.proofs.Members.{none-at}
-use Rattle.rules.proofs.entries.Reasons.{adds-fits}
-use Rattle.dry.specs.Walk.{marked, Sighted, meets, asks, takes, breaks, dryEach, dry, untouched, dryOver}
-use Rattle.dry.proofs.Chains.{Chain, link, chain-sound}
+use Rattle.rules.proofs.Entries.Reasons.{adds-fits}
+use Rattle.dry.specs.Walk.{marked, Sighted, meets, asks, takes, breaks, dry_each, dry, untouched, dry_over}
+use Rattle.dry.proofs.Chains.{Chain, link, chain_sound}
 use Rattle.dry.proofs.Passed.{Asks, Kept, Passed, passed_on}
 use Rattle.dry.proofs.Sights.{Shows, Met, neither, both, met}
 
@@ -60,24 +60,24 @@ enters-meets n t a e w d x = rw (x.whole, x.found)
 
 -- two numbers do for the pages above, as a leaf is the third page of a way at most; 0 stands for none
 pub record Near (level : ℕ) (above : List ℕ) (parent up : ℕ) : Type 0 where
-  pub bound : level ≤ topKind
+  pub bound : level ≤ top_kind
   pub same : 1 ≤ level → (i : ℕ) → 1 ≤ i → mem i above ≡ mem i (parent ∷ up ∷ [])
   pub second : 2 ≤ level → up ≡ 0
   pub third : 3 ≤ level → parent ≡ 0
 
-pub near-root : Near topKind [] 0 0
+pub near_root : Near top_kind [] 0 0
 unfolding mem
-near-root = record {
+near_root = record {
   bound = omega arith;
   same = λ o i h. sym (rw (ne_eqb i 0 (λ q. omega (arith, q))));
   second = λ o. refl;
   third = λ o. refl;
 }
 
-pub near-below : {level : ℕ} {above : List ℕ} {parent up : ℕ} → Near (suc level) above parent up → (c : ℕ)
+pub near_below : {level : ℕ} {above : List ℕ} {parent up : ℕ} → Near (suc level) above parent up → (c : ℕ)
     → Near level (c ∷ above) c parent
 unfolding mem
-near-below {level} {above} {parent} {up} r c = record {
+near_below {level} {above} {parent} {up} r c = record {
   bound = let b = r.bound in omega arith;
   same = λ o i h. ap (λ (b : Bool). eqb i c || b) (r.same (omega arith) i h ∙ shorter i h (r.second (omega arith)));
   second = λ o. r.third (omega arith);
@@ -100,22 +100,22 @@ asks-child {want = want} x h o r b u i y = record { range = r; from = u; child =
 
 module _ (n : ℕ) (t : List ℕ) (want high : ℕ) (o : 1 ≤ want) (b : high < 256 ^ 8) (f : Place → Walked → Walked) (g : Place → Sighted → Sighted)
     (step : Steps n t want f g) where
-  twin-each : (low : ℕ) (xs : List Child) → Chain n high low xs → (w : Walked) (d : Sighted) → Twin n t w d
+  twin_each : (low : ℕ) (xs : List Child) → Chain n high low xs → (w : Walked) (d : Sighted) → Twin n t w d
       → Passed w.table d.mended want low
-      → After n t w d high (walkEach f (placesIn want high xs) w) (dryEach g (placesIn want high xs) d)
-  unfolding walkEach dryEach placesIn place_of
-  twin-each low [] ch w d x p = record { twin = x; later = λ k l h old. old }
-  twin-each low (y ∷ ys) (link from range within names wide rest) w d x p =
-      let one = step (place_of want (highBefore high ys) y) w d
-      (asks-child y (highBefore high ys) o range (omega arith) names.child-from names.child-below wide.birth) x (passed_on (omega arith) from p) in
-      let all = twin-each (suc (highBefore high ys)) ys rest (f (place_of want (highBefore high ys) y) w)
-      (g (place_of want (highBefore high ys) y) d) one.twin
-      (one.later want (suc (highBefore high ys)) (omega arith) (passed_on (omega arith) (omega arith) p)) in
+      → After n t w d high (walk_each f (places_in want high xs) w) (dry_each g (places_in want high xs) d)
+  unfolding walk_each dry_each places_in place_of
+  twin_each low [] ch w d x p = record { twin = x; later = λ k l h old. old }
+  twin_each low (y ∷ ys) (link from range within names wide rest) w d x p =
+      let one = step (place_of want (high_before high ys) y) w d
+      (asks-child y (high_before high ys) o range (omega arith) names.child_from names.child_below wide.birth) x (passed_on (omega arith) from p) in
+      let all = twin_each (suc (high_before high ys)) ys rest (f (place_of want (high_before high ys) y) w)
+      (g (place_of want (high_before high ys) y) d) one.twin
+      (one.later want (suc (high_before high ys)) (omega arith) (passed_on (omega arith) (omega arith) p)) in
       record { twin = all.twin; later = λ k l h old. all.later k l h (one.later k l (omega arith) old) }
 
 -- ── One page ────────────────────────────────────────────────────────────────────────────────────────────────────
 
-module _ (n c : ℕ) (a : Asked) (t : List ℕ) (hn : n ≤ mostPages) (hc : c < 256 ^ 4) where
+module _ (n c : ℕ) (a : Asked) (t : List ℕ) (hn : n ≤ most_pages) (hc : c < 256 ^ 4) where
   -- both stop
   twin-stops : (w : Walked) (d : Sighted) (high : ℕ) → Twin n t w d → After n t w d high (stops w w.table) (breaks d)
   unfolding stops breaks
@@ -143,26 +143,26 @@ module _ (n c : ℕ) (a : Asked) (t : List ℕ) (hn : n ≤ mostPages) (hc : c <
       (step : (top : ℕ) → Steps n t top (walk level n c a (e.child ∷ above)) (dry level n a e.child parent t)) where
     twin-kids : (w : Walked) (d : Sighted) (v : View) (u' : List ℕ) (m' : List Bool) → Twin n t w d
         → Shows n t w.table d.mended e u' m' v
-        → After n t w d e.high (walkEach (walk level n c a (e.child ∷ above)) (kids e v) (finds a v (noted n e w) u'))
-        (dryEach (dry level n a e.child parent t) (kids e v) (takes a v d m'))
-    unfolding kids walkEach dryEach finds takes asks placesIn
-    twin-kids w d v u' m' x s = go (isLeaf v) refl
+        → After n t w d e.high (walk_each (walk level n c a (e.child ∷ above)) (kids e v) (finds a v (noted n e w) u'))
+        (dry_each (dry level n a e.child parent t) (kids e v) (takes a v d m'))
+    unfolding kids walk_each dry_each finds takes asks places_in
+    twin-kids w d v u' m' x s = go (is_leaf v) refl
       where
         first : After n t w d e.high (finds a v (noted n e w) u') (takes a v d m')
         first = twin-finds w d e v u' m' x s
 
-        go : (b : Bool) → isLeaf v ≡ b
-            → After n t w d e.high (walkEach (walk level n c a (e.child ∷ above)) (kids e v) (finds a v (noted n e w) u'))
-            (dryEach (dry level n a e.child parent t) (kids e v) (takes a v d m'))
+        go : (b : Bool) → is_leaf v ≡ b
+            → After n t w d e.high (walk_each (walk level n c a (e.child ∷ above)) (kids e v) (finds a v (noted n e w) u'))
+            (dry_each (dry level n a e.child parent t) (kids e v) (takes a v d m'))
         go true q = rw (s.wide.shaped.leaf q) first
         go false q =
-            let all = twin-each n t (v.kind - 1) e.high (one q) high (walk level n c a (e.child ∷ above))
-            (dry level n a e.child parent t) (step (v.kind - 1)) e.low v.children (chain-sound s.sound s.wide)
+            let all = twin_each n t (v.kind - 1) e.high (one q) high (walk level n c a (e.child ∷ above))
+            (dry level n a e.child parent t) (step (v.kind - 1)) e.low v.children (chain_sound s.sound s.wide)
             (finds a v (noted n e w) u') (takes a v d m') first.twin s.below in
             record { twin = all.twin; later = λ k l h old. all.later k l h (first.later k l h old) }
           where
-            one : isLeaf v ≡ false → 1 ≤ v.kind - 1
-            one r = let y : v.kind ≢ 1 = inner-kind v r in omega (arith, s.sound.kind-from)
+            one : is_leaf v ≡ false → 1 ≤ v.kind - 1
+            one r = let y : v.kind ≢ 1 = inner-kind v r in omega (arith, s.sound.kind_from)
 
     twin-page : (top : ℕ) → mem e.child above ≡ mem e.child (parent ∷ up ∷ []) → (w : Walked) (d : Sighted) → Asks n top e → Twin n t w d → Passed w.table d.mended top e.low
         → After n t w d e.high (walk (suc level) n c a above e w) (dry (suc level) n a parent up t e d)
@@ -185,39 +185,39 @@ module _ (n c : ℕ) (a : Asked) (t : List ℕ) (hn : n ≤ mostPages) (hc : c <
   twin-walk zero above parent up r top e w d y x p = twin-stops w d e.high x
   twin-walk (suc level) above parent up r top e w d y x p =
       twin-page level above parent up e y.high
-      (λ k. twin-walk level (e.child ∷ above) e.child parent (near-below r e.child) k) top
+      (λ k. twin-walk level (e.child ∷ above) e.child parent (near_below r e.child) k) top
       (r.same (omega arith) e.child y.from) w d y x p
 
 -- ── From the root ───────────────────────────────────────────────────────────────────────────────────────────────
 
-module _ (n c : ℕ) (a : Asked) (t : List ℕ) (hn : n ≤ mostPages) (hc : c < 256 ^ 4) (size : length t ≡ n * pageSize) (bytes : Bytes t)
+module _ (n c : ℕ) (a : Asked) (t : List ℕ) (hn : n ≤ most_pages) (hc : c < 256 ^ 4) (size : length t ≡ n * page_size) (bytes : Bytes t)
     (from : 1 ≤ root0 t) (root : root0 t < n) where
-  asks-root : Asks n topKind (rootPlace t)
-  unfolding rootPlace birth0
+  asks-root : Asks n top_kind (root_place t)
+  unfolding root_place birth0
   asks-root = record {
     range = omega arith;
     from = from;
     child = root;
-    birth = leAt-bound t 12 4 bytes;
+    birth = le_at-bound t 12 4 bytes;
     high = lit< tt;
     kind = λ k h z. h;
   }
 
-  none-marked : (i : ℕ) → marked untouched.mended i ≡ false
+  none_marked_lem : (i : ℕ) → marked untouched.mended i ≡ false
   unfolding marked untouched
-  none-marked i = none-at mostPages i
+  none_marked_lem i = none-at most_pages i
 
   start : Twin n t (unwalked t) untouched
   unfolding untouched
   start = record {
-    kept = record { size = size; bytes = bytes; marks = length-replicate mostPages false; same = λ i h. refl; still = λ none. refl };
+    kept = record { size = size; bytes = bytes; marks = length-replicate most_pages false; same = λ i h. refl; still = λ none. refl };
     whole = refl;
     found = refl;
     quiet = λ none. refl;
   }
 
-  pub dry-decides : Twin n t (walk_of n c a t) (dryOver n a t)
-  unfolding walk_of dryOver
-  dry-decides =
-      (twin-walk n c a t hn hc topKind [] 0 0 near-root topKind (rootPlace t) (unwalked t) untouched
-      asks-root start (record { at = λ i h. absurd (not-both h (none-marked i)) })).twin
+  pub dry_decides : Twin n t (walk_of n c a t) (dry_over n a t)
+  unfolding walk_of dry_over
+  dry_decides =
+      (twin-walk n c a t hn hc top_kind [] 0 0 near_root top_kind (root_place t) (unwalked t) untouched
+      asks-root start (record { at = λ i h. absurd (not_both h (none_marked_lem i)) })).twin

@@ -7,16 +7,16 @@ use mathlib.Core.List.{List, [], ◌∷◌}
 use lib.Dec.{eqb}
 use lib.ListN.{length}
 use borrow.Author.Tests.{eqb-true, eqb-false}
-use Rattle.rules.specs.Layout.{pageSize, leafKind, lastKey}
-use Rattle.rules.specs.Place.{rootPlace}
-use Rattle.rules.proofs.bytes.All.{All, nil, all_head, all_tail}
+use Rattle.rules.specs.Layout.{page_size, leaf_kind, last_key}
+use Rattle.rules.specs.Place.{root_place}
+use Rattle.rules.proofs.Bytes.All.{All, nil, all_head, all_tail}
 use Rattle.rules.specs.declared.Asked.{Asked}
 use Rattle.seen.specs.declared.Run.{Run}
 use Rattle.seen.specs.Run.{run_of, kind_at, place_in, places, rest_of, Lies}
 use Rattle.seen.proofs.Spans.{places-none, places-more}
 use Rattle.seen.proofs.Trees.{lies-rest}
-use Rattle.dry.specs.Source.{source, markedBy}
-use Rattle.dry.specs.Cursor.{inReach, Meeting, metPage, metBy, meet_of, no_run, atRoot, underRoot, withUpper, withLower, dueLower, dueUpper, dueRoot, dueLast, dueOf, underOf, settleOf, Stepping, settled, stepAt, step_of, Names, Leads}
+use Rattle.dry.specs.Source.{source, marked_by}
+use Rattle.dry.specs.Cursor.{in_reach, Meeting, met_page, met_by, meet_of, no_run, at_root, under_root, with_upper, with_lower, due_lower, due_upper, due_root, due_last, due_of, under_of, settle_of, Stepping, settled, step_at, step_of, Names, Leads}
 use Rattle.dry.specs.declared.Cursor.{Cursor}
 use Rattle.dry.specs.declared.LeafAt.{LeafAt}
 use Rattle.dry.specs.declared.Source.{Source}
@@ -24,58 +24,58 @@ use Rattle.dry.specs.declared.Spot.{Spot}
 use Rattle.dry.specs.declared.Step.{Step}
 use Rattle.dry.proofs.Goes.{Sourced, sourced, source-lies, source_names}
 
-unfoldable pub rootLeft : Bool → ℕ
-rootLeft true = 4096
-rootLeft false = 0
+unfoldable pub root_left : Bool → ℕ
+root_left true = 4096
+root_left false = 0
 
 -- how much of a way is left at most: a page has fewer than 64 entries
-unfoldable pub wayLeft : Cursor → ℕ
-wayLeft c = rootLeft c.fresh + c.upper.left * 64 + c.lower.left
+unfoldable pub way_left : Cursor → ℕ
+way_left c = root_left c.fresh + c.upper.left * 64 + c.lower.left
 
 -- a leaf's source, by the marks before it and after
 pub record LeafShown (n : ℕ) (t : List ℕ) (m marks : List Bool) (l : LeafAt) : Type 0 where
   pub parent : ℕ
   pub top : ℕ
   pub source_is : source n (parent ∷ top ∷ []) t m l.place ≡ Source.Page l.page
-  pub marks-are : marks ≡ markedBy l.page l.place m
+  pub marks_are : marks ≡ marked_by l.page l.place m
   pub names : Names n l.place
-  pub kind : kind_at t l.page ≡ leafKind
+  pub kind : kind_at t l.page ≡ leaf_kind
 
 -- what is known behind a step
 unfoldable pub Good : ℕ → List ℕ → List Bool → ℕ → Step → List Bool → Type 0
-Good n t m left (Step.On c) marks = Leads n t c × (wayLeft c < left)
-Good n t m left (Step.Leaf l) marks = Leads n t l.after × (wayLeft l.after < left) × LeafShown n t m marks l
+Good n t m left (Step.On c) marks = Leads n t c × (way_left c < left)
+Good n t m left (Step.Leaf l) marks = Leads n t l.after × (way_left l.after < left) × LeafShown n t m marks l
 Good n t m left Step.End marks = Unit {0}
 Good n t m left Step.Damaged marks = Unit {0}
 
-no-places : (n : ℕ) (t : List ℕ) (high : ℕ) → All (Names n) (places t high no_run)
+no_places : (n : ℕ) (t : List ℕ) (high : ℕ) → All (Names n) (places t high no_run)
 unfolding no_run
-no-places n t high = subst (All (Names n)) (sym (places-none t high no_run refl)) nil
+no_places n t high = subst (All (Names n)) (sym (places-none t high no_run refl)) nil
 
 module _ (n : ℕ) (t : List ℕ) where
-  module _ (root : Names n (rootPlace t)) where
-    no-run : Lies n no_run
+  module _ (root : Names n (root_place t)) where
+    no_run_lem : Lies n no_run
     unfolding no_run
-    no-run = record { page = omega (arith, root); end = omega arith }
+    no_run_lem = record { page = omega (arith, root); end = omega arith }
 
-    pub leads-root : Leads n t atRoot
-    unfolding atRoot
+    pub leads-root : Leads n t at_root
+    unfolding at_root
     leads-root = record {
       root_names = root;
-      upper = no-run;
-      upper-names = no-places n t lastKey;
-      lower = no-run;
-      lower-names = no-places n t 0;
+      upper = no_run_lem;
+      upper_names = no_places n t last_key;
+      lower = no_run_lem;
+      lower_names = no_places n t 0;
     }
 
     -- entries of the root, and nothing else
-    leads-first : (child : ℕ) (r : Run) → Lies n r → All (Names n) (places t lastKey r) → Leads n t (underRoot child r)
+    leads-first : (child : ℕ) (r : Run) → Lies n r → All (Names n) (places t last_key r) → Leads n t (under_root child r)
     leads-first child r l k = record {
       root_names = root;
       upper = l;
-      upper-names = k;
-      lower = no-run;
-      lower-names = no-places n t 0;
+      upper_names = k;
+      lower = no_run_lem;
+      lower_names = no_places n t 0;
     }
 
   -- the first entry of a run names a page, and so do those behind it
@@ -89,37 +89,37 @@ module _ (n : ℕ) (t : List ℕ) where
     names-rest : All (Names n) (places t high (rest_of r))
     names-rest = all_tail named
 
-  module _ (a : Asked) (m : List Bool) (long : length t ≡ n * pageSize) where
-    module _ (left : ℕ) (s : Spot) (leads : Leads n t s.rest) (less : wayLeft s.rest < left) (names : Names n s.place)
-        (under : (r : Run) (marks : List Bool) → Lies n r → All (Names n) (places t s.place.high r) → Good n t m left (underOf s r) marks) where
+  module _ (a : Asked) (m : List Bool) (long : length t ≡ n * page_size) where
+    module _ (left : ℕ) (s : Spot) (leads : Leads n t s.rest) (less : way_left s.rest < left) (names : Names n s.place)
+        (under : (r : Run) (marks : List Bool) → Lies n r → All (Names n) (places t s.place.high r) → Good n t m left (under_of s r) marks) where
       shown : (i : ℕ) → source n (s.parent ∷ s.top ∷ []) t m s.place ≡ Source.Page i
-          → Good n t m left (settleOf s (metPage t s.place i)) (markedBy i s.place m)
-      unfolding metPage settleOf Good
-      shown i p = go (eqb (kind_at t i) leafKind) refl
+          → Good n t m left (settle_of s (met_page t s.place i)) (marked_by i s.place m)
+      unfolding met_page settle_of Good
+      shown i p = go (eqb (kind_at t i) leaf_kind) refl
         where
           here : Sourced n t i
           here = sourced n t long (s.parent ∷ s.top ∷ []) m s.place i p
 
-          leaf : eqb (kind_at t i) leafKind ≡ true → LeafShown n t m (markedBy i s.place m) (record { page = i; place = s.place; after = s.rest })
+          leaf : eqb (kind_at t i) leaf_kind ≡ true → LeafShown n t m (marked_by i s.place m) (record { page = i; place = s.place; after = s.rest })
           leaf q = record {
             parent = s.parent;
             top = s.top;
             source_is = p;
-            marks-are = refl;
+            marks_are = refl;
             names = names;
-            kind = eqb-true (kind_at t i) leafKind q;
+            kind = eqb-true (kind_at t i) leaf_kind q;
           }
 
-          go : (b : Bool) → eqb (kind_at t i) leafKind ≡ b → Good n t m left (settleOf s (metPage t s.place i)) (markedBy i s.place m)
-          go true q = rw (metPage, q) (leads, less, leaf q)
+          go : (b : Bool) → eqb (kind_at t i) leaf_kind ≡ b → Good n t m left (settle_of s (met_page t s.place i)) (marked_by i s.place m)
+          go true q = rw (met_page, q) (leads, less, leaf q)
           go false q =
-              rw (metPage, q)
-              (under (run_of t i s.place.low s.place.high) (markedBy i s.place m)
+              rw (met_page, q)
+              (under (run_of t i s.place.low s.place.high) (marked_by i s.place m)
               (source-lies n t long i here s.place.low s.place.high _ refl) (source_names n t long i here s.place))
 
       met : (x : Source) → source n (s.parent ∷ s.top ∷ []) t m s.place ≡ x
-          → Good n t m left (settleOf s (metBy t m s.place x).met) (metBy t m s.place x).marks
-      unfolding metBy settleOf Good
+          → Good n t m left (settle_of s (met_by t m s.place x).met) (met_by t m s.place x).marks
+      unfolding met_by settle_of Good
       met (Source.Page i) p = shown i p
       met Source.Damaged p = tt
 
@@ -127,77 +127,77 @@ module _ (n : ℕ) (t : List ℕ) where
       Settles x = Good n t m left (settled s x).step (settled s x).marks
 
       settles : Settles (meet_of n a (s.parent ∷ s.top ∷ []) t m s.place)
-      unfolding settled meet_of settleOf Good
-      settles = go (inReach a s.place) refl
+      unfolding settled meet_of settle_of Good
+      settles = go (in_reach a s.place) refl
         where
-          go : (b : Bool) → inReach a s.place ≡ b → Settles (meet_of n a (s.parent ∷ s.top ∷ []) t m s.place)
+          go : (b : Bool) → in_reach a s.place ≡ b → Settles (meet_of n a (s.parent ∷ s.top ∷ []) t m s.place)
           go true h = rw (meet_of, h) (met (source n (s.parent ∷ s.top ∷ []) t m s.place) refl)
           go false h = rw (meet_of, h) (leads, less)
 
     module _ (c : Cursor) (leads : Leads n t c) where
       abbrev Goes : Stepping → Type 0
-      Goes x = Good n t m (wayLeft c) x.step x.marks
+      Goes x = Good n t m (way_left c) x.step x.marks
 
       abbrev at_spot : Spot → Stepping
       at_spot s = settled s (meet_of n a (s.parent ∷ s.top ∷ []) t m s.place)
 
-      lower-good : (c.lower.left ≡ 0 → ⊥) → Goes (at_spot (dueLower t c))
-      unfolding dueLower underOf Good wayLeft
+      lower-good : (c.lower.left ≡ 0 → ⊥) → Goes (at_spot (due_lower t c))
+      unfolding due_lower under_of Good way_left
       lower-good h =
-          settles (wayLeft c) (dueLower t c) behind (omega arith) (names-first c.high c.lower h leads.lower-names)
+          settles (way_left c) (due_lower t c) behind (omega arith) (names-first c.high c.lower h leads.lower_names)
           (λ r marks l k. under r marks (eqb r.left 0) refl)
         where
-          behind : Leads n t (dueLower t c).rest
+          behind : Leads n t (due_lower t c).rest
           behind = record {
             root_names = leads.root_names;
             upper = leads.upper;
-            upper-names = leads.upper-names;
+            upper_names = leads.upper_names;
             lower = lies-rest n c.lower (rest_of c.lower) refl (omega arith) leads.lower;
-            lower-names = names-rest c.high c.lower h leads.lower-names;
+            lower_names = names-rest c.high c.lower h leads.lower_names;
           }
 
-          under : (r : Run) (marks : List Bool) (b : Bool) → eqb r.left 0 ≡ b → Good n t m (wayLeft c) (underOf (dueLower t c) r) marks
-          under r marks true q = rw (underOf, q) (behind, omega arith)
-          under r marks false q = rw (underOf, q) tt
+          under : (r : Run) (marks : List Bool) (b : Bool) → eqb r.left 0 ≡ b → Good n t m (way_left c) (under_of (due_lower t c) r) marks
+          under r marks true q = rw (under_of, q) (behind, omega arith)
+          under r marks false q = rw (under_of, q) tt
 
-      upper-good : c.lower.left ≡ 0 → (c.upper.left ≡ 0 → ⊥) → Goes (at_spot (dueUpper t c))
-      unfolding dueUpper underOf Good wayLeft
+      upper-good : c.lower.left ≡ 0 → (c.upper.left ≡ 0 → ⊥) → Goes (at_spot (due_upper t c))
+      unfolding due_upper under_of Good way_left
       upper-good z h =
-          settles (wayLeft c) (dueUpper t c) (behind c.parent c.lower c.high leads.lower leads.lower-names) (omega arith)
-          (names-first lastKey c.upper h leads.upper-names)
-          (λ r marks l k. (behind (place_in t lastKey c.upper).child r (place_in t lastKey c.upper).high l k, omega (arith, l.end)))
+          settles (way_left c) (due_upper t c) (behind c.parent c.lower c.high leads.lower leads.lower_names) (omega arith)
+          (names-first last_key c.upper h leads.upper_names)
+          (λ r marks l k. (behind (place_in t last_key c.upper).child r (place_in t last_key c.upper).high l k, omega (arith, l.end)))
         where
           behind : (parent : ℕ) (r : Run) (high : ℕ) → Lies n r → All (Names n) (places t high r)
-              → Leads n t (withLower (withUpper c (rest_of c.upper)) parent r high)
+              → Leads n t (with_lower (with_upper c (rest_of c.upper)) parent r high)
           behind parent r high l k = record {
             root_names = leads.root_names;
             upper = lies-rest n c.upper (rest_of c.upper) refl (omega arith) leads.upper;
-            upper-names = names-rest lastKey c.upper h leads.upper-names;
+            upper_names = names-rest last_key c.upper h leads.upper_names;
             lower = l;
-            lower-names = k;
+            lower_names = k;
           }
 
-      root-good : c.fresh ≡ true → Goes (at_spot (dueRoot t))
-      unfolding rootPlace dueRoot underOf Good wayLeft rootLeft no_run
+      root-good : c.fresh ≡ true → Goes (at_spot (due_root t))
+      unfolding root_place due_root under_of Good way_left root_left no_run
       root-good f =
-          settles (wayLeft c) (dueRoot t) (leads-first leads.root_names 0 no_run (no-run leads.root_names) (no-places n t lastKey))
+          settles (way_left c) (due_root t) (leads-first leads.root_names 0 no_run (no_run_lem leads.root_names) (no_places n t last_key))
           (omega (arith, fresh)) leads.root_names
-          (λ r marks l k. (leads-first leads.root_names (rootPlace t).child r l k, omega (arith, fresh, l.end)))
+          (λ r marks l k. (leads-first leads.root_names (root_place t).child r l k, omega (arith, fresh, l.end)))
         where
-          fresh : rootLeft c.fresh ≡ 4096
-          fresh = ap rootLeft f
+          fresh : root_left c.fresh ≡ 4096
+          fresh = ap root_left f
 
       pub step-good : Goes (step_of n a t c m)
-      unfolding step_of dueOf dueLast stepAt Good
+      unfolding step_of due_of due_last step_at Good
       step-good = go (eqb c.lower.left 0) refl (eqb c.upper.left 0) refl c.fresh refl
         where
           last : Bool → Type 0
-          last x = Goes (stepAt n a t m (dueLast t x))
+          last x = Goes (step_at n a t m (due_last t x))
 
           go : (x : Bool) → eqb c.lower.left 0 ≡ x → (y : Bool) → eqb c.upper.left 0 ≡ y → (b : Bool) → c.fresh ≡ b
               → Goes (step_of n a t c m)
-          go false p y q b r = rw (step_of, dueOf, p, stepAt) (lower-good (eqb-false c.lower.left 0 p))
+          go false p y q b r = rw (step_of, due_of, p, step_at) (lower-good (eqb-false c.lower.left 0 p))
           go true p false q b r =
-              rw (step_of, dueOf, p, q, stepAt) (upper-good (eqb-true c.lower.left 0 p) (eqb-false c.upper.left 0 q))
-          go true p true q true r = rw (step_of, dueOf, p, q) (subst last (sym r) (root-good r))
-          go true p true q false r = rw (step_of, dueOf, p, q) (subst last (sym r) tt)
+              rw (step_of, due_of, p, q, step_at) (upper-good (eqb-true c.lower.left 0 p) (eqb-false c.upper.left 0 q))
+          go true p true q true r = rw (step_of, due_of, p, q) (subst last (sym r) (root-good r))
+          go true p true q false r = rw (step_of, due_of, p, q) (subst last (sym r) tt)

@@ -11,8 +11,8 @@ use borrow.Author.Tests.{not-true}
 use Rattle.rules.specs.Table.{read}
 use Rattle.rules.specs.Place.{fits, mendable}
 use Rattle.rules.specs.declared.Place.{Place}
-use Rattle.rules.proofs.entries.Tests.{and_left, and_right}
-use Rattle.dry.specs.Walk.{marked, keeps, helps, noneMarked}
+use Rattle.rules.proofs.Entries.Tests.{and_left, and_right}
+use Rattle.dry.specs.Walk.{marked, keeps, helps, none_marked}
 
 module _ (n : ℕ) (t : List ℕ) (m : List Bool) (e : Place) where
   pub keeps-marked : marked m e.child ≡ true → false ≡ keeps n t m e
@@ -35,22 +35,22 @@ module _ (n : ℕ) (t : List ℕ) (m : List Bool) (e : Place) where
 
 -- what was found of the marks below i, and those behind, come to what all come to
 abbrev pub Looked : List Bool → Bool → ℕ → Type 0
-Looked m none i = (none && noneMarked (drop i m)) ≡ noneMarked m
+Looked m none i = (none && none_marked (drop i m)) ≡ none_marked m
 
-pub looked-on : (m : List Bool) (none : Bool) (i size : ℕ) → length m ≡ size → i < size → Looked m none i → Looked m (none && not (get_or m i false)) (i + 1)
-unfolding noneMarked
-looked-on m none i size e h p = sym (rw (drop-cons m i false (omega arith), add-one) (joined none (not (get_or m i false)) (noneMarked (drop (suc i) m)))) ∙ p
+pub looked_on : (m : List Bool) (none : Bool) (i size : ℕ) → length m ≡ size → i < size → Looked m none i → Looked m (none && not (get_or m i false)) (i + 1)
+unfolding none_marked
+looked_on m none i size e h p = sym (rw (drop-cons m i false (omega arith), add-one) (joined none (not (get_or m i false)) (none_marked (drop (suc i) m)))) ∙ p
   where
     joined : (x y z : Bool) → (x && (y && z)) ≡ ((x && y) && z)
     joined true y z = refl
     joined false y z = refl
 
-pub looked-all : (m : List Bool) (none : Bool) (i size : ℕ) → length m ≡ size → size ≤ i → Looked m none i → none ≡ noneMarked m
-unfolding noneMarked
-looked-all m none i size e h p = let k : length m ≤ i = omega arith in sym (ap (λ (xs : List Bool). none && noneMarked xs) (drop_of_length-le m k) ∙ and-true none) ∙ p
+pub looked-all : (m : List Bool) (none : Bool) (i size : ℕ) → length m ≡ size → size ≤ i → Looked m none i → none ≡ none_marked m
+unfolding none_marked
+looked-all m none i size e h p = let k : length m ≤ i = omega arith in sym (ap (λ (xs : List Bool). none && none_marked xs) (drop_of_length-le m k) ∙ and-true none) ∙ p
 
-pub none-marked : (m : List Bool) → noneMarked m ≡ true → (i : ℕ) → marked m i ≡ false
-unfolding noneMarked marked
-none-marked [] h i = refl
-none-marked (x ∷ m) h zero = not-true x (and_left (not x) (noneMarked m) h)
-none-marked (x ∷ m) h (suc i) = none-marked m (and_right (not x) (noneMarked m) h) i
+pub none_marked_lem : (m : List Bool) → none_marked m ≡ true → (i : ℕ) → marked m i ≡ false
+unfolding none_marked marked
+none_marked_lem [] h i = refl
+none_marked_lem (x ∷ m) h zero = not-true x (and_left (not x) (none_marked m) h)
+none_marked_lem (x ∷ m) h (suc i) = none_marked_lem m (and_right (not x) (none_marked m) h) i

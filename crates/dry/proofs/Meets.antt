@@ -11,31 +11,31 @@ use Rattle.rules.specs.Test.{every}
 use Rattle.rules.specs.Entry.{Cert}
 use Rattle.rules.specs.declared.Asked.{Asked}
 use Rattle.rules.specs.declared.Place.{Place}
-use Rattle.rules.proofs.entries.Tests.{fails, not-both, every_true}
+use Rattle.rules.proofs.Entries.Tests.{fails, not_both, every_true}
 use Rattle.dry.specs.Walk.{Sighted, sighted, meets}
-use Rattle.dry.specs.Cursor.{inReach}
+use Rattle.dry.specs.Cursor.{in_reach}
 
 module _ (a : Asked) (e : Place) where
-  pub reach-behind : a.high < e.low → false ≡ inReach a e
-  unfolding inReach
-  reach-behind h = sym (rw (inReach, lt-leb e.low a.high h))
+  pub reach_behind : a.high < e.low → false ≡ in_reach a e
+  unfolding in_reach
+  reach_behind h = sym (rw (in_reach, lt-leb e.low a.high h))
 
-  pub reach-last : e.low ≤ a.high → leb a.low e.high ≡ inReach a e
-  unfolding inReach
-  reach-last h = sym (rw (inReach, le-leb e.low a.high h))
+  pub reach_last : e.low ≤ a.high → leb a.low e.high ≡ in_reach a e
+  unfolding in_reach
+  reach_last h = sym (rw (in_reach, le-leb e.low a.high h))
 
   pub meets-broken : (d : Sighted) → d.whole ≡ false → meets a e d ≡ false
   unfolding meets
-  meets-broken d h = fails (meets a e d) (λ m. not-both (every_true _ m).0 h)
+  meets-broken d h = fails (meets a e d) (λ m. not_both (every_true _ m).0 h)
 
   pub meets-full : (d : Sighted) → a.room ≤ length d.found → meets a e d ≡ false
   unfolding meets
   meets-full d h = fails (meets a e d) (λ m. omega (arith, ltb-true (length d.found) a.room (every_true _ m).1.0))
 
   -- while there is room and nothing was damaged, its range decides
-  pub meets-reach : (found : List Cert) (m : List Bool) → length found < a.room → meets a e (sighted true found m) ≡ inReach a e
-  unfolding meets inReach every
-  meets-reach found m h = rw (meets, lt-ltb (length found) a.room h, every) (last (leb e.low a.high) (leb a.low e.high))
+  pub meets_reach : (found : List Cert) (m : List Bool) → length found < a.room → meets a e (sighted true found m) ≡ in_reach a e
+  unfolding meets in_reach every
+  meets_reach found m h = rw (meets, lt-ltb (length found) a.room h, every) (last (leb e.low a.high) (leb a.low e.high))
     where
       last : (b d : Bool) → (b && (d && true)) ≡ (b && d)
       last true true = refl

@@ -8,12 +8,12 @@ use mathlib.Core.Bool.{Bool, true, false, not, ◌&&◌}
 use mathlib.Core.List.{List}
 use lib.ListN.{length}
 use Rattle.fields.specs.Field.{Bytes}
-use Rattle.rules.specs.Layout.{pageSize, topKind, mostPages}
+use Rattle.rules.specs.Layout.{page_size, top_kind, most_pages}
 use Rattle.rules.specs.Table.{read}
 use Rattle.rules.specs.Place.{fits, mendable}
 use Rattle.rules.specs.declared.Place.{Place}
-use Rattle.rules.proofs.entries.Tests.{fails, not-both}
-use Rattle.rules.proofs.entries.Places.{Fits, fits-true, Mendable, mendable-true}
+use Rattle.rules.proofs.Entries.Tests.{fails, not_both}
+use Rattle.rules.proofs.Entries.Places.{Fits, fits_true, Mendable, mendable_true}
 use Rattle.dry.specs.Walk.{marked, keeps, helps}
 
 -- a place that a walk comes to: the kinds of page that may stand there go up to top
@@ -23,13 +23,13 @@ pub record Asks (n top : ℕ) (e : Place) : Type 0 where
   pub child : e.child < n
   pub birth : e.birth < 256 ^ 4
   pub high : e.high < 256 ^ 8
-  pub kind : (k : ℕ) → k ≤ topKind → (e.want ≡ 0) ⊎ (e.want ≡ k) → k ≤ top
+  pub kind : (k : ℕ) → k ≤ top_kind → (e.want ≡ 0) ⊎ (e.want ≡ k) → k ≤ top
 
 -- u comes of t by mends of marked pages alone
 pub record Kept (n : ℕ) (t u : List ℕ) (m : List Bool) : Type 0 where
-  pub size : length u ≡ n * pageSize
+  pub size : length u ≡ n * page_size
   pub bytes : Bytes u
-  pub marks : length m ≡ mostPages
+  pub marks : length m ≡ most_pages
   pub same : (i : ℕ) → marked m i ≡ false → read u i ≡ read t i
   pub still : ((i : ℕ) → marked m i ≡ false) → u ≡ t
 
@@ -46,17 +46,17 @@ passed_on {u} {m} {k} {l} {k'} {l'} p q f = record { at = λ i h. go i (f.at i h
 
 module _ (n top : ℕ) (u : List ℕ) (m : List Bool) (e : Place) (a : Asks n top e) (f : Passed u m top e.low) where
   passed-fits : (i : ℕ) → marked m i ≡ true → fits n e (read u i) ≡ false
-  passed-fits i h = fails (fits n e (read u i)) (λ b. go (fits-true n e (read u i) b) (f.at i h))
+  passed-fits i h = fails (fits n e (read u i)) (λ b. go (fits_true n e (read u i) b) (f.at i h))
     where
       go : Fits n e (read u i) → (top < (read u i).view.kind) ⊎ ((read u i).high < e.low) → ⊥
-      go b (inl k) = omega (arith, a.kind (read u i).view.kind b.sound.kind-to b.kind)
+      go b (inl k) = omega (arith, a.kind (read u i).view.kind b.sound.kind_to b.kind)
       go b (inr k) = omega (arith, b.high, a.range)
 
   passed-helps : (i : ℕ) → marked m i ≡ true → mendable n e (read u i) ≡ false
-  passed-helps i h = fails (mendable n e (read u i)) (λ b. go (mendable-true n e (read u i) b) (f.at i h))
+  passed-helps i h = fails (mendable n e (read u i)) (λ b. go (mendable_true n e (read u i) b) (f.at i h))
     where
       go : Mendable n e (read u i) → (top < (read u i).view.kind) ⊎ ((read u i).high < e.low) → ⊥
-      go b (inl k) = omega (arith, a.kind (read u i).view.kind b.sound.kind-to b.kind)
+      go b (inl k) = omega (arith, a.kind (read u i).view.kind b.sound.kind_to b.kind)
       go b (inr k) = omega (arith, b.high, a.range)
 
   module _ (t : List ℕ) (s : Kept n t u m) where
@@ -79,7 +79,7 @@ module _ (n top : ℕ) (u : List ℕ) (m : List Bool) (e : Place) (a : Asks n to
 
     -- where a test passes, the page tested is as it lies
     pub read_fits : fits n e (read u e.child) ≡ true → read u e.child ≡ read t e.child
-    read_fits g = s.same e.child (fails (marked m e.child) (λ h. not-both g (passed-fits e.child h)))
+    read_fits g = s.same e.child (fails (marked m e.child) (λ h. not_both g (passed-fits e.child h)))
 
     pub read-helps : mendable n e (read u e.previous) ≡ true → read u e.previous ≡ read t e.previous
-    read-helps g = s.same e.previous (fails (marked m e.previous) (λ h. not-both g (passed-helps e.previous h)))
+    read-helps g = s.same e.previous (fails (marked m e.previous) (λ h. not_both g (passed-helps e.previous h)))

@@ -12,21 +12,21 @@ use lib.Dec.{eqb}
 use lib.ListN.{length, set, length-set}
 use lib.Seq.{get_or-set_same, get_or-set_other}
 use Rattle.fields.specs.Field.{Bytes}
-use Rattle.rules.specs.Layout.{pageSize, mostPages}
+use Rattle.rules.specs.Layout.{page_size, most_pages}
 use Rattle.rules.specs.Test.{mem}
 use Rattle.rules.specs.Page.{View, Page, fresh}
 use Rattle.rules.specs.Table.{read, build}
-use Rattle.rules.specs.Place.{fits, mendable, mended, cutView}
+use Rattle.rules.specs.Place.{fits, mendable, mended, cut_view}
 use Rattle.rules.specs.Enter.{Entered, damaged, mend, enter}
 use Rattle.rules.specs.declared.Place.{Place}
-use Rattle.rules.proofs.entries.Tests.{not-both}
-use Rattle.rules.proofs.entries.Entries.{length_cut}
-use Rattle.rules.proofs.bytes.Pages.{WideView, Wide, room-pageBytes}
-use Rattle.rules.proofs.bytes.Widths.{wide-mended}
-use Rattle.rules.proofs.bytes.Tables.{Has, has-page, Room, wide_read, bytes-build, length-build, read-build-same, read-build-other}
-use Rattle.rules.proofs.entries.Sounds.{Sound}
-use Rattle.rules.proofs.entries.Places.{Fits, fits-true, fits-of, Mendable, mendable-true, mended-view-sound}
-use Rattle.dry.specs.Walk.{marked, keeps, sight_of, sightMended, sight}
+use Rattle.rules.proofs.Entries.Tests.{not_both}
+use Rattle.rules.proofs.Entries.Entries.{length_cut}
+use Rattle.rules.proofs.Bytes.Pages.{WideView, Wide, room-page_bytes}
+use Rattle.rules.proofs.Bytes.Widths.{wide-mended}
+use Rattle.rules.proofs.Bytes.Tables.{Has, has-page, Room, wide_read, bytes-build, length-build, read-build-same, read-build-other}
+use Rattle.rules.proofs.Entries.Sounds.{Sound}
+use Rattle.rules.proofs.Entries.Places.{Fits, fits_true, fits-of, Mendable, mendable_true, mended-view-sound}
+use Rattle.dry.specs.Walk.{marked, keeps, sight_of, sight_mended, sight}
 use Rattle.dry.proofs.Passed.{Asks, Kept, Passed, passed_on, fits-keeps, mendable-helps, read_fits, read-helps}
 
 abbrev pub entered : List ℕ → Page → Entered
@@ -50,7 +50,7 @@ pub data Met (n c : ℕ) (above near t u : List ℕ) (m : List Bool) (e : Place)
 
 -- ── A mended page ───────────────────────────────────────────────────────────────────────────────────────────────
 
-module _ (n c top : ℕ) (t u : List ℕ) (m : List Bool) (e : Place) (hn : n ≤ mostPages) (hc : c < 256 ^ 4) (a : Asks n top e)
+module _ (n c top : ℕ) (t u : List ℕ) (m : List Bool) (e : Place) (hn : n ≤ most_pages) (hc : c < 256 ^ 4) (a : Asks n top e)
     (f : Passed u m top e.low) (s : Kept n t u m) where
   module _ (g : Mendable n e (read u e.previous)) where
     now : Page
@@ -66,11 +66,11 @@ module _ (n c top : ℕ) (t u : List ℕ) (m : List Bool) (e : Place) (hn : n �
     now-wide = wide-mended hc (wide_read u e.previous s.bytes) e a.birth (omega (arith, a.range, a.high)) a.high
 
     now-room : Room (mended c e (read u e.previous))
-    unfolding mended fresh cutView
+    unfolding mended fresh cut_view
     now-room =
-        room-pageBytes (mended c e (read u e.previous)) now-wide.view.shaped
-        (omega (arith, length_cut e.low e.high (read u e.previous).view.certs, g.sound.certs-room))
-        (omega (arith, length_cut e.low e.high (read u e.previous).view.children, g.sound.children-room))
+        room-page_bytes (mended c e (read u e.previous)) now-wide.view.shaped
+        (omega (arith, length_cut e.low e.high (read u e.previous).view.certs, g.sound.certs_room))
+        (omega (arith, length_cut e.low e.high (read u e.previous).view.children, g.sound.children_room))
 
     has : Has u e.child
     has = has-page u n e.child s.size a.child
@@ -91,7 +91,7 @@ module _ (n c top : ℕ) (t u : List ℕ) (m : List Bool) (e : Place) (hn : n �
     unfolding marked marks
     marked_other i d = get_or-set_other m e.child i true false d
 
-    length-after : length after ≡ n * pageSize
+    length-after : length after ≡ n * page_size
     unfolding after
     length-after = length-build u e.child (mended c e (read u e.previous)) has now-room ∙ s.size
 
@@ -99,7 +99,7 @@ module _ (n c top : ℕ) (t u : List ℕ) (m : List Bool) (e : Place) (hn : n �
     unfolding after
     bytes_after = bytes-build u e.child (mended c e (read u e.previous)) s.bytes
 
-    length-marks : length marks ≡ mostPages
+    length-marks : length marks ≡ most_pages
     unfolding marks
     length-marks = length-set m e.child true ∙ s.marks
 
@@ -110,11 +110,11 @@ module _ (n c top : ℕ) (t u : List ℕ) (m : List Bool) (e : Place) (hn : n �
       bytes = bytes_after;
       marks = length-marks;
       same = λ i h. go i h (eqb i e.child) refl;
-      still = λ none. absurd (not-both marked-here (none e.child));
+      still = λ none. absurd (not_both marked-here (none e.child));
     }
       where
         go : (i : ℕ) → marked marks i ≡ false → (b : Bool) → eqb i e.child ≡ b → read after i ≡ read t i
-        go i h true q = absurd (not-both (ap (marked marks) (eqb-true i e.child q) ∙ marked-here) h)
+        go i h true q = absurd (not_both (ap (marked marks) (eqb-true i e.child q) ∙ marked-here) h)
         go i h false q =
             let d = eqb-false i e.child q in
             read-other i d ∙ s.same i (sym (marked_other i d) ∙ h)
@@ -138,22 +138,22 @@ module _ (n c top : ℕ) (t u : List ℕ) (m : List Bool) (e : Place) (hn : n �
     now-high = ap (λ (p : Page). p.high) read_here
 
     now-kind : (read after e.child).view.kind ≡ (read u e.previous).view.kind
-    unfolding mended fresh cutView
+    unfolding mended fresh cut_view
     now-kind = ap (λ (p : Page). p.view.kind) read_here
 
     shows-after : Shows n t u m e after marks (mended c e (read u e.previous)).view
-    unfolding mended fresh cutView
+    unfolding mended fresh cut_view
     shows-after =
         let kind : ℕ = (read u e.previous).view.kind in
-        let up = a.kind (read u e.previous).view.kind g.sound.kind-to g.kind in
+        let up = a.kind (read u e.previous).view.kind g.sound.kind_to g.kind in
         record {
           kept = kept-after;
           sound = mended-view-sound a.range g;
           wide = now-wide.view;
           below = passed-after ((read u e.previous).view.kind - 1) e.low
-              (inl (omega (arith, now-kind, g.sound.kind-from))) (passed_on (omega arith) (omega arith) f);
+              (inl (omega (arith, now-kind, g.sound.kind_from))) (passed_on (omega arith) (omega arith) f);
           later = λ k l h old. passed-after k l (inr (omega (arith, now-high))) old;
-          calm = λ none. absurd (not-both marked-here (none e.child));
+          calm = λ none. absurd (not_both marked-here (none e.child));
         }
 
   -- ── A page that fits ────────────────────────────────────────────────────────────────────────────────────────────
@@ -163,7 +163,7 @@ module _ (n c top : ℕ) (t u : List ℕ) (m : List Bool) (e : Place) (hn : n �
     kept = s;
     sound = g.sound;
     wide = (wide_read u e.child s.bytes).view;
-    below = passed_on (omega (arith, a.kind (read u e.child).view.kind g.sound.kind-to g.kind)) (omega arith) f;
+    below = passed_on (omega (arith, a.kind (read u e.child).view.kind g.sound.kind_to g.kind)) (omega arith) f;
     later = λ k l h old. old;
     calm = λ none. (fits-of n e (read u e.child) g, none);
   }
@@ -171,7 +171,7 @@ module _ (n c top : ℕ) (t u : List ℕ) (m : List Bool) (e : Place) (hn : n �
   -- ── Entering ────────────────────────────────────────────────────────────────────────────────────────────────────
 
   met-lost : (above near : List ℕ) → mem e.child above ≡ false → mem e.child near ≡ false → fits n e (read u e.child) ≡ false → Met n c above near t u m e
-  unfolding enter mend sight sightMended mended fresh after marks
+  unfolding enter mend sight sight_mended mended fresh after marks
   met-lost above near p z q = go (mendable n e (read u e.previous)) refl
     where
       lost : keeps n t m e ≡ false
@@ -179,13 +179,13 @@ module _ (n c top : ℕ) (t u : List ℕ) (m : List Bool) (e : Place) (hn : n �
 
       go : (b : Bool) → mendable n e (read u e.previous) ≡ b → Met n c above near t u m e
       go true r =
-          let g = mendable-true n e (read u e.previous) r in
+          let g = mendable_true n e (read u e.previous) r in
           both (after g) (marks g) (mended c e (read u e.previous))
           (rw (p, enter, q, mend, r))
-          (rw (z, sight, lost, sightMended, sym (mendable-helps n top u m e a f t s) ∙ r, read-helps n top u m e a f t s r))
+          (rw (z, sight, lost, sight_mended, sym (mendable-helps n top u m e a f t s) ∙ r, read-helps n top u m e a f t s r))
           (shows-after g)
       go false r =
-          neither (rw (p, enter, q, mend, r)) (rw (z, sight, lost, sightMended, sym (mendable-helps n top u m e a f t s) ∙ r))
+          neither (rw (p, enter, q, mend, r)) (rw (z, sight, lost, sight_mended, sym (mendable-helps n top u m e a f t s) ∙ r))
 
   pub met : (above near : List ℕ) → mem e.child above ≡ mem e.child near → Met n c above near t u m e
   unfolding enter sight
@@ -196,5 +196,5 @@ module _ (n c top : ℕ) (t u : List ℕ) (m : List Bool) (e : Place) (hn : n �
       go false p true q =
           both u m (read u e.child) (rw (p, enter, q))
           (rw (sym o ∙ p, sight, sym (fits-keeps n top u m e a f t s) ∙ q, read_fits n top u m e a f t s q))
-          (shows-here (fits-true n e (read u e.child) q))
+          (shows-here (fits_true n e (read u e.child) q))
       go false p false q = met-lost above near p (sym o ∙ p) q

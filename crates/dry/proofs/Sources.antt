@@ -10,13 +10,13 @@ use lib.ListN.{set}
 use borrow.Author.Tests.{eq-eqb, ne_eqb}
 use Rattle.rules.specs.Test.{mem}
 use Rattle.rules.specs.Table.{read}
-use Rattle.rules.specs.Place.{fits, mendable, cutView}
+use Rattle.rules.specs.Place.{fits, mendable, cut_view}
 use Rattle.rules.specs.declared.Place.{Place}
-use Rattle.rules.proofs.entries.Tests.{and_right}
-use Rattle.rules.proofs.entries.Sounds.{sound-cut-all}
-use Rattle.rules.proofs.entries.Places.{fits-true, mendable-true}
-use Rattle.dry.specs.Walk.{marked, keeps, helps, sight_of, sightMended, sight}
-use Rattle.dry.specs.Source.{sourceLost, source, markedBy}
+use Rattle.rules.proofs.Entries.Tests.{and_right}
+use Rattle.rules.proofs.Entries.Sounds.{sound-cut-all}
+use Rattle.rules.proofs.Entries.Places.{fits_true, mendable_true}
+use Rattle.dry.specs.Walk.{marked, keeps, helps, sight_of, sight_mended, sight}
+use Rattle.dry.specs.Source.{source_lost, source, marked_by}
 use Rattle.dry.specs.declared.Source.{Source}
 
 pub above_parent : (i parent top : ℕ) → i ≡ parent → true ≡ mem i (parent ∷ top ∷ [])
@@ -32,13 +32,13 @@ above-top i parent top h = sym (rw (ne_eqb i parent h) (last (eqb i top)))
     last false = refl
 
 -- a child that is its own source stays, another one is marked
-pub marked-own : (i : ℕ) (e : Place) (m : List Bool) → i ≡ e.child → m ≡ markedBy i e m
-unfolding markedBy
-marked-own i e m h = rw (markedBy, eq-eqb i e.child h)
+pub marked-own : (i : ℕ) (e : Place) (m : List Bool) → i ≡ e.child → m ≡ marked_by i e m
+unfolding marked_by
+marked-own i e m h = rw (marked_by, eq-eqb i e.child h)
 
-pub marked_other : (i : ℕ) (e : Place) (m : List Bool) → (i ≡ e.child → ⊥) → set m e.child true ≡ markedBy i e m
-unfolding markedBy
-marked_other i e m h = rw (markedBy, ne_eqb i e.child h)
+pub marked_other : (i : ℕ) (e : Place) (m : List Bool) → (i ≡ e.child → ⊥) → set m e.child true ≡ marked_by i e m
+unfolding marked_by
+marked_other i e m h = rw (marked_by, ne_eqb i e.child h)
 
 module _ (n : ℕ) (above t : List ℕ) (m : List Bool) (e : Place) where
   pub source-above : mem e.child above ≡ true → Source.Damaged ≡ source n above t m e
@@ -51,13 +51,13 @@ module _ (n : ℕ) (above t : List ℕ) (m : List Bool) (e : Place) where
 
   pub source-previous : mem e.child above ≡ false → keeps n t m e ≡ false → helps n t m e ≡ true
       → Source.Page e.previous ≡ source n above t m e
-  unfolding source sourceLost
-  source-previous h k l = rw (source, h, k, sourceLost, l)
+  unfolding source source_lost
+  source-previous h k l = rw (source, h, k, source_lost, l)
 
   pub source-none : mem e.child above ≡ false → keeps n t m e ≡ false → helps n t m e ≡ false
       → Source.Damaged ≡ source n above t m e
-  unfolding source sourceLost
-  source-none h k l = rw (source, h, k, sourceLost, l)
+  unfolding source source_lost
+  source-none h k l = rw (source, h, k, source_lost, l)
 
   -- ── What the place shows ────────────────────────────────────────────────────────────────────────────────────────
 
@@ -67,8 +67,8 @@ module _ (n : ℕ) (above t : List ℕ) (m : List Bool) (e : Place) where
   pub never : (i : ℕ) → Source.Damaged ≡ Source.Page i → ⊥
   never i h = let z : ◌≡◌ {A = ℕ} 0 1 = cc in omega arith
 
-  abbrev shownBy : ℕ → Type 0
-  shownBy i = sight n above t m e ≡ some (sight_of (cutView e.low e.high (read t i).view) (markedBy i e m))
+  abbrev shown_by : ℕ → Type 0
+  shown_by i = sight n above t m e ≡ some (sight_of (cut_view e.low e.high (read t i).view) (marked_by i e m))
 
   pub keeps-fits : keeps n t m e ≡ true → fits n e (read t e.child) ≡ true
   unfolding keeps
@@ -78,26 +78,26 @@ module _ (n : ℕ) (above t : List ℕ) (m : List Bool) (e : Place) where
   unfolding helps
   helps-mendable l = and_right (not (marked m e.previous)) (mendable n e (read t e.previous)) l
 
-  shown-child : mem e.child above ≡ false → keeps n t m e ≡ true → shownBy e.child
-  unfolding sight markedBy
+  shown-child : mem e.child above ≡ false → keeps n t m e ≡ true → shown_by e.child
+  unfolding sight marked_by
   shown-child h k =
-      let f = fits-true n e (read t e.child) (keeps-fits k) in
-      rw (sight, h, k, markedBy, eq-eqb e.child e.child refl, sound-cut-all f.sound)
+      let f = fits_true n e (read t e.child) (keeps-fits k) in
+      rw (sight, h, k, marked_by, eq-eqb e.child e.child refl, sound-cut-all f.sound)
 
-  shown-previous : mem e.child above ≡ false → keeps n t m e ≡ false → helps n t m e ≡ true → shownBy e.previous
-  unfolding sight sightMended markedBy
+  shown-previous : mem e.child above ≡ false → keeps n t m e ≡ false → helps n t m e ≡ true → shown_by e.previous
+  unfolding sight sight_mended marked_by
   shown-previous h k l =
-      let f = mendable-true n e (read t e.previous) (helps-mendable l) in
-      rw (sight, h, k, sightMended, l, markedBy, ne_eqb e.previous e.child f.other)
+      let f = mendable_true n e (read t e.previous) (helps-mendable l) in
+      rw (sight, h, k, sight_mended, l, marked_by, ne_eqb e.previous e.child f.other)
 
-  pub sight-source : (i : ℕ) → source n above t m e ≡ Source.Page i → shownBy i
+  pub sight-source : (i : ℕ) → source n above t m e ≡ Source.Page i → shown_by i
   sight-source i s = go (mem e.child above) refl (keeps n t m e) refl (helps n t m e) refl
     where
-      go : (a : Bool) → mem e.child above ≡ a → (b : Bool) → keeps n t m e ≡ b → (d : Bool) → helps n t m e ≡ d → shownBy i
+      go : (a : Bool) → mem e.child above ≡ a → (b : Bool) → keeps n t m e ≡ b → (d : Bool) → helps n t m e ≡ d → shown_by i
       go true p b q d r = absurd (never i (source-above p ∙ s))
-      go false p true q d r = subst (λ (j : ℕ). shownBy j) (same-page e.child i (source-child p q ∙ s)) (shown-child p q)
+      go false p true q d r = subst (λ (j : ℕ). shown_by j) (same-page e.child i (source-child p q ∙ s)) (shown-child p q)
       go false p false q true r =
-          subst (λ (j : ℕ). shownBy j) (same-page e.previous i (source-previous p q r ∙ s)) (shown-previous p q r)
+          subst (λ (j : ℕ). shown_by j) (same-page e.previous i (source-previous p q r ∙ s)) (shown-previous p q r)
       go false p false q false r = absurd (never i (source-none p q r ∙ s))
 
   -- a child that is its own source fits
@@ -110,12 +110,12 @@ module _ (n : ℕ) (above t : List ℕ) (m : List Bool) (e : Place) where
       go false p true q d r = keeps-fits q
       go false p false q true r =
           absurd
-          ((mendable-true n e (read t e.previous) (helps-mendable r)).other
+          ((mendable_true n e (read t e.previous) (helps-mendable r)).other
           (same-page e.previous e.child (source-previous p q r ∙ s)))
       go false p false q false r = absurd (never e.child (source-none p q r ∙ s))
 
   pub sight-damaged : source n above t m e ≡ Source.Damaged → sight n above t m e ≡ none
-  unfolding sight sightMended
+  unfolding sight sight_mended
   sight-damaged s = go (mem e.child above) refl (keeps n t m e) refl (helps n t m e) refl
     where
       go : (a : Bool) → mem e.child above ≡ a → (b : Bool) → keeps n t m e ≡ b → (d : Bool) → helps n t m e ≡ d
@@ -123,4 +123,4 @@ module _ (n : ℕ) (above t : List ℕ) (m : List Bool) (e : Place) where
       go true p b q d r = rw (sight, p)
       go false p true q d r = absurd (never e.child (sym (source-child p q ∙ s)))
       go false p false q true r = absurd (never e.previous (sym (source-previous p q r ∙ s)))
-      go false p false q false r = rw (sight, p, q, sightMended, r)
+      go false p false q false r = rw (sight, p, q, sight_mended, r)

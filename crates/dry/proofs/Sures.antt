@@ -9,20 +9,20 @@ use lib.Dec.{eqb}
 use lib.ListN.{length, set, get_or}
 use lib.Seq.{get_or-set_same, get_or-set_other}
 use borrow.Author.Tests.{eqb-true, eqb-false}
-use Rattle.rules.specs.Layout.{lastKey}
+use Rattle.rules.specs.Layout.{last_key}
 use Rattle.rules.specs.Entry.{Cert}
-use Rattle.rules.specs.Place.{rootPlace, kids, cutView}
+use Rattle.rules.specs.Place.{root_place, kids, cut_view}
 use Rattle.rules.specs.Page.{View}
 use Rattle.rules.specs.Table.{read}
 use Rattle.rules.specs.declared.Asked.{Asked}
 use Rattle.rules.specs.declared.Place.{Place}
-use Rattle.rules.proofs.entries.Tests.{not-both}
-use Rattle.rules.proofs.entries.Sounds.{sound-cut-all}
-use Rattle.rules.proofs.entries.Places.{Fits, fits-true}
+use Rattle.rules.proofs.Entries.Tests.{not_both}
+use Rattle.rules.proofs.Entries.Sounds.{sound-cut-all}
+use Rattle.rules.proofs.Entries.Places.{Fits, fits_true}
 use Rattle.seen.specs.Run.{places}
-use Rattle.dry.specs.Walk.{marked, Sighted, sighted, meets, asks, takes, breaks, dryEach, dry, dryOver}
-use Rattle.dry.specs.Source.{source, markedBy}
-use Rattle.dry.specs.Cursor.{inReach, dueLower, dueUpper, dueRoot, dueLast, dueOf, aheadRoot, ahead, Names, Leads, Sure}
+use Rattle.dry.specs.Walk.{marked, Sighted, sighted, meets, asks, takes, breaks, dry_each, dry, dry_over}
+use Rattle.dry.specs.Source.{source, marked_by}
+use Rattle.dry.specs.Cursor.{in_reach, due_lower, due_upper, due_root, due_last, due_of, ahead_root, ahead, Names, Leads, Sure}
 use Rattle.dry.specs.declared.Cursor.{Cursor}
 use Rattle.dry.specs.declared.Source.{Source}
 use Rattle.dry.specs.declared.Spot.{Spot}
@@ -30,11 +30,11 @@ use Rattle.dry.specs.declared.Due.{Due}
 use Rattle.dry.specs.declared.LeafAt.{LeafAt}
 use Rattle.dry.specs.declared.Step.{Step}
 use Rattle.dry.proofs.Sources.{marked-own, marked_other, source_fits}
-use Rattle.dry.proofs.Meets.{meets-reach}
+use Rattle.dry.proofs.Meets.{meets_reach}
 use Rattle.dry.proofs.Steps.{step-passes, step-damaged, step-goes}
-use Rattle.dry.proofs.Ways.{Next, ahead-halts, lower-next, upper-next, root-next}
+use Rattle.dry.proofs.Ways.{Next, ahead_halts, lower-next, upper-next, root-next}
 use Rattle.dry.proofs.Leads.{names-first, LeafShown}
-use Rattle.dry.proofs.Going.{Taken, leafView, leaf-shown, leaf-comes}
+use Rattle.dry.proofs.Going.{Taken, leaf_view, leaf-shown, leaf-comes}
 
 -- ── Marks stay ──────────────────────────────────────────────────────────────────────────────────────────────────
 
@@ -44,7 +44,7 @@ Grows m m' = (i : ℕ) → marked m i ≡ true → marked m' i ≡ true
 
 marked-below : (m : List Bool) (i : ℕ) → marked m i ≡ true → i < length m
 unfolding marked
-marked-below [] i h = absurd (not-both h refl)
+marked-below [] i h = absurd (not_both h refl)
 marked-below (x ∷ m) zero h = omega arith
 marked-below (x ∷ m) (suc i) h = omega (arith, marked-below m i h)
 
@@ -57,27 +57,27 @@ set-grows m j i h = go (eqb i j) refl
         ap (λ (k : ℕ). get_or (set m k true) i false) (sym (eqb-true i j q)) ∙ get_or-set_same m i true false (marked-below m i h)
     go false q = get_or-set_other m j i true false (eqb-false i j q) ∙ h
 
-by-grows : (i : ℕ) (e : Place) (m : List Bool) → Grows m (markedBy i e m)
-by-grows i e m = go (eqb i e.child) refl
+by_grows : (i : ℕ) (e : Place) (m : List Bool) → Grows m (marked_by i e m)
+by_grows i e m = go (eqb i e.child) refl
   where
-    go : (b : Bool) → eqb i e.child ≡ b → Grows m (markedBy i e m)
+    go : (b : Bool) → eqb i e.child ≡ b → Grows m (marked_by i e m)
     go true q = subst (Grows m) (marked-own i e m (eqb-true i e.child q)) (λ j h. h)
     go false q = subst (Grows m) (marked_other i e m (eqb-false i e.child q)) (set-grows m e.child)
 
 -- a child that is not its own source is marked
-mended-there : (i : ℕ) (e : Place) (m : List Bool) → e.child < length m → (i ≡ e.child → ⊥) → marked (markedBy i e m) e.child ≡ true
+mended_there : (i : ℕ) (e : Place) (m : List Bool) → e.child < length m → (i ≡ e.child → ⊥) → marked (marked_by i e m) e.child ≡ true
 unfolding marked
-mended-there i e m below z =
+mended_there i e m below z =
     ap (λ (k : List Bool). get_or k e.child false) (sym (marked_other i e m z)) ∙ get_or-set_same m e.child true false below
 
 -- a walk leaves marked what is
 abbrev Walks : (Place → Sighted → Sighted) → Type 0
 Walks f = (e : Place) (d : Sighted) → Grows d.mended (f e d).mended
 
-each-grows : (f : Place → Sighted → Sighted) → Walks f → (es : List Place) (d : Sighted) → Grows d.mended (dryEach f es d).mended
-unfolding dryEach
-each-grows f k [] d i h = h
-each-grows f k (e ∷ es) d i h = each-grows f k es (f e d) i (k e d i h)
+each_grows : (f : Place → Sighted → Sighted) → Walks f → (es : List Place) (d : Sighted) → Grows d.mended (dry_each f es d).mended
+unfolding dry_each
+each_grows f k [] d i h = h
+each_grows f k (e ∷ es) d i h = each_grows f k es (f e d) i (k e d i h)
 
 module _ (n : ℕ) (a : Asked) (t : List ℕ) where
   dry-grows : (level parent top : ℕ) → Walks (dry level n a parent top t)
@@ -91,19 +91,19 @@ module _ (n : ℕ) (a : Asked) (t : List ℕ) where
       go true p Source.Damaged q k =
           subst (λ (z : Sighted). Grows d.mended z.mended) (sym (step-damaged n a parent top t e d level p q)) (λ i h. h)
       go true p (Source.Page j) q k =
-          let v = cutView e.low e.high (read t j).view in
+          let v = cut_view e.low e.high (read t j).view in
           subst (λ (z : Sighted). Grows d.mended z.mended) (sym (step-goes n a parent top t e d level j p q))
-          (λ i h. each-grows (dry level n a e.child parent t) k (kids e v) (takes a v d (markedBy j e d.mended)) i (by-grows j e d.mended i h))
+          (λ i h. each_grows (dry level n a e.child parent t) k (kids e v) (takes a v d (marked_by j e d.mended)) i (by_grows j e d.mended i h))
 
   pub ahead-grows : (c : Cursor) (d : Sighted) → Grows d.mended (ahead n a t c d).mended
-  unfolding ahead aheadRoot
+  unfolding ahead ahead_root
   ahead-grows c d i h =
       go c.fresh _
-      (each-grows (dry 2 n a c.root 0 t) (dry-grows 2 c.root 0) (places t lastKey c.upper) _ i
-      (each-grows (dry 1 n a c.parent c.root t) (dry-grows 1 c.parent c.root) (places t c.high c.lower) d i h))
+      (each_grows (dry 2 n a c.root 0 t) (dry-grows 2 c.root 0) (places t last_key c.upper) _ i
+      (each_grows (dry 1 n a c.parent c.root t) (dry-grows 1 c.parent c.root) (places t c.high c.lower) d i h))
     where
-      go : (b : Bool) (x : Sighted) → marked x.mended i ≡ true → marked (aheadRoot n a t b x).mended i ≡ true
-      go true x k = dry-grows 3 0 0 (rootPlace t) x i k
+      go : (b : Bool) (x : Sighted) → marked x.mended i ≡ true → marked (ahead_root n a t b x).mended i ≡ true
+      go true x k = dry-grows 3 0 0 (root_place t) x i k
       go false x k = k
 
   -- ── A place that is met ─────────────────────────────────────────────────────────────────────────────────────────
@@ -111,7 +111,7 @@ module _ (n : ℕ) (a : Asked) (t : List ℕ) where
   module _ (found : List Cert) (m : List Bool) (room : length found < a.room) (s : Spot) (level : ℕ) (below : s.place.child < length m)
       (whole : (ahead n a t s.rest (dry (suc level) n a s.parent s.top t s.place (sighted true found m))).whole ≡ true)
       (still : (i : ℕ) → marked (ahead n a t s.rest (dry (suc level) n a s.parent s.top t s.place (sighted true found m))).mended i ≡ false)
-      (h : inReach a s.place ≡ true) where
+      (h : in_reach a s.place ≡ true) where
     abbrev e : Place
     e = s.place
 
@@ -119,7 +119,7 @@ module _ (n : ℕ) (a : Asked) (t : List ℕ) where
     d = sighted true found m
 
     met : meets a e d ≡ true
-    met = meets-reach a s.place found m room ∙ h
+    met = meets_reach a s.place found m room ∙ h
 
     pub source-own : source n (s.parent ∷ s.top ∷ []) t m e ≡ Source.Page e.child
     unfolding breaks takes
@@ -128,21 +128,21 @@ module _ (n : ℕ) (a : Asked) (t : List ℕ) where
         go : (x : Source) → source n (s.parent ∷ s.top ∷ []) t m s.place ≡ x → source n (s.parent ∷ s.top ∷ []) t m s.place ≡ Source.Page s.place.child
         go Source.Damaged p =
             absurd
-            (not-both whole
+            (not_both whole
             (ap (λ (x : Sighted). (ahead n a t s.rest x).whole) (step-damaged n a s.parent s.top t e d level met p)
-            ∙ ap (λ (x : Sighted). x.whole) (ahead-halts n a t s.rest (breaks d) refl)))
+            ∙ ap (λ (x : Sighted). x.whole) (ahead_halts n a t s.rest (breaks d) refl)))
         go (Source.Page i) p = own (eqb i s.place.child) refl
           where
             own : (b : Bool) → eqb i s.place.child ≡ b → source n (s.parent ∷ s.top ∷ []) t m s.place ≡ Source.Page s.place.child
             own true q = p ∙ ap Source.Page (eqb-true i s.place.child q)
             own false q =
                 absurd
-                (not-both
+                (not_both
                 (subst (λ (x : Sighted). marked (ahead n a t s.rest x).mended s.place.child ≡ true)
                 (sym (step-goes n a s.parent s.top t e d level i met p))
                 (ahead-grows s.rest _ s.place.child
-                (each-grows (dry level n a s.place.child s.parent t) (dry-grows level s.place.child s.parent) _ _ s.place.child
-                (mended-there i s.place m below (eqb-false i s.place.child q)))))
+                (each_grows (dry level n a s.place.child s.parent t) (dry-grows level s.place.child s.parent) _ _ s.place.child
+                (mended_there i s.place m below (eqb-false i s.place.child q)))))
                 (still s.place.child))
 
   -- ── The place that is next ──────────────────────────────────────────────────────────────────────────────────────
@@ -155,7 +155,7 @@ module _ (n : ℕ) (a : Asked) (t : List ℕ) where
 
   module _ (c : Cursor) (m : List Bool) (leads : Leads n t c) (sure : Sure n a t c m) where
     abbrev Own : Spot → Type 0
-    Own s = inReach a s.place ≡ true → source n (s.parent ∷ s.top ∷ []) t m s.place ≡ Source.Page s.place.child
+    Own s = in_reach a s.place ≡ true → source n (s.parent ∷ s.top ∷ []) t m s.place ≡ Source.Page s.place.child
 
     own : (s : Spot) (level : ℕ) → Next n a t c s level → Names n s.place → Own s
     own s level next names h =
@@ -164,29 +164,29 @@ module _ (n : ℕ) (a : Asked) (t : List ℕ) where
         (ap (λ (x : Sighted). x.whole) (sym e) ∙ sure.whole)
         (λ i. ap (λ (x : Sighted). marked x.mended i) (sym e) ∙ sure.still i) h
 
-    pub sure-own : (s : Spot) → dueOf t c ≡ Due.At s → Own s
-    unfolding dueOf dueLast dueLower dueUpper dueRoot
-    sure-own s d = go (eqb c.lower.left 0) refl (eqb c.upper.left 0) refl c.fresh refl d
+    pub sure_own : (s : Spot) → due_of t c ≡ Due.At s → Own s
+    unfolding due_of due_last due_lower due_upper due_root
+    sure_own s d = go (eqb c.lower.left 0) refl (eqb c.upper.left 0) refl c.fresh refl d
       where
         go : (x : Bool) → eqb c.lower.left 0 ≡ x → (y : Bool) → eqb c.upper.left 0 ≡ y → (b : Bool) → c.fresh ≡ b
-            → dueOf t c ≡ Due.At s → Own s
+            → due_of t c ≡ Due.At s → Own s
         go false p y q b r e =
             let z = eqb-false c.lower.left 0 p in
-            subst Own (same_spot (dueLower t c) s (sym (rw (dueOf, p)) ∙ e))
-            (own (dueLower t c) 0 (lower-next n a t c z) (names-first n t c.high c.lower z leads.lower-names))
+            subst Own (same_spot (due_lower t c) s (sym (rw (due_of, p)) ∙ e))
+            (own (due_lower t c) 0 (lower-next n a t c z) (names-first n t c.high c.lower z leads.lower_names))
         go true p false q b r e =
             let z = eqb-false c.upper.left 0 q in
-            subst Own (same_spot (dueUpper t c) s (sym (rw (dueOf, p, q)) ∙ e))
-            (own (dueUpper t c) 1 (upper-next n a t c (eqb-true c.lower.left 0 p) z) (names-first n t lastKey c.upper z leads.upper-names))
+            subst Own (same_spot (due_upper t c) s (sym (rw (due_of, p, q)) ∙ e))
+            (own (due_upper t c) 1 (upper-next n a t c (eqb-true c.lower.left 0 p) z) (names-first n t last_key c.upper z leads.upper_names))
         go true p true q true r e =
-            subst Own (same_spot (dueRoot t) s (sym (rw (dueOf, p, q) (ap (dueLast t) r)) ∙ e))
-            (own (dueRoot t) 2 (root-next n a t c (eqb-true c.lower.left 0 p) (eqb-true c.upper.left 0 q) r) leads.root_names)
-        go true p true q false r e = absurd (never s (sym (rw (dueOf, p, q) (ap (dueLast t) r)) ∙ e))
+            subst Own (same_spot (due_root t) s (sym (rw (due_of, p, q) (ap (due_last t) r)) ∙ e))
+            (own (due_root t) 2 (root-next n a t c (eqb-true c.lower.left 0 p) (eqb-true c.upper.left 0 q) r) leads.root_names)
+        go true p true q false r e = absurd (never s (sym (rw (due_of, p, q) (ap (due_last t) r)) ∙ e))
 
 -- ── A leaf of such a walk ───────────────────────────────────────────────────────────────────────────────────────
 
 module _ {n : ℕ} {a : Asked} {t : List ℕ} {c : Cursor} {count : ℕ} {m : List Bool} {s : Step} {marks : List Bool} (y : Taken n a t c count m s marks)
-    (size : n ≤ length m) (still : (i : ℕ) → marked (dryOver n a t).mended i ≡ false) (l : LeafAt) (q : s ≡ Step.Leaf l) where
+    (size : n ≤ length m) (still : (i : ℕ) → marked (dry_over n a t).mended i ≡ false) (l : LeafAt) (q : s ≡ Step.Leaf l) where
   shown : LeafShown n t m marks l
   shown = leaf-shown y l q
 
@@ -197,20 +197,20 @@ module _ {n : ℕ} {a : Asked} {t : List ℕ} {c : Cursor} {count : ℕ} {m : Li
       go true z = eqb-true l.page l.place.child z
       go false z =
           absurd
-          (not-both
+          (not_both
           (subst (λ (x : Sighted). marked x.mended l.place.child ≡ true) (leaf-comes y l q)
           (ahead-grows n a t l.after _ l.place.child
-          (subst (λ (x : List Bool). marked x l.place.child ≡ true) (sym shown.marks-are)
-          (mended-there l.page l.place m (omega (arith, size, shown.names)) (eqb-false l.page l.place.child z)))))
+          (subst (λ (x : List Bool). marked x l.place.child ≡ true) (sym shown.marks_are)
+          (mended_there l.page l.place m (omega (arith, size, shown.names)) (eqb-false l.page l.place.child z)))))
           (still l.place.child))
 
   -- it fits its place
   pub leaf-fits : Fits n l.place (read t l.page)
   leaf-fits =
       subst (λ (i : ℕ). Fits n l.place (read t i)) (sym own-page)
-      (fits-true n l.place (read t l.place.child)
+      (fits_true n l.place (read t l.place.child)
       (source_fits n (shown.parent ∷ shown.top ∷ []) t m l.place (shown.source_is ∙ ap Source.Page own-page)))
 
   -- so it is shown as it lies
-  pub leaf-view : (found : List Cert) → leafView t a l found ≡ asks a (read t l.page).view found
+  pub leaf-view : (found : List Cert) → leaf_view t a l found ≡ asks a (read t l.page).view found
   leaf-view found = ap (λ (v : View). asks a v found) (sound-cut-all leaf-fits.sound)

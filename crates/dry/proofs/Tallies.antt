@@ -8,29 +8,29 @@ use lib.Dec.{leb, ltb}
 use lib.ListN.{length, take, drop}
 use lib.Seq.{take-nil, take_all, length-take-le}
 use borrow.Author.Tests.{leb-true, leb-false, le-leb, lt-leb, lt-ltb, le-ltb, ltb-true, ltb-false}
-use Rattle.rules.specs.Layout.{leafHeader, certSize, leafKind, leafRoom}
+use Rattle.rules.specs.Layout.{leaf_header, cert_size, leaf_kind, leaf_room}
 use Rattle.rules.specs.Test.{between}
 use Rattle.rules.specs.Entry.{Cert, cut}
-use Rattle.rules.specs.Page.{readEach, certIn, pageIn}
-use Rattle.rules.specs.Table.{pageAt, read}
-use Rattle.rules.specs.Place.{cutView}
+use Rattle.rules.specs.Page.{read_each, cert_in, page_in}
+use Rattle.rules.specs.Table.{page_at, read}
+use Rattle.rules.specs.Place.{cut_view}
 use Rattle.rules.specs.declared.Asked.{Asked}
 use Rattle.rules.specs.declared.Place.{Place}
-use Rattle.rules.proofs.entries.Tests.{fails, not-both, and_left, and_right, between-of, between-low, between-high, between-below, between-above}
-use Rattle.rules.proofs.bytes.Each.{length-readEach}
-use Rattle.rules.proofs.entries.Entries.{cut-nil, cut_in, cut_out, cut_all, cut-wider}
-use Rattle.head.specs.Head.{certAt, headIn}
+use Rattle.rules.proofs.Entries.Tests.{fails, not_both, and_left, and_right, between-of, between-low, between-high, between-below, between-above}
+use Rattle.rules.proofs.Bytes.Each.{length-read_each}
+use Rattle.rules.proofs.Entries.Entries.{cut-nil, cut_in, cut_out, cut_all, cut_wider}
+use Rattle.head.specs.Head.{cert_at, head_in}
 use Rattle.head.specs.declared.Head.{Head}
-use Rattle.head.proofs.Headers.{head_of, headIn-page, certs-leaf}
+use Rattle.head.proofs.Headers.{head_of, head_in-page, certs-leaf}
 use Rattle.head.proofs.Left.{left, left-all, left-more, left-none}
-use Rattle.dry.specs.Count.{larger, smaller, tallied, tally, tallyAll, liesIn, Within, tallyAt}
+use Rattle.dry.specs.Count.{larger, smaller, tallied, tally, tally_all, lies_in, Within, tally_at}
 
 -- ── The narrower range ──────────────────────────────────────────────────────────────────────────────────────────
 
 module _ (x y : ℕ) where
-  pub larger-right : x ≤ y → y ≡ larger x y
+  pub larger_right : x ≤ y → y ≡ larger x y
   unfolding larger
-  larger-right h = rw (larger, le-leb x y h)
+  larger_right h = rw (larger, le-leb x y h)
 
   pub larger-left : y < x → x ≡ larger x y
   unfolding larger
@@ -40,9 +40,9 @@ module _ (x y : ℕ) where
   unfolding smaller
   smaller-left h = rw (smaller, le-leb x y h)
 
-  pub smaller-right : y < x → y ≡ smaller x y
+  pub smaller_right : y < x → y ≡ smaller x y
   unfolding smaller
-  smaller-right h = rw (smaller, lt-leb x y h)
+  smaller_right h = rw (smaller, lt-leb x y h)
 
 -- a key in both ranges is in the narrower one, and no other is
 module _ (l h low high k : ℕ) where
@@ -50,34 +50,34 @@ module _ (l h low high k : ℕ) where
   in_both p q = between-of (larger l low) (smaller h high) k (from (leb l low) refl) (to (leb h high) refl)
     where
       from : (b : Bool) → leb l low ≡ b → larger l low ≤ k
-      from true e = omega (arith, larger-right l low (leb-true l low e), between-low low high k q)
+      from true e = omega (arith, larger_right l low (leb-true l low e), between-low low high k q)
       from false e = omega (arith, larger-left l low (leb-false l low e), between-low l h k p)
 
       to : (b : Bool) → leb h high ≡ b → k ≤ smaller h high
       to true e = omega (arith, smaller-left h high (leb-true h high e), between-high l h k p)
-      to false e = omega (arith, smaller-right h high (leb-false h high e), between-high low high k q)
+      to false e = omega (arith, smaller_right h high (leb-false h high e), between-high low high k q)
 
-  in-first : between (larger l low) (smaller h high) k ≡ true → between l h k ≡ true
-  in-first p = between-of l h k (from (leb l low) refl) (to (leb h high) refl)
+  in_first : between (larger l low) (smaller h high) k ≡ true → between l h k ≡ true
+  in_first p = between-of l h k (from (leb l low) refl) (to (leb h high) refl)
     where
       from : (b : Bool) → leb l low ≡ b → l ≤ k
-      from true e = omega (arith, larger-right l low (leb-true l low e), leb-true l low e, between-low (larger l low) (smaller h high) k p)
+      from true e = omega (arith, larger_right l low (leb-true l low e), leb-true l low e, between-low (larger l low) (smaller h high) k p)
       from false e = omega (arith, larger-left l low (leb-false l low e), between-low (larger l low) (smaller h high) k p)
 
       to : (b : Bool) → leb h high ≡ b → k ≤ h
       to true e = omega (arith, smaller-left h high (leb-true h high e), between-high (larger l low) (smaller h high) k p)
-      to false e = omega (arith, smaller-right h high (leb-false h high e), leb-false h high e, between-high (larger l low) (smaller h high) k p)
+      to false e = omega (arith, smaller_right h high (leb-false h high e), leb-false h high e, between-high (larger l low) (smaller h high) k p)
 
-  in-second : between (larger l low) (smaller h high) k ≡ true → between low high k ≡ true
-  in-second p = between-of low high k (from (leb l low) refl) (to (leb h high) refl)
+  in_second : between (larger l low) (smaller h high) k ≡ true → between low high k ≡ true
+  in_second p = between-of low high k (from (leb l low) refl) (to (leb h high) refl)
     where
       from : (b : Bool) → leb l low ≡ b → low ≤ k
-      from true e = omega (arith, larger-right l low (leb-true l low e), between-low (larger l low) (smaller h high) k p)
+      from true e = omega (arith, larger_right l low (leb-true l low e), between-low (larger l low) (smaller h high) k p)
       from false e = omega (arith, larger-left l low (leb-false l low e), leb-false l low e, between-low (larger l low) (smaller h high) k p)
 
       to : (b : Bool) → leb h high ≡ b → k ≤ high
       to true e = omega (arith, smaller-left h high (leb-true h high e), leb-true h high e, between-high (larger l low) (smaller h high) k p)
-      to false e = omega (arith, smaller-right h high (leb-false h high e), between-high (larger l low) (smaller h high) k p)
+      to false e = omega (arith, smaller_right h high (leb-false h high e), between-high (larger l low) (smaller h high) k p)
 
 cut-both : (l h low high : ℕ) (xs : List Cert) → cut l h (cut low high xs) ≡ cut (larger l low) (smaller h high) xs
 cut-both l h low high [] = ap (cut l h) (cut-nil low high) ∙ cut-nil l h ∙ sym (cut-nil (larger l low) (smaller h high))
@@ -90,12 +90,12 @@ cut-both l h low high (x ∷ xs) =
     go false p d q ih =
         ap (cut l h) (cut_out low high x xs p)
         ∙ ih
-        ∙ sym (cut_out (larger l low) (smaller h high) x xs (fails _ (λ b. not-both (in-second l h low high x.key b) p)))
+        ∙ sym (cut_out (larger l low) (smaller h high) x xs (fails _ (λ b. not_both (in_second l h low high x.key b) p)))
     go true p false q ih =
         ap (cut l h) (cut_in low high x xs p)
         ∙ cut_out l h x (cut low high xs) q
         ∙ ih
-        ∙ sym (cut_out (larger l low) (smaller h high) x xs (fails _ (λ b. not-both (in-first l h low high x.key b) q)))
+        ∙ sym (cut_out (larger l low) (smaller h high) x xs (fails _ (λ b. not_both (in_first l h low high x.key b) q)))
     go true p true q ih =
         ap (cut l h) (cut_in low high x xs p)
         ∙ cut_in l h x (cut low high xs) q
@@ -106,16 +106,16 @@ cut-both l h low high (x ∷ xs) =
 
 module _ (low high room : ℕ) where
   module _ (key count : ℕ) where
-    tallied-not : (between low high key && ltb count room) ≡ false → count ≡ tallied low high room key count
+    tallied_not : (between low high key && ltb count room) ≡ false → count ≡ tallied low high room key count
     unfolding tallied
-    tallied-not h = rw (tallied, h)
+    tallied_not h = rw (tallied, h)
 
     tallied-here : (between low high key && ltb count room) ≡ true → count + 1 ≡ tallied low high room key count
     unfolding tallied
     tallied-here h = rw (tallied, h)
 
     outside : between low high key ≡ false → count ≡ tallied low high room key count
-    outside h = tallied-not (rw h)
+    outside h = tallied_not (rw h)
 
     pub tallied-low : key < low → count ≡ tallied low high room key count
     tallied-low h = outside (between-below low high key h)
@@ -124,7 +124,7 @@ module _ (low high room : ℕ) where
     tallied-high h = outside (between-above low high key h)
 
     pub tallied-full : room ≤ count → count ≡ tallied low high room key count
-    tallied-full h = tallied-not (go (between low high key))
+    tallied-full h = tallied_not (go (between low high key))
       where
         go : (b : Bool) → (b && ltb count room) ≡ false
         go true = le-ltb count room h
@@ -161,20 +161,20 @@ module _ (low high room : ℕ) where
   module _ (b : List ℕ) (entries : ℕ) where
     -- what is left to count
     abbrev pub tallies : ℕ → ℕ → ℕ
-    tallies j count = tally low high room (left certIn leafHeader certSize b entries j) count
+    tallies j count = tally low high room (left cert_in leaf_header cert_size b entries j) count
 
-    pub tally-turn : (j key count found : ℕ) → j < entries → key ≡ (certAt b j).key → found ≡ tallied low high room key count
+    pub tally-turn : (j key count found : ℕ) → j < entries → key ≡ (cert_at b j).key → found ≡ tallied low high room key count
         → tallies (j + 1) found ≡ tallies j count
-    unfolding certAt
+    unfolding cert_at
     tally-turn j key count found h k f =
-        rw (f, k, left-more certIn leafHeader certSize b entries j h)
-        (tally-cons (certIn (drop (leafHeader + certSize * j) b)) (left certIn leafHeader certSize b entries (j + 1)) count)
+        rw (f, k, left-more cert_in leaf_header cert_size b entries j h)
+        (tally-cons (cert_in (drop (leaf_header + cert_size * j) b)) (left cert_in leaf_header cert_size b entries (j + 1)) count)
 
     pub tally-end : (j count : ℕ) → entries ≤ j → tallies j count ≡ count
-    tally-end j count h = rw (left-none certIn leafHeader certSize b entries j h) (tally-nil count)
+    tally-end j count h = rw (left-none cert_in leaf_header cert_size b entries j h) (tally-nil count)
 
-    pub tally-start : (count : ℕ) → tallies 0 count ≡ tally low high room (readEach certIn certSize entries (drop leafHeader b)) count
-    tally-start count = ap (λ (xs : List Cert). tally low high room xs count) (sym (left-all certIn leafHeader certSize b entries))
+    pub tally-start : (count : ℕ) → tallies 0 count ≡ tally low high room (read_each cert_in cert_size entries (drop leaf_header b)) count
+    tally-start count = ap (λ (xs : List Cert). tally low high room xs count) (sym (left-all cert_in leaf_header cert_size b entries))
 
 -- ── All of them ─────────────────────────────────────────────────────────────────────────────────────────────────
 
@@ -187,85 +187,85 @@ length-first k xs = go (leb (length xs) k) refl
         ap length (take_all k xs h) ∙ smaller-left (length xs) k h
     go false e =
         let h = leb-false (length xs) k e in
-        length-take-le k xs (omega arith) ∙ smaller-right (length xs) k h
+        length-take-le k xs (omega arith) ∙ smaller_right (length xs) k h
 
 module _ (entries room count : ℕ) where
-  pub all_none : room ≤ count → count ≡ tallyAll entries room count
-  unfolding tallyAll
+  pub all_none : room ≤ count → count ≡ tally_all entries room count
+  unfolding tally_all
   all_none h = go (leb entries (room - count)) refl
     where
       go : (b : Bool) → leb entries (room - count) ≡ b → count ≡ count + smaller entries (room - count)
       go true e = omega (arith, smaller-left entries (room - count) (leb-true entries (room - count) e), leb-true entries (room - count) e)
-      go false e = omega (arith, smaller-right entries (room - count) (leb-false entries (room - count) e))
+      go false e = omega (arith, smaller_right entries (room - count) (leb-false entries (room - count) e))
 
-  pub all_fit : entries ≤ room - count → count + entries ≡ tallyAll entries room count
-  unfolding tallyAll
+  pub all_fit : entries ≤ room - count → count + entries ≡ tally_all entries room count
+  unfolding tally_all
   all_fit h = ap (λ (j : ℕ). count + j) (smaller-left entries (room - count) h)
 
-  pub all-full : count < room → room - count < entries → room ≡ tallyAll entries room count
-  unfolding tallyAll
-  all-full r h = omega (arith, smaller-right entries (room - count) h)
+  pub all-full : count < room → room - count < entries → room ≡ tally_all entries room count
+  unfolding tally_all
+  all-full r h = omega (arith, smaller_right entries (room - count) h)
 
 module _ (h : Head) (low high : ℕ) where
-  pub lies-below : h.low < low → false ≡ liesIn h low high
-  unfolding liesIn
-  lies-below p = rw (liesIn, lt-leb low h.low p)
+  pub lies-below : h.low < low → false ≡ lies_in h low high
+  unfolding lies_in
+  lies-below p = rw (lies_in, lt-leb low h.low p)
 
-  pub lies-up-to : low ≤ h.low → leb h.high high ≡ liesIn h low high
-  unfolding liesIn
-  lies-up-to p = rw (liesIn, le-leb low h.low p)
+  pub lies-up_to : low ≤ h.low → leb h.high high ≡ lies_in h low high
+  unfolding lies_in
+  lies-up_to p = rw (lies_in, le-leb low h.low p)
 
 -- ── A page ──────────────────────────────────────────────────────────────────────────────────────────────────────
 
-module _ (t : List ℕ) (page : ℕ) (h : Head) (f : h ≡ headIn (pageAt t page)) where
+module _ (t : List ℕ) (page : ℕ) (h : Head) (f : h ≡ head_in (page_at t page)) where
   as_read : h ≡ head_of (read t page)
   unfolding read
-  as_read = f ∙ headIn-page (pageAt t page)
+  as_read = f ∙ head_in-page (page_at t page)
 
-  length-leaf : h.kind ≡ leafKind → length (read t page).view.certs ≡ h.count
-  length-leaf k = ap length (certs-leaf t page h as_read k) ∙ length-readEach certIn certSize h.count (drop leafHeader (pageAt t page))
+  length-leaf : h.kind ≡ leaf_kind → length (read t page).view.certs ≡ h.count
+  length-leaf k = ap length (certs-leaf t page h as_read k) ∙ length-read_each cert_in cert_size h.count (drop leaf_header (page_at t page))
 
-  pub leaf_room : Within (read t page) → h.kind ≡ leafKind → h.count ≤ leafRoom
-  leaf_room w k = omega (arith, length-leaf k, w.room)
+  pub leaf_room_lem : Within (read t page) → h.kind ≡ leaf_kind → h.count ≤ leaf_room
+  leaf_room_lem w k = omega (arith, length-leaf k, w.room)
 
   head-low : h.low ≡ (read t page).low
-  unfolding read pageIn headIn
+  unfolding read page_in head_in
   head-low = ap (λ (x : Head). x.low) f
 
   head-high : h.high ≡ (read t page).high
-  unfolding read pageIn headIn
+  unfolding read page_in head_in
   head-high = ap (λ (x : Head). x.high) f
 
   module _ (a : Asked) (e : Place) (count : ℕ) where
-    pub tally-leaf : (low high : ℕ) → h.kind ≡ leafKind → low ≡ larger a.low e.low → high ≡ smaller a.high e.high
-        → tally low high a.room (readEach certIn certSize h.count (drop leafHeader (pageAt t page))) count
-        ≡ tallyAt t page a e count
-    unfolding tallyAt cutView tally
-    tally-leaf low high k p q =
+    pub tally_leaf_lem : (low high : ℕ) → h.kind ≡ leaf_kind → low ≡ larger a.low e.low → high ≡ smaller a.high e.high
+        → tally low high a.room (read_each cert_in cert_size h.count (drop leaf_header (page_at t page))) count
+        ≡ tally_at t page a e count
+    unfolding tally_at cut_view tally
+    tally_leaf_lem low high k p q =
         rw (p, q, sym (certs-leaf t page h as_read k), sym (cut-both a.low a.high e.low e.high (read t page).view.certs))
 
     -- a range that holds the page's cuts nothing
-    module _ (low high : ℕ) (w : Within (read t page)) (i : liesIn h low high ≡ true) where
+    module _ (low high : ℕ) (w : Within (read t page)) (i : lies_in h low high ≡ true) where
       from_low : low ≤ (read t page).low
-      unfolding liesIn
+      unfolding lies_in
       from_low = omega (arith, leb-true low h.low (and_left (leb low h.low) (leb h.high high) i), head-low)
 
       to_high : (read t page).high ≤ high
-      unfolding liesIn
+      unfolding lies_in
       to_high = omega (arith, leb-true h.high high (and_right (leb low h.low) (leb h.high high) i), head-high)
 
-      cut-none-off : cut low high (read t page).view.certs ≡ (read t page).view.certs
-      cut-none-off =
+      cut-none_off : cut low high (read t page).view.certs ≡ (read t page).view.certs
+      cut-none_off =
           let xs = (read t page).view.certs in
-          let own = cut_all (read t page).low (read t page).high xs w.keys-within in
-          ap (cut low high) (sym own) ∙ cut-wider (read t page).low (read t page).high low high xs from_low to_high ∙ own
+          let own = cut_all (read t page).low (read t page).high xs w.keys_within in
+          ap (cut low high) (sym own) ∙ cut_wider (read t page).low (read t page).high low high xs from_low to_high ∙ own
 
-      pub tally-whole : h.kind ≡ leafKind → low ≡ larger a.low e.low → high ≡ smaller a.high e.high
-          → tallyAll h.count a.room count ≡ tallyAt t page a e count
-      unfolding tallyAll tally
+      pub tally-whole : h.kind ≡ leaf_kind → low ≡ larger a.low e.low → high ≡ smaller a.high e.high
+          → tally_all h.count a.room count ≡ tally_at t page a e count
+      unfolding tally_all tally
       tally-whole k p q =
           ap (λ (j : ℕ). count + smaller j (a.room - count)) (sym (length-leaf k))
           ∙ ap (λ (j : ℕ). count + j) (sym (length-first (a.room - count) (read t page).view.certs))
-          ∙ ap (λ (xs : List Cert). count + length (take (a.room - count) xs)) (sym cut-none-off)
+          ∙ ap (λ (xs : List Cert). count + length (take (a.room - count) xs)) (sym cut-none_off)
           ∙ ap (λ (xs : List Cert). tally low high a.room xs count) (certs-leaf t page h as_read k)
-          ∙ tally-leaf low high k p q
+          ∙ tally_leaf_lem low high k p q

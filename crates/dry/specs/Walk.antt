@@ -1,12 +1,12 @@
 -- The rules' range walk over a table that stays as it lies, with a mark for each number that the walk would mend.
 use Rattle.std.specs.Prelude.{ℕ, zero, suc, ◌+◌, ◌-◌, Bool, true, false, not, ◌&&◌, List, [], ◌∷◌, ◌++◌, leb, ltb, length, take, get_or, set, replicate}
 use Rattle.std.proofs.Math.Option.{Option, some, none}
-use Rattle.rules.specs.Layout.{topKind, mostPages}
+use Rattle.rules.specs.Layout.{top_kind, most_pages}
 use Rattle.rules.specs.Test.{every, mem}
 use Rattle.rules.specs.Entry.{Cert, cut}
 use Rattle.rules.specs.Page.{View}
 use Rattle.rules.specs.Table.{read}
-use Rattle.rules.specs.Place.{rootPlace, kids, fits, mendable, cutView}
+use Rattle.rules.specs.Place.{root_place, kids, fits, mendable, cut_view}
 use Rattle.rules.specs.declared.Asked.{Asked}
 use Rattle.rules.specs.declared.Place.{Place}
 use Rattle.dry.specs.declared.Dry.{Dry}
@@ -32,10 +32,10 @@ pub record Sight : Type 0 where
 abbrev pub sight_of : View → List Bool → Sight
 sight_of v m = record { view = v; mended = m }
 
-unfoldable pub sightMended : ℕ → List ℕ → List Bool → Place → Option Sight
-sightMended n t m e =
+unfoldable pub sight_mended : ℕ → List ℕ → List Bool → Place → Option Sight
+sight_mended n t m e =
     elim (helps n t m e) [
-      | true ↦ some (sight_of (cutView e.low e.high (read t e.previous).view) (set m e.child true))
+      | true ↦ some (sight_of (cut_view e.low e.high (read t e.previous).view) (set m e.child true))
       | false ↦ none
     ]
 
@@ -44,7 +44,7 @@ sight n above t m e =
     elim (mem e.child above) [
       | true ↦ none
       | false ↦ elim (keeps n t m e)
-          [ true ↦ some (sight_of (read t e.child).view m) | false ↦ sightMended n t m e ]
+          [ true ↦ some (sight_of (read t e.child).view m) | false ↦ sight_mended n t m e ]
     ]
 
 -- ── The pages that meet a range ─────────────────────────────────────────────────────────────────────────────────
@@ -74,9 +74,9 @@ unfoldable pub breaks : Sighted → Sighted
 breaks d = record { whole = false; found = d.found; mended = d.mended }
 
 -- each place of a page, in key order
-unfoldable pub dryEach : (Place → Sighted → Sighted) → List Place → Sighted → Sighted
-dryEach walk [] d = d
-dryEach walk (e ∷ es) d = dryEach walk es (walk e d)
+unfoldable pub dry_each : (Place → Sighted → Sighted) → List Place → Sighted → Sighted
+dry_each walk [] d = d
+dry_each walk (e ∷ es) d = dry_each walk es (walk e d)
 
 -- parent and top are the pages above on the way; 0, which is never a child, stands for none
 unfoldable pub dry : ℕ → ℕ → Asked → ℕ → ℕ → List ℕ → Place → Sighted → Sighted
@@ -86,25 +86,25 @@ dry (suc level) n a parent top t e d =
       | false ↦ d
       | true ↦ elim (sight n (parent ∷ top ∷ []) t d.mended e) [
         | none ↦ breaks d
-        | some s ↦ dryEach (dry level n a e.child parent t) (kids e s.view) (takes a s.view d s.mended)
+        | some s ↦ dry_each (dry level n a e.child parent t) (kids e s.view) (takes a s.view d s.mended)
       ]
     ]
 
 -- before a walk nothing was mended
 unfoldable pub untouched : Sighted
-untouched = record { whole = true; found = []; mended = replicate mostPages false }
+untouched = record { whole = true; found = []; mended = replicate most_pages false }
 
-unfoldable pub dryOver : ℕ → Asked → List ℕ → Sighted
-dryOver n a t = dry topKind n a 0 0 t (rootPlace t) untouched
+unfoldable pub dry_over : ℕ → Asked → List ℕ → Sighted
+dry_over n a t = dry top_kind n a 0 0 t (root_place t) untouched
 
 -- what code keeps of it: of the certificates only how many there are
 unfoldable pub counted : Sighted → Dry
 counted d = record { whole = d.whole; count = length d.found; mended = d.mended }
 
 -- no number is marked
-unfoldable pub noneMarked : List Bool → Bool
-noneMarked [] = true
-noneMarked (x ∷ xs) = not x && noneMarked xs
+unfoldable pub none_marked : List Bool → Bool
+none_marked [] = true
+none_marked (x ∷ xs) = not x && none_marked xs
 
-unfoldable pub dryOf : ℕ → Asked → List ℕ → Dry
-dryOf n a t = counted (dryOver n a t)
+unfoldable pub dry_of : ℕ → Asked → List ℕ → Dry
+dry_of n a t = counted (dry_over n a t)

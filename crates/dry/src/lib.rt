@@ -14,13 +14,13 @@
 mod tally;
 
 ghost use Rattle.std.specs.Prelude.{◌≡◌, true, ◌+◌, ◌*◌, ◌≤◌, ◌<◌, length, [], ◌∷◌};
-ghost use Rattle.rules.specs.Layout.{pageSize};
+ghost use Rattle.rules.specs.Layout.{page_size};
 ghost use Rattle.rules.specs.Test.{mem};
 ghost use Rattle.rules.specs.Table.{fit0};
 ghost use Rattle.seen.specs.Run.{Lies};
-ghost use Rattle.dry.specs.Walk.{keeps, helps, noneMarked, dryOf};
-ghost use Rattle.dry.specs.Source.{source, markedBy};
-ghost use Rattle.dry.specs.Cursor.{inReach, meeting, meet_of, no_run, atRoot, underRoot, withLower, dueLower, dueUpper, dueRoot, dueOf, underOf, settleOf, stepping, step_of, Leads, Sure};
+ghost use Rattle.dry.specs.Walk.{keeps, helps, none_marked, dry_of};
+ghost use Rattle.dry.specs.Source.{source, marked_by};
+ghost use Rattle.dry.specs.Cursor.{in_reach, meeting, meet_of, no_run, at_root, under_root, with_lower, due_lower, due_upper, due_root, due_of, under_of, settle_of, stepping, step_of, Leads, Sure};
 ghost use Rattle.dry.specs.declared.Source.{Source};
 
 use head::{head_at, root_place};
@@ -101,7 +101,7 @@ pub enum Step {
 
 // Whether the child of a place fits it still.
 fn keeps_child(table: &[u8], n: usize, marks: &[bool], e: Place) -> bool
-    requires { length table.now ≡ n * pageSize }
+    requires { length table.now ≡ n * page_size }
     ensures { result ≡ keeps n table.now marks.now e }
 {
     if marked(marks, e.child as usize) {
@@ -112,7 +112,7 @@ fn keeps_child(table: &[u8], n: usize, marks: &[bool], e: Place) -> bool
 
 // Whether the previous page of a place can help it still.
 fn helps_child(table: &[u8], n: usize, marks: &[bool], e: Place) -> bool
-    requires { length table.now ≡ n * pageSize }
+    requires { length table.now ≡ n * page_size }
     ensures { result ≡ helps n table.now marks.now e }
 {
     if marked(marks, e.previous as usize) {
@@ -141,7 +141,7 @@ fn source_at(
     marks: &[bool],
     e: Place,
 ) -> Source
-    requires { (length table.now ≡ n * pageSize)
+    requires { (length table.now ≡ n * page_size)
         × (known ≡ true → source n (parent ∷ top ∷ []) table.now marks.now e ≡ Source.Page e.child) }
     ensures { result ≡ source n (parent ∷ top ∷ []) table.now marks.now e }
 {
@@ -162,7 +162,7 @@ fn source_at(
 
 // Whether a place's range meets the asked one.
 fn in_reach(a: Asked, e: Place) -> bool
-    ensures { result ≡ inReach a e }
+    ensures { result ≡ in_reach a e }
 {
     if e.low > a.high {
         return false;
@@ -172,7 +172,7 @@ fn in_reach(a: Asked, e: Place) -> bool
 
 // A place was entered by its source: a child that is not its own source is mended, and marked.
 fn mark_by(marks: &mut [bool], page: u16, e: Place)
-    ensures { marks.new ≡ markedBy page e marks.old }
+    ensures { marks.new ≡ marked_by page e marks.old }
 {
     if page == e.child {
         return;
@@ -191,8 +191,8 @@ fn meet(
     known: bool,
     marks: &mut [bool],
 ) -> Met
-    requires { (length table.now ≡ n * pageSize)
-        × (known ≡ true → inReach a e ≡ true → source n (parent ∷ top ∷ []) table.now marks.old e ≡ Source.Page e.child) }
+    requires { (length table.now ≡ n * page_size)
+        × (known ≡ true → in_reach a e ≡ true → source n (parent ∷ top ∷ []) table.now marks.old e ≡ Source.Page e.child) }
     ensures { meeting result marks.new ≡ meet_of n a (parent ∷ top ∷ []) table.now marks.old e }
 {
     if !in_reach(a, e) {
@@ -223,7 +223,7 @@ fn no_run() -> Run
 
 // Before the first step the root is left.
 pub fn at_root() -> Cursor
-    ensures { result ≡ atRoot }
+    ensures { result ≡ at_root }
 {
     Cursor {
         fresh: true,
@@ -237,7 +237,7 @@ pub fn at_root() -> Cursor
 
 // The way to the entries of the root.
 fn under_root(root: u16, run: Run) -> Cursor
-    ensures { result ≡ underRoot root run }
+    ensures { result ≡ under_root root run }
 {
     Cursor {
         fresh: false,
@@ -251,7 +251,7 @@ fn under_root(root: u16, run: Run) -> Cursor
 
 // The way to the entries of a page under the root.
 fn under_upper(mut c: Cursor, parent: u16, run: Run, high: u64) -> Cursor
-    ensures { result ≡ withLower c parent run high }
+    ensures { result ≡ with_lower c parent run high }
 {
     c.parent = parent;
     c.lower = run;
@@ -260,8 +260,8 @@ fn under_upper(mut c: Cursor, parent: u16, run: Run, high: u64) -> Cursor
 }
 
 fn due_lower(table: &[u8], n: usize, c: Cursor) -> Spot
-    requires { (length table.now ≡ n * pageSize) × Lies n c.lower × (0 < c.lower.left) }
-    ensures { result ≡ dueLower table.now c }
+    requires { (length table.now ≡ n * page_size) × Lies n c.lower × (0 < c.lower.left) }
+    ensures { result ≡ due_lower table.now c }
 {
     let run = c.lower;
     let mut rest = c;
@@ -276,8 +276,8 @@ fn due_lower(table: &[u8], n: usize, c: Cursor) -> Spot
 }
 
 fn due_upper(table: &[u8], n: usize, c: Cursor) -> Spot
-    requires { (length table.now ≡ n * pageSize) × Lies n c.upper × (0 < c.upper.left) }
-    ensures { result ≡ dueUpper table.now c }
+    requires { (length table.now ≡ n * page_size) × Lies n c.upper × (0 < c.upper.left) }
+    ensures { result ≡ due_upper table.now c }
 {
     let run = c.upper;
     let mut rest = c;
@@ -292,8 +292,8 @@ fn due_upper(table: &[u8], n: usize, c: Cursor) -> Spot
 }
 
 fn due_root(table: &[u8]) -> Spot
-    requires { pageSize ≤ length table.now }
-    ensures { result ≡ dueRoot table.now }
+    requires { page_size ≤ length table.now }
+    ensures { result ≡ due_root table.now }
 {
     Spot {
         level: 3,
@@ -306,8 +306,8 @@ fn due_root(table: &[u8]) -> Spot
 
 // The place that is next on a way: of the lowest page that has entries left.
 fn next_spot(table: &[u8], n: usize, c: Cursor) -> Due
-    requires { (length table.now ≡ n * pageSize) × Leads n table.now c }
-    ensures { result ≡ dueOf table.now c }
+    requires { (length table.now ≡ n * page_size) × Leads n table.now c }
+    ensures { result ≡ due_of table.now c }
 {
     if c.lower.left != 0 {
         return Due::At(due_lower(table, n, c));
@@ -323,7 +323,7 @@ fn next_spot(table: &[u8], n: usize, c: Cursor) -> Due
 
 // Entries of a page that was entered are the next of the way. No page stands below the third.
 fn under(s: Spot, run: Run) -> Step
-    ensures { result ≡ underOf s run }
+    ensures { result ≡ under_of s run }
 {
     if s.level == 3 {
         return Step::On(under_root(s.place.child, run));
@@ -339,7 +339,7 @@ fn under(s: Spot, run: Run) -> Step
 }
 
 fn settle(s: Spot, met: Met) -> Step
-    ensures { result ≡ settleOf s met }
+    ensures { result ≡ settle_of s met }
 {
     let place = s.place;
     let after = s.rest;
@@ -353,7 +353,7 @@ fn settle(s: Spot, met: Met) -> Step
 
 // One step: the next place of the way. Where it is known that every place ahead fits, no page is tested again.
 pub fn next(table: &[u8], n: usize, a: Asked, c: Cursor, known: bool, marks: &mut [bool]) -> Step
-    requires { (length table.now ≡ n * pageSize) × Leads n table.now c × (known ≡ true → Sure n a table.now c marks.old) }
+    requires { (length table.now ≡ n * page_size) × Leads n table.now c × (known ≡ true → Sure n a table.now c marks.old) }
     ensures { stepping result marks.new ≡ step_of n a table.now c marks.old }
 {
     let Due::At(s) = next_spot(table, n, c) else {
@@ -365,8 +365,8 @@ pub fn next(table: &[u8], n: usize, a: Asked, c: Cursor, known: bool, marks: &mu
 
 // The whole walk, from the root on.
 pub fn dry_of(table: &[u8], n: usize, a: Asked) -> Dry
-    requires { (length table.now ≡ n * pageSize) × (fit0 n table.now ≡ true) }
-    ensures { result ≡ dryOf n a table.now }
+    requires { (length table.now ≡ n * page_size) × (fit0 n table.now ≡ true) }
+    ensures { result ≡ dry_of n a table.now }
 {
     let mut c = at_root();
     let mut count = 0;
@@ -407,7 +407,7 @@ pub fn dry_of(table: &[u8], n: usize, a: Asked) -> Dry
 
 // Whether the walk would mend nothing: then it leaves the table as it lies, and every place that it enters fits.
 pub fn mends_nothing(d: Dry) -> bool
-    ensures { result ≡ noneMarked d.mended }
+    ensures { result ≡ none_marked d.mended }
 {
     let mut none = true;
     let mut i = 0;

@@ -2,10 +2,10 @@
 //
 // Below stand `head`, which reads headers and entries, and `rules`.
 ghost use Rattle.std.specs.Prelude.{◌≡◌, ◌+◌, ◌*◌, ◌≤◌, length, drop};
-ghost use Rattle.rules.specs.Layout.{pageSize, leafHeader, certSize, leafRoom};
-ghost use Rattle.rules.specs.Page.{readEach, certIn};
-ghost use Rattle.rules.specs.Table.{pageAt};
-ghost use Rattle.dry.specs.Count.{larger, smaller, tallied, tally, tallyAll, liesIn, Leaf, tallyAt};
+ghost use Rattle.rules.specs.Layout.{page_size, leaf_header, cert_size, leaf_room};
+ghost use Rattle.rules.specs.Page.{read_each, cert_in};
+ghost use Rattle.rules.specs.Table.{page_at};
+ghost use Rattle.dry.specs.Count.{larger, smaller, tallied, tally, tally_all, lies_in, Leaf, tally_at};
 
 use head::{Head, cert_key_at};
 use rules::{Asked, Place};
@@ -55,8 +55,8 @@ fn tally_each(
     room: usize,
     count: usize,
 ) -> usize
-    requires { ((page + 1) * pageSize ≤ length table.now) × (entries ≤ leafRoom) }
-    ensures { result ≡ tally low high room (readEach certIn certSize entries (drop leafHeader (pageAt table.now page))) count }
+    requires { ((page + 1) * page_size ≤ length table.now) × (entries ≤ leaf_room) }
+    ensures { result ≡ tally low high room (read_each cert_in cert_size entries (drop leaf_header (page_at table.now page))) count }
 {
     let mut found = count;
     let mut j = 0;
@@ -69,7 +69,7 @@ fn tally_each(
 
 // All of them, while there is room.
 fn tally_all(entries: usize, room: usize, count: usize) -> usize
-    ensures { result ≡ tallyAll entries room count }
+    ensures { result ≡ tally_all entries room count }
 {
     if count >= room {
         return count;
@@ -82,7 +82,7 @@ fn tally_all(entries: usize, room: usize, count: usize) -> usize
 
 // Whether a page's range lies in another one.
 fn lies_in(head: Head, low: u64, high: u64) -> bool
-    ensures { result ≡ liesIn head low high }
+    ensures { result ≡ lies_in head low high }
 {
     if low > head.low {
         return false;
@@ -94,7 +94,7 @@ fn lies_in(head: Head, low: u64, high: u64) -> bool
 // not looked through.
 pub fn tally_leaf(table: &[u8], page: usize, head: Head, a: Asked, e: Place, count: usize) -> usize
     requires { Leaf table.now page head }
-    ensures { result ≡ tallyAt table.now page a e count }
+    ensures { result ≡ tally_at table.now page a e count }
 {
     let entries = head.count as usize;
     let low = larger(a.low, e.low);

@@ -7,33 +7,33 @@ use Prim.Native.Nat.{ℕ, ◌+◌, ◌-◌, ◌*◌, ◌≤◌, ◌<◌}
 use native.Mathlib.Omega.{arith}
 use lib.ListN.{length, take, drop, length-append, length-take, length-drop}
 use lib.Seq.{sets}
-use Rattle.fields.specs.Field.{Bytes, leAt, put_at}
-use Rattle.rules.specs.Layout.{pageSize, leafHeader, innerHeader, leafRoom, innerRoom, certSize, child_size}
+use Rattle.fields.specs.Field.{Bytes, le_at, put_at}
+use Rattle.rules.specs.Layout.{page_size, leaf_header, inner_header, leaf_room, inner_room, cert_size, child_size}
 use Rattle.rules.specs.Test.{mem}
 use Rattle.rules.specs.Entry.{Entry, Cert, Child, keys, put, rising}
-use Rattle.rules.specs.Page.{View, isLeaf, viewIn, pageIn, count, touch, headerBytes, changeBytes, readEach, writeEach, certIn, certBytes, childIn, childBytes}
-use Rattle.rules.specs.Insert.{putCert, putChild}
-use Rattle.rules.proofs.bytes.Each.{length-readEach}
-use Rattle.rules.proofs.bytes.EntryBytes.{certBytes-certIn, childBytes-childIn, length-certBytes, length-childBytes, length-writeCerts, length-writeChildren, bytes-writeCerts, bytes-writeChildren}
-use Rattle.rules.proofs.bytes.Pages.{viewIn-leaf, viewIn-inner, isLeaf-viewIn, length-leafHeader, length-innerHeader}
-use Rattle.entries.specs.Spot.{keysIn, spot_of}
-use Rattle.entries.proofs.KeysIn.{keys-certs, keys-children, length-keysIn, spot-bound}
+use Rattle.rules.specs.Page.{View, is_leaf, view_in, page_in, count, touch, header_bytes, change_bytes, read_each, write_each, cert_in, cert_bytes, child_in, child_bytes}
+use Rattle.rules.specs.Insert.{put_cert, put_child}
+use Rattle.rules.proofs.Bytes.Each.{length-read_each}
+use Rattle.rules.proofs.Bytes.EntryBytes.{cert_bytes-cert_in, child_bytes-child_in, length-cert_bytes, length-child_bytes, length_write_certs, length_write_children, bytes_write_certs, bytes_write_children}
+use Rattle.rules.proofs.Bytes.Pages.{view_in-leaf, view_in-inner, is_leaf-view_in, length-leaf_header, length-inner_header}
+use Rattle.entries.specs.Spot.{keys_in, spot_of}
+use Rattle.entries.proofs.KeysIn.{keys-certs, keys-children, length-keys_in, spot-bound}
 use Rattle.edit.proofs.Put.{put-absent, put-present, spot-present}
-use Rattle.edit.proofs.Changed.{change-bytes, write-more, write-other}
+use Rattle.edit.proofs.Changed.{change_bytes_lem, write_more, write_other}
 use Rattle.edit.specs.Takes.{TakesCert, TakesChild, HasChild}
 
 -- a spot among a page's keys is not past them
-pub spot-below : (header size k key j : ℕ) (b : List ℕ) → j ≡ spot_of key (keysIn header size k b) → j ≤ k
-spot-below header size k key j b e = omega (arith, spot-bound key (keysIn header size k b), length-keysIn header size k b)
+pub spot-below : (header size k key j : ℕ) (b : List ℕ) → j ≡ spot_of key (keys_in header size k b) → j ≤ k
+spot-below header size k key j b e = omega (arith, spot-bound key (keys_in header size k b), length-keys_in header size k b)
 
 -- ── Entries of either size ──────────────────────────────────────────────────────────────────────────────────────
 
-module _ {B : Type 0} (read : List ℕ → Entry B) (write : Entry B → List ℕ) (header size : ℕ) (sized : (x : Entry B) → length (write x) ≡ size) (forth : (b : List ℕ) → Bytes b → size ≤ length b → write (read b) ≡ take size b) (keyed : (k : ℕ) (b : List ℕ) → keys (readEach read size k (drop header b)) ≡ keysIn header size k b) (b : List ℕ) (k : ℕ) (h : Bytes b) (x : Entry B) (j : ℕ) (e : j ≡ spot_of x.key (keysIn header size k b)) where
+module _ {B : Type 0} (read : List ℕ → Entry B) (write : Entry B → List ℕ) (header size : ℕ) (sized : (x : Entry B) → length (write x) ≡ size) (forth : (b : List ℕ) → Bytes b → size ≤ length b → write (read b) ≡ take size b) (keyed : (k : ℕ) (b : List ℕ) → keys (read_each read size k (drop header b)) ≡ keys_in header size k b) (b : List ℕ) (k : ℕ) (h : Bytes b) (x : Entry B) (j : ℕ) (e : j ≡ spot_of x.key (keys_in header size k b)) where
   abbrev old : List (Entry B)
-  old = readEach read size k (drop header b)
+  old = read_each read size k (drop header b)
 
   long : length old ≡ k
-  long = length-readEach read size k (drop header b)
+  long = length-read_each read size k (drop header b)
 
   module _ (absent : mem x.key (keys old) ≡ false) where
     more-at : put x old ≡ take j old ++ (x ∷ drop j old)
@@ -43,9 +43,9 @@ module _ {B : Type 0} (read : List ℕ → Entry B) (write : Entry B → List �
     length_more = rw more-at (simp (length-append, length-take, length-drop, long) (omega (arith, spot-below header size k x.key j b e)))
 
     bytes-more : header + size * k + size ≤ length b
-        → sets b header (writeEach write (put x old))
+        → sets b header (write_each write (put x old))
         ≡ sets (sets b (header + size * j + size) (take (size * (k - j)) (drop (header + size * j) b))) (header + size * j) (write x)
-    bytes-more l = rw more-at (write-more read write size sized forth b header k j x h l (spot-below header size k x.key j b e))
+    bytes-more l = rw more-at (write_more read write size sized forth b header k j x h l (spot-below header size k x.key j b e))
 
   module _ (present : mem x.key (keys old) ≡ true) (rises : rising (keys old) ≡ true) where
     spot-other : 0 < j
@@ -61,86 +61,86 @@ module _ {B : Type 0} (read : List ℕ → Entry B) (write : Entry B → List �
         rw other_at (simp (length-append, length-take, length-drop, long) (omega (arith, spot-other, spot-below header size k x.key j b e)))
 
     bytes-other : header + size * k ≤ length b
-        → sets b header (writeEach write (put x old)) ≡ sets b (header + size * (j - 1)) (write x)
+        → sets b header (write_each write (put x old)) ≡ sets b (header + size * (j - 1)) (write x)
     bytes-other l =
-        rw other_at (write-other read write size sized forth b header k (j - 1) x h l (omega (arith, spot-other, spot-below header size k x.key j b e)))
+        rw other_at (write_other read write size sized forth b header k (j - 1) x h l (omega (arith, spot-other, spot-below header size k x.key j b e)))
 
 -- ── A leaf ──────────────────────────────────────────────────────────────────────────────────────────────────────
 
-pub leaf_room : (b : List ℕ) (key : ℕ) → TakesCert key (viewIn b) → leAt b 2 2 < leafRoom
-leaf_room b key t = rw (viewIn-leaf b (sym (isLeaf-viewIn b) ∙ t.leaf), length-readEach) at t.room
+pub leaf_room_lem : (b : List ℕ) (key : ℕ) → TakesCert key (view_in b) → le_at b 2 2 < leaf_room
+leaf_room_lem b key t = rw (view_in-leaf b (sym (is_leaf-view_in b) ∙ t.leaf), length-read_each) at t.room
 
-leaf-header : (b : List ℕ) (x : Cert) (c : ℕ) → isLeaf (viewIn b) ≡ true → length (headerBytes (touch c (putCert x (viewIn b)) (pageIn b))) ≡ leafHeader
-unfolding touch putCert isLeaf
-leaf-header b x c e = length-leafHeader (touch c (putCert x (viewIn b)) (pageIn b)) e
+leaf_header_lem : (b : List ℕ) (x : Cert) (c : ℕ) → is_leaf (view_in b) ≡ true → length (header_bytes (touch c (put_cert x (view_in b)) (page_in b))) ≡ leaf_header
+unfolding touch put_cert is_leaf
+leaf_header_lem b x c e = length-leaf_header (touch c (put_cert x (view_in b)) (page_in b)) e
 
-pub cert-bytes : (b : List ℕ) (x : Cert) (c j : ℕ) → Bytes b → length b ≡ pageSize → TakesCert x.key (viewIn b)
-    → j ≡ spot_of x.key (keysIn leafHeader certSize (leAt b 2 2) b)
-    → changeBytes (touch c (putCert x (viewIn b)) (pageIn b)) b
-    ≡ put_at (put_at (sets (sets b (leafHeader + certSize * j + certSize) (take (leafHeader + certSize * leAt b 2 2 - (leafHeader + certSize * j)) (drop (leafHeader + certSize * j) b))) (leafHeader + certSize * j) (certBytes x)) 2 2 (leAt b 2 2 + 1)) 12 4 c
-unfolding putCert count writeEach
-cert-bytes b x c j h l t e =
-    let k = leAt b 2 2 in
-    let leaf = viewIn-leaf b (sym (isLeaf-viewIn b) ∙ t.leaf) in
-    let xs = put x (readEach certIn certSize k (drop leafHeader b)) in
-    let v : View = putCert x (viewIn b) in
-    let room = leaf_room b x.key t in
+pub cert_bytes_lem : (b : List ℕ) (x : Cert) (c j : ℕ) → Bytes b → length b ≡ page_size → TakesCert x.key (view_in b)
+    → j ≡ spot_of x.key (keys_in leaf_header cert_size (le_at b 2 2) b)
+    → change_bytes (touch c (put_cert x (view_in b)) (page_in b)) b
+    ≡ put_at (put_at (sets (sets b (leaf_header + cert_size * j + cert_size) (take (leaf_header + cert_size * le_at b 2 2 - (leaf_header + cert_size * j)) (drop (leaf_header + cert_size * j) b))) (leaf_header + cert_size * j) (cert_bytes x)) 2 2 (le_at b 2 2 + 1)) 12 4 c
+unfolding put_cert count write_each
+cert_bytes_lem b x c j h l t e =
+    let k = le_at b 2 2 in
+    let leaf = view_in-leaf b (sym (is_leaf-view_in b) ∙ t.leaf) in
+    let xs = put x (read_each cert_in cert_size k (drop leaf_header b)) in
+    let v : View = put_cert x (view_in b) in
+    let room = leaf_room_lem b x.key t in
     let absent = rw leaf at t.absent in
-    let n = length_more certIn certBytes leafHeader certSize length-certBytes certBytes-certIn keys-certs b k h x j e absent in
-    let w : writeEach certBytes v.certs ++ writeEach childBytes v.children ≡ writeEach certBytes xs = rw (leaf, append-nil) in
+    let n = length_more cert_in cert_bytes leaf_header cert_size length-cert_bytes cert_bytes-cert_in keys-certs b k h x j e absent in
+    let w : write_each cert_bytes v.certs ++ write_each child_bytes v.children ≡ write_each cert_bytes xs = rw (leaf, append-nil) in
     let counted : count v ≡ k + 1 = rw (leaf, n) (omega arith) in
-    let d : certSize * (k - j) ≡ leafHeader + certSize * k - (leafHeader + certSize * j) = omega (arith, spot-below leafHeader certSize k x.key j b e) in
-    change-bytes leafHeader b (writeEach certBytes xs) v c (omega arith) (leaf-header b x c t.leaf) h (rw leaf) (bytes-writeCerts xs) w (rw (length-writeCerts xs, n) (omega arith))
-    ∙ rw (counted, bytes-more certIn certBytes leafHeader certSize length-certBytes certBytes-certIn keys-certs b k h x j e absent (omega arith), d)
+    let d : cert_size * (k - j) ≡ leaf_header + cert_size * k - (leaf_header + cert_size * j) = omega (arith, spot-below leaf_header cert_size k x.key j b e) in
+    change_bytes_lem leaf_header b (write_each cert_bytes xs) v c (omega arith) (leaf_header_lem b x c t.leaf) h (rw leaf) (bytes_write_certs xs) w (rw (length_write_certs xs, n) (omega arith))
+    ∙ rw (counted, bytes-more cert_in cert_bytes leaf_header cert_size length-cert_bytes cert_bytes-cert_in keys-certs b k h x j e absent (omega arith), d)
 
 -- ── An inner page ───────────────────────────────────────────────────────────────────────────────────────────────
 
-pub inner_room : (b : List ℕ) → isLeaf (viewIn b) ≡ false → length (viewIn b).children < innerRoom → leAt b 2 2 < innerRoom
-inner_room b e h = rw (viewIn-inner b (sym (isLeaf-viewIn b) ∙ e), length-readEach) at h
+pub inner_room_lem : (b : List ℕ) → is_leaf (view_in b) ≡ false → length (view_in b).children < inner_room → le_at b 2 2 < inner_room
+inner_room_lem b e h = rw (view_in-inner b (sym (is_leaf-view_in b) ∙ e), length-read_each) at h
 
-inner-header : (b : List ℕ) (x : Child) (c : ℕ) → isLeaf (viewIn b) ≡ false → length (headerBytes (touch c (putChild x (viewIn b)) (pageIn b))) ≡ innerHeader
-unfolding touch putChild isLeaf
-inner-header b x c e = length-innerHeader (touch c (putChild x (viewIn b)) (pageIn b)) e
+inner_header_lem : (b : List ℕ) (x : Child) (c : ℕ) → is_leaf (view_in b) ≡ false → length (header_bytes (touch c (put_child x (view_in b)) (page_in b))) ≡ inner_header
+unfolding touch put_child is_leaf
+inner_header_lem b x c e = length-inner_header (touch c (put_child x (view_in b)) (page_in b)) e
 
-module _ (b : List ℕ) (x : Child) (c j : ℕ) (h : Bytes b) (l : length b ≡ pageSize) (e : j ≡ spot_of x.key (keysIn innerHeader child_size (leAt b 2 2) b)) where
-  pub child-bytes : TakesChild x.key (viewIn b)
-      → changeBytes (touch c (putChild x (viewIn b)) (pageIn b)) b
-      ≡ put_at (put_at (sets (sets b (innerHeader + child_size * j + child_size) (take (innerHeader + child_size * leAt b 2 2 - (innerHeader + child_size * j)) (drop (innerHeader + child_size * j) b))) (innerHeader + child_size * j) (childBytes x)) 2 2 (leAt b 2 2 + 1)) 12 4 c
-  unfolding putChild count writeEach
-  child-bytes t =
-      let k = leAt b 2 2 in
-      let inner = viewIn-inner b (sym (isLeaf-viewIn b) ∙ t.inner) in
-      let xs = put x (readEach childIn child_size k (drop innerHeader b)) in
-      let v : View = putChild x (viewIn b) in
-      let room = inner_room b t.inner t.room in
+module _ (b : List ℕ) (x : Child) (c j : ℕ) (h : Bytes b) (l : length b ≡ page_size) (e : j ≡ spot_of x.key (keys_in inner_header child_size (le_at b 2 2) b)) where
+  pub child_bytes_lem : TakesChild x.key (view_in b)
+      → change_bytes (touch c (put_child x (view_in b)) (page_in b)) b
+      ≡ put_at (put_at (sets (sets b (inner_header + child_size * j + child_size) (take (inner_header + child_size * le_at b 2 2 - (inner_header + child_size * j)) (drop (inner_header + child_size * j) b))) (inner_header + child_size * j) (child_bytes x)) 2 2 (le_at b 2 2 + 1)) 12 4 c
+  unfolding put_child count write_each
+  child_bytes_lem t =
+      let k = le_at b 2 2 in
+      let inner = view_in-inner b (sym (is_leaf-view_in b) ∙ t.inner) in
+      let xs = put x (read_each child_in child_size k (drop inner_header b)) in
+      let v : View = put_child x (view_in b) in
+      let room = inner_room_lem b t.inner t.room in
       let absent = rw inner at t.absent in
-      let n = length_more childIn childBytes innerHeader child_size length-childBytes childBytes-childIn keys-children b k h x j e absent in
-      let w : writeEach certBytes v.certs ++ writeEach childBytes v.children ≡ writeEach childBytes xs = rw inner in
+      let n = length_more child_in child_bytes inner_header child_size length-child_bytes child_bytes-child_in keys-children b k h x j e absent in
+      let w : write_each cert_bytes v.certs ++ write_each child_bytes v.children ≡ write_each child_bytes xs = rw inner in
       let counted : count v ≡ k + 1 = rw (inner, n) (omega arith) in
-      let d : child_size * (k - j) ≡ innerHeader + child_size * k - (innerHeader + child_size * j) = omega (arith, spot-below innerHeader child_size k x.key j b e) in
-      change-bytes innerHeader b (writeEach childBytes xs) v c (omega arith) (inner-header b x c t.inner) h (rw inner) (bytes-writeChildren xs) w (rw (length-writeChildren xs, n) (omega arith))
-      ∙ rw (counted, bytes-more childIn childBytes innerHeader child_size length-childBytes childBytes-childIn keys-children b k h x j e absent (omega arith), d)
+      let d : child_size * (k - j) ≡ inner_header + child_size * k - (inner_header + child_size * j) = omega (arith, spot-below inner_header child_size k x.key j b e) in
+      change_bytes_lem inner_header b (write_each child_bytes xs) v c (omega arith) (inner_header_lem b x c t.inner) h (rw inner) (bytes_write_children xs) w (rw (length_write_children xs, n) (omega arith))
+      ∙ rw (counted, bytes-more child_in child_bytes inner_header child_size length-child_bytes child_bytes-child_in keys-children b k h x j e absent (omega arith), d)
 
-  module _ (t : HasChild x.key (viewIn b)) where
-    inner-has : viewIn b ≡ record { kind = leAt b 0 2; certs = []; children = readEach childIn child_size (leAt b 2 2) (drop innerHeader b) }
-    inner-has = viewIn-inner b (sym (isLeaf-viewIn b) ∙ t.inner)
+  module _ (t : HasChild x.key (view_in b)) where
+    inner-has : view_in b ≡ record { kind = le_at b 0 2; certs = []; children = read_each child_in child_size (le_at b 2 2) (drop inner_header b) }
+    inner-has = view_in-inner b (sym (is_leaf-view_in b) ∙ t.inner)
 
     pub other-spot : 0 < j
     other-spot =
-        spot-other childIn childBytes innerHeader child_size length-childBytes childBytes-childIn keys-children b (leAt b 2 2) h x j e (rw inner-has at t.present) (rw inner-has at t.rises)
+        spot-other child_in child_bytes inner_header child_size length-child_bytes child_bytes-child_in keys-children b (le_at b 2 2) h x j e (rw inner-has at t.present) (rw inner-has at t.rises)
 
-    pub other-bytes : changeBytes (touch c (putChild x (viewIn b)) (pageIn b)) b
-        ≡ put_at (put_at (sets b (innerHeader + child_size * (j - 1)) (childBytes x)) 2 2 (leAt b 2 2)) 12 4 c
-    unfolding putChild count writeEach
+    pub other-bytes : change_bytes (touch c (put_child x (view_in b)) (page_in b)) b
+        ≡ put_at (put_at (sets b (inner_header + child_size * (j - 1)) (child_bytes x)) 2 2 (le_at b 2 2)) 12 4 c
+    unfolding put_child count write_each
     other-bytes =
-        let k = leAt b 2 2 in
-        let xs = put x (readEach childIn child_size k (drop innerHeader b)) in
-        let v : View = putChild x (viewIn b) in
-        let room = inner_room b t.inner t.room in
+        let k = le_at b 2 2 in
+        let xs = put x (read_each child_in child_size k (drop inner_header b)) in
+        let v : View = put_child x (view_in b) in
+        let room = inner_room_lem b t.inner t.room in
         let present = rw inner-has at t.present in
         let rises = rw inner-has at t.rises in
-        let n = length-other childIn childBytes innerHeader child_size length-childBytes childBytes-childIn keys-children b k h x j e present rises in
-        let w : writeEach certBytes v.certs ++ writeEach childBytes v.children ≡ writeEach childBytes xs = rw inner-has in
+        let n = length-other child_in child_bytes inner_header child_size length-child_bytes child_bytes-child_in keys-children b k h x j e present rises in
+        let w : write_each cert_bytes v.certs ++ write_each child_bytes v.children ≡ write_each child_bytes xs = rw inner-has in
         let counted : count v ≡ k = rw (inner-has, n) (omega arith) in
-        change-bytes innerHeader b (writeEach childBytes xs) v c (omega arith) (inner-header b x c t.inner) h (rw inner-has) (bytes-writeChildren xs) w (rw (length-writeChildren xs, n) (omega arith))
-        ∙ rw (counted, bytes-other childIn childBytes innerHeader child_size length-childBytes childBytes-childIn keys-children b k h x j e present rises (omega arith))
+        change_bytes_lem inner_header b (write_each child_bytes xs) v c (omega arith) (inner_header_lem b x c t.inner) h (rw inner-has) (bytes_write_children xs) w (rw (length_write_children xs, n) (omega arith))
+        ∙ rw (counted, bytes-other child_in child_bytes inner_header child_size length-child_bytes child_bytes-child_in keys-children b k h x j e present rises (omega arith))

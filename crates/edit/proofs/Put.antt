@@ -9,14 +9,14 @@ use borrow.Author.Tests.{ltb-true, ltb-false, eqb-true, eqb-false, le-ltb}
 use lib.Dec.{ltb, eqb}
 use lib.ListN.{length, take, drop}
 use Rattle.rules.specs.Test.{mem}
-use Rattle.rules.specs.Entry.{Entry, keys, put, without, risesFrom, rising}
+use Rattle.rules.specs.Entry.{Entry, keys, put, without, rises_from, rising}
 use Rattle.entries.specs.Spot.{spot_of}
-use Rattle.rules.proofs.entries.Rises.{rises-head, rises-mem, rising-from, rising-of-rises}
-use Rattle.rules.proofs.entries.Tests.{or-none}
-use Rattle.rules.proofs.entries.Withouts.{without-head, without-tail}
+use Rattle.rules.proofs.Entries.Rises.{rises-head, rises-mem, rising-from, rising-of-rises}
+use Rattle.rules.proofs.Entries.Tests.{or_none}
+use Rattle.rules.proofs.Entries.Withouts.{without-head, without_tail}
 use Rattle.entries.proofs.Cut.{spot-cons, spot-first}
 
-spot-above : (k : ℕ) (xs : List ℕ) → risesFrom k xs ≡ true → spot_of k xs ≡ 0
+spot-above : (k : ℕ) (xs : List ℕ) → rises_from k xs ≡ true → spot_of k xs ≡ 0
 unfolding spot_of
 spot-above k [] r = refl
 spot-above k (x ∷ xs) r = spot-first k x xs (rises-head k x xs r)
@@ -36,14 +36,14 @@ module _ {B : Type 0} (x : Entry B) where
       → put x ys ≡ take (spot_of x.key (keys ys)) ys ++ (x ∷ drop (spot_of x.key (keys ys)) ys)
   unfolding put keys mem spot_of
   put-absent [] h = refl
-  put-absent (y ∷ ys) h = go (ltb x.key y.key) refl (put-absent ys (or-none (eqb x.key y.key) (mem x.key (keys ys)) h).1)
+  put-absent (y ∷ ys) h = go (ltb x.key y.key) refl (put-absent ys (or_none (eqb x.key y.key) (mem x.key (keys ys)) h).1)
     where
       go : (t : Bool) → ltb x.key y.key ≡ t
           → put x ys ≡ take (spot_of x.key (keys ys)) ys ++ (x ∷ drop (spot_of x.key (keys ys)) ys)
           → put x (y ∷ ys) ≡ take (spot_of x.key (keys (y ∷ ys))) (y ∷ ys) ++ (x ∷ drop (spot_of x.key (keys (y ∷ ys))) (y ∷ ys))
       go true e ih = rw (put, e, spot-first x.key y.key (keys ys) (ltb-true x.key y.key e))
       go false e ih =
-          rw (put, e, (or-none (eqb x.key y.key) (mem x.key (keys ys)) h).0, spot-cons x.key y.key (keys ys) (ltb-false x.key y.key e), ih)
+          rw (put, e, (or_none (eqb x.key y.key) (mem x.key (keys ys)) h).0, spot-cons x.key y.key (keys ys) (ltb-false x.key y.key e), ih)
 
   -- over an entry of the same key
   pub put-present : (ys : List (Entry B)) → mem x.key (keys ys) ≡ true → rising (keys ys) ≡ true
@@ -52,7 +52,7 @@ module _ {B : Type 0} (x : Entry B) where
   put-present [] m r = absurd (let z : ◌≡◌ {A = ℕ} 0 1 = cc in omega arith)
   put-present (y ∷ ys) m r = go (eqb x.key y.key) refl (put-present ys)
     where
-      rises : risesFrom y.key (keys ys) ≡ true
+      rises : rises_from y.key (keys ys) ≡ true
       rises = rising-from y.key (keys ys) r
 
       go : (t : Bool) → eqb x.key y.key ≡ t
@@ -76,7 +76,7 @@ module _ {B : Type 0} (x : Entry B) where
   keys-present [] m r = absurd (let z : ◌≡◌ {A = ℕ} 0 1 = cc in omega arith)
   keys-present (y ∷ ys) m r = go (eqb x.key y.key) refl (keys-present ys)
     where
-      rises : risesFrom y.key (keys ys) ≡ true
+      rises : rises_from y.key (keys ys) ≡ true
       rises = rising-from y.key (keys ys) r
 
       go : (t : Bool) → eqb x.key y.key ≡ t
@@ -109,7 +109,7 @@ unfolding keys mem
 without-present k [] m r = absurd (let z : ◌≡◌ {A = ℕ} 0 1 = cc in omega arith)
 without-present {B} k (y ∷ ys) m r = go (eqb k y.key) refl (without-present k ys)
   where
-    rises : risesFrom y.key (keys ys) ≡ true
+    rises : rises_from y.key (keys ys) ≡ true
     rises = rising-from y.key (keys ys) r
 
     go : (t : Bool) → eqb k y.key ≡ t
@@ -125,4 +125,4 @@ without-present {B} k (y ∷ ys) m r = go (eqb k y.key) refl (without-present k 
         let a = rises-mem y.key k (keys ys) rises n in
         let p : spot_of k (keys ys) ≡ suc (spot_of k (keys ys) - 1) = omega (arith, spot-present k (keys ys) n q) in
         let s : spot_of k (y.key ∷ keys ys) - 1 ≡ suc (spot_of k (keys ys) - 1) = omega (arith, spot-cons k y.key (keys ys) (omega arith)) in
-        rw (without-tail k y ys (eqb-false k y.key e), s, spot-cons k y.key (keys ys) (omega arith), ih n q)
+        rw (without_tail k y ys (eqb-false k y.key e), s, spot-cons k y.key (keys ys) (omega arith), ih n q)

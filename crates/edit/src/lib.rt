@@ -9,19 +9,19 @@
 
 ghost use Rattle.std.specs.Prelude.{◌≡◌, ◌+◌, ◌*◌, ◌≤◌, length};
 ghost use Rattle.fields.specs.Field.{put_at};
-ghost use Rattle.rules.specs.Layout.{pageSize, commonHeader};
-ghost use Rattle.rules.specs.Page.{viewIn, pageIn, changeBytes, shrinkBytes, touch};
+ghost use Rattle.rules.specs.Layout.{page_size, common_header};
+ghost use Rattle.rules.specs.Page.{view_in, page_in, change_bytes, shrink_bytes, touch};
 ghost use Rattle.rules.specs.Table.{read};
-ghost use Rattle.rules.specs.Insert.{newChild, putCert, putChild, changed};
-ghost use Rattle.rules.specs.Withdraw.{withoutCert, removed};
-ghost use Rattle.entries.specs.Spot.{newCert};
-ghost use Rattle.edit.specs.Takes.{TakesCert, HasCert, TakesChild, HasChild, TakesTwins, twinsOf};
+ghost use Rattle.rules.specs.Insert.{new_child, put_cert, put_child, changed};
+ghost use Rattle.rules.specs.Withdraw.{without_cert, removed};
+ghost use Rattle.entries.specs.Spot.{new_cert};
+ghost use Rattle.edit.specs.Takes.{TakesCert, HasCert, TakesChild, HasChild, TakesTwins, twins_of};
 
 use rules::{AT_COUNT, AT_TOUCHED, CERT, CHILD, INNER_HEADER, LEAF_HEADER, PAGE};
 
 // A page that is changed now, with so many entries.
 fn stamp(page: &mut [u8], count: u16, c: u32)
-    requires { commonHeader ≤ length page.old }
+    requires { common_header ≤ length page.old }
     ensures { page.new ≡ put_at (put_at page.old 2 2 count) 12 4 c }
 {
     fields::put16(page, AT_COUNT, count);
@@ -29,9 +29,9 @@ fn stamp(page: &mut [u8], count: u16, c: u32)
 }
 
 fn put_cert_in(page: &mut [u8], key: u64, value: u32, c: u32)
-    requires page_len { length page.old ≡ pageSize }
-    requires takes_cert { TakesCert key (viewIn page.old) }
-    ensures { page.new ≡ changeBytes (touch c (putCert (newCert key value) (viewIn page.old)) (pageIn page.old)) page.old }
+    requires page_len { length page.old ≡ page_size }
+    requires takes_cert { TakesCert key (view_in page.old) }
+    ensures { page.new ≡ change_bytes (touch c (put_cert (new_cert key value) (view_in page.old)) (page_in page.old)) page.old }
 {
     let count = fields::get16(page, AT_COUNT);
     let at = LEAF_HEADER + CERT * entries::spot(page, LEAF_HEADER, CERT, count as usize, key);
@@ -42,9 +42,9 @@ fn put_cert_in(page: &mut [u8], key: u64, value: u32, c: u32)
 
 // The certificate under a key gives up its place: it is the one before the key's spot.
 fn remove_cert_in(page: &mut [u8], key: u64, c: u32)
-    requires page_len { length page.old ≡ pageSize }
-    requires has_cert { HasCert key (viewIn page.old) }
-    ensures { page.new ≡ shrinkBytes (touch c (withoutCert key (viewIn page.old)) (pageIn page.old)) page.old }
+    requires page_len { length page.old ≡ page_size }
+    requires has_cert { HasCert key (view_in page.old) }
+    ensures { page.new ≡ shrink_bytes (touch c (without_cert key (view_in page.old)) (page_in page.old)) page.old }
 {
     let count = fields::get16(page, AT_COUNT);
     let at = LEAF_HEADER + CERT * entries::spot(page, LEAF_HEADER, CERT, count as usize, key);
@@ -55,9 +55,9 @@ fn remove_cert_in(page: &mut [u8], key: u64, c: u32)
 }
 
 fn put_child_in(page: &mut [u8], key: u64, child: u16, previous: u16, c: u32)
-    requires page_len { length page.old ≡ pageSize }
-    requires takes_child { TakesChild key (viewIn page.old) }
-    ensures { page.new ≡ changeBytes (touch c (putChild (newChild c key child previous) (viewIn page.old)) (pageIn page.old)) page.old }
+    requires page_len { length page.old ≡ page_size }
+    requires takes_child { TakesChild key (view_in page.old) }
+    ensures { page.new ≡ change_bytes (touch c (put_child (new_child c key child previous) (view_in page.old)) (page_in page.old)) page.old }
 {
     let count = fields::get16(page, AT_COUNT);
     let at = INNER_HEADER + CHILD * entries::spot(page, INNER_HEADER, CHILD, count as usize, key);
@@ -68,9 +68,9 @@ fn put_child_in(page: &mut [u8], key: u64, child: u16, previous: u16, c: u32)
 
 // The entry under a key gives way to another.
 fn set_child_in(page: &mut [u8], key: u64, child: u16, previous: u16, c: u32)
-    requires page_len { length page.old ≡ pageSize }
-    requires has_child { HasChild key (viewIn page.old) }
-    ensures { page.new ≡ changeBytes (touch c (putChild (newChild c key child previous) (viewIn page.old)) (pageIn page.old)) page.old }
+    requires page_len { length page.old ≡ page_size }
+    requires has_child { HasChild key (view_in page.old) }
+    ensures { page.new ≡ change_bytes (touch c (put_child (new_child c key child previous) (view_in page.old)) (page_in page.old)) page.old }
 {
     let count = fields::get16(page, AT_COUNT);
     let past = entries::spot(page, INNER_HEADER, CHILD, count as usize, key);
@@ -94,9 +94,9 @@ fn put_twins_in(
     previous: u16,
     c: u32,
 )
-    requires page_len { length page.old ≡ pageSize }
-    requires takes_twins { TakesTwins low middle (viewIn page.old) }
-    ensures { page.new ≡ changeBytes (touch c (twinsOf c low lower middle upper previous (viewIn page.old)) (pageIn page.old)) page.old }
+    requires page_len { length page.old ≡ page_size }
+    requires takes_twins { TakesTwins low middle (view_in page.old) }
+    ensures { page.new ≡ change_bytes (touch c (twins_of c low lower middle upper previous (view_in page.old)) (page_in page.old)) page.old }
 {
     set_child_in(page, low, lower, previous, c);
     put_child_in(page, middle, upper, previous, c);
@@ -104,9 +104,9 @@ fn put_twins_in(
 
 // A certificate is put into a leaf in key order.
 pub fn put_cert(table: &mut [u8], i: usize, key: u64, value: u32, c: u32)
-    requires page_size_in_bounds { (i + 1) * pageSize ≤ length table.old }
+    requires page_size_in_bounds { (i + 1) * page_size ≤ length table.old }
     requires takes_cert { TakesCert key (read table.old i).view }
-    ensures { table.new ≡ changed c (putCert (newCert key value)) table.old i }
+    ensures { table.new ≡ changed c (put_cert (new_cert key value)) table.old i }
 {
     let a = i * PAGE;
     let end = a + PAGE;
@@ -115,7 +115,7 @@ pub fn put_cert(table: &mut [u8], i: usize, key: u64, value: u32, c: u32)
 
 // A certificate is taken out of a leaf.
 pub fn remove_cert(table: &mut [u8], i: usize, key: u64, c: u32)
-    requires page_size_in_bounds { (i + 1) * pageSize ≤ length table.old }
+    requires page_size_in_bounds { (i + 1) * page_size ≤ length table.old }
     requires has_cert { HasCert key (read table.old i).view }
     ensures { table.new ≡ removed c key table.old i }
 {
@@ -135,9 +135,9 @@ pub fn put_twins(
     previous: u16,
     c: u32,
 )
-    requires page_size_in_bounds { (i + 1) * pageSize ≤ length table.old }
+    requires page_size_in_bounds { (i + 1) * page_size ≤ length table.old }
     requires takes_twins { TakesTwins low middle (read table.old i).view }
-    ensures { table.new ≡ changed c (twinsOf c low lower middle upper previous) table.old i }
+    ensures { table.new ≡ changed c (twins_of c low lower middle upper previous) table.old i }
 {
     let a = i * PAGE;
     let end = a + PAGE;

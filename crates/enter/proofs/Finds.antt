@@ -7,9 +7,9 @@ use Prim.Native.Nat.{ℕ}
 use borrow.Author.Tests.{eqb-true, eqb-false}
 use lib.Dec.{eqb}
 use Rattle.rules.specs.Entry.{Child, Below, find}
-use Rattle.rules.proofs.bytes.All.{All, nil, cons}
-use Rattle.rules.proofs.bytes.EntryBytes.{WideChild}
-use Rattle.rules.proofs.entries.Entries.{find_head, find-tail}
+use Rattle.rules.proofs.Bytes.All.{All, nil, cons}
+use Rattle.rules.proofs.Bytes.EntryBytes.{WideChild}
+use Rattle.rules.proofs.Entries.Entries.{find_head, find_tail}
 
 same-entry : {j k : ℕ} {a b : Below} → j ≡ k → a ≡ b → ◌≡◌ {A = Child} (record { key = j; value = a }) (record { key = k; value = b })
 same-entry p q = cc
@@ -24,4 +24,4 @@ wide-find k v (cons {x = x} {xs} w m) h = go (eqb k x.key) refl (wide-find k v m
     go true e ih =
         let q = some-injective x.value v (sym (find_head k x xs (eqb-true k x.key e)) ∙ h) in
         subst WideChild (same-entry (sym (eqb-true k x.key e)) q) w
-    go false e ih = ih (sym (find-tail k x xs (eqb-false k x.key e)) ∙ h)
+    go false e ih = ih (sym (find_tail k x xs (eqb-false k x.key e)) ∙ h)

@@ -7,16 +7,16 @@ use mathlib.Core.Option.{some, some-injective, none-ne-some}
 use Prim.Native.Nat.{ℕ, ◌*◌, ◌≤◌, ◌<◌}
 use lib.ListN.{length}
 use Rattle.fields.specs.Field.{Bytes}
-use Rattle.rules.specs.Layout.{pageSize}
+use Rattle.rules.specs.Layout.{page_size}
 use Rattle.rules.specs.Test.{mem}
 use Rattle.rules.specs.Page.{Page}
 use Rattle.rules.specs.Table.{read, build}
 use Rattle.rules.specs.Place.{fits, mendable, mended}
 use Rattle.rules.specs.Enter as rules
 use Rattle.rules.specs.declared.Place.{Place}
-use Rattle.rules.proofs.entries.Places.{Fits, fits-true, mendable-true, mended-fits}
-use Rattle.rules.proofs.bytes.Tables.{has-page, length-build, bytes-build, read-build-other}
-use Rattle.rules.proofs.entries.Tests.{not-both}
+use Rattle.rules.proofs.Entries.Places.{Fits, fits_true, mendable_true, mended-fits}
+use Rattle.rules.proofs.Bytes.Tables.{has-page, length-build, bytes-build, read-build-other}
+use Rattle.rules.proofs.Entries.Tests.{not_both}
 use Rattle.enter.proofs.Mended.{Narrow, room-mended, read-mended}
 
 -- what entering comes to: the page as it stands, mended, or none
@@ -40,7 +40,7 @@ comes n c above t e = go (mem e.child above) refl (fits n e (read t e.child)) re
     go false a false g false h = stops {x = rules.enter n c above t e} (rw (rules.enter, a, g, rules.mend, h))
 
 module _ {n c : ℕ} {above t : List ℕ} {e : Place} where
-  module _ (b : Bytes t) (w : Narrow c e) (l : length t ≡ n * pageSize) (h : e.child < n) where
+  module _ (b : Bytes t) (w : Narrow c e) (l : length t ≡ n * page_size) (h : e.child < n) where
     -- the page found is read where it was entered
     pub stands : (x : rules.Entered) → Comes n c above t e x → (p : Page) → x.page ≡ some p → read x.table e.child ≡ p
     stands x (stood f g) p q =
@@ -58,10 +58,10 @@ module _ {n c : ℕ} {above t : List ℕ} {e : Place} where
     stays x (mends a m g) j i =
         ap (λ (y : rules.Entered). read y.table j) g
         ∙ read-build-other t e.child (mended c e (read t e.previous)) (has-page t n e.child l h) (room-mended n c t e b w m)
-        j (λ q. not-both (ap (λ (k : ℕ). mem k above) (sym q) ∙ i) a)
+        j (λ q. not_both (ap (λ (k : ℕ). mem k above) (sym q) ∙ i) a)
     stays x (stops g) j i = ap (λ (y : rules.Entered). read y.table j) g
 
-    pub stays-long : (x : rules.Entered) → Comes n c above t e x → length x.table ≡ n * pageSize
+    pub stays-long : (x : rules.Entered) → Comes n c above t e x → length x.table ≡ n * page_size
     stays-long x (stood f g) = ap (λ (y : rules.Entered). length y.table) g ∙ l
     stays-long x (mends a m g) =
         ap (λ (y : rules.Entered). length y.table) g
@@ -78,8 +78,8 @@ module _ {n c : ℕ} {above t : List ℕ} {e : Place} where
   pub found-fits : e.low ≤ e.high → (x : rules.Entered) → Comes n c above t e x → (p : Page) → x.page ≡ some p → Fits n e p
   found-fits r x (stood f g) p q =
       subst (Fits n e) (some-injective (read t e.child) p (sym (ap (λ (y : rules.Entered). y.page) g) ∙ q))
-      (fits-true n e (read t e.child) f)
+      (fits_true n e (read t e.child) f)
   found-fits r x (mends a m g) p q =
       subst (Fits n e) (some-injective (mended c e (read t e.previous)) p (sym (ap (λ (y : rules.Entered). y.page) g) ∙ q))
-      (mended-fits c r (mendable-true n e (read t e.previous) m))
+      (mended-fits c r (mendable_true n e (read t e.previous) m))
   found-fits r x (stops g) p q = absurd (none-ne-some p (sym (ap (λ (y : rules.Entered). y.page) g) ∙ q))

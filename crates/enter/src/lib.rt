@@ -6,10 +6,10 @@
 //
 // Below stand `sound`, which tests pages, `build`, which mends them, and `head`, which reads them.
 ghost use Rattle.std.specs.Prelude.{◌≡◌, ◌*◌, ◌<◌, length};
-ghost use Rattle.rules.specs.Layout.{pageSize};
+ghost use Rattle.rules.specs.Layout.{page_size};
 ghost use Rattle.rules.specs.Test.{mem};
 ghost use Rattle.rules.specs.Enter.{mend, enter};
-ghost use Rattle.rules.specs.Report.{reasonAt};
+ghost use Rattle.rules.specs.Report.{reason_at};
 ghost use Rattle.enter.specs.Entering.{above_of, entering, told};
 
 use head::Head;
@@ -40,7 +40,7 @@ fn stands_above(above: Above, child: u16) -> bool
 
 // A child that doesn't fit is lost: it is mended where its previous page allows it.
 fn mend(t: &mut [u8], n: usize, c: u32, e: Place, reason: Reason) -> Entered
-    requires { (length t.old ≡ n * pageSize) × (e.child < n) }
+    requires { (length t.old ≡ n * page_size) × (e.child < n) }
     ensures { entering t.new result ≡ told reason (mend n c t.old e) }
 {
     if !sound::mendable_at(t, e, n) {
@@ -51,9 +51,9 @@ fn mend(t: &mut [u8], n: usize, c: u32, e: Place, reason: Reason) -> Entered
 }
 
 pub fn enter(t: &mut [u8], n: usize, c: u32, above: Above, e: Place) -> Entered
-    requires { (length t.old ≡ n * pageSize) × (e.child < n) }
+    requires { (length t.old ≡ n * page_size) × (e.child < n) }
     ensures { entering t.new result
-        ≡ told (reasonAt n t.old e) (enter n c (above_of above) t.old e) }
+        ≡ told (reason_at n t.old e) (enter n c (above_of above) t.old e) }
 {
     if stands_above(above, e.child) {
         return Entered::Damaged;

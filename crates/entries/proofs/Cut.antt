@@ -10,9 +10,9 @@ use borrow.Author.Tests.{le-leb, lt-leb, leb-true, leb-false}
 use lib.Dec.{leb}
 use lib.ListN.{take, drop}
 use lib.Seq.{take-nil, drop-nil}
-use Rattle.rules.specs.Entry.{Entry, keys, cut, risesFrom, rising}
-use Rattle.rules.proofs.entries.Tests.{between-of, between-above, between-below}
-use Rattle.rules.proofs.entries.Rises.{rises-head, rises-tail, rising-from, rising-of-rises}
+use Rattle.rules.specs.Entry.{Entry, keys, cut, rises_from, rising}
+use Rattle.rules.proofs.Entries.Tests.{between-of, between-above, between-below}
+use Rattle.rules.proofs.Entries.Rises.{rises-head, rises_tail, rising-from, rising-of-rises}
 use Rattle.entries.specs.Spot.{spot_of, start_of}
 
 -- ── A key passed, or not ────────────────────────────────────────────────────────────────────────────────────────
@@ -46,19 +46,19 @@ start-nil zero = refl
 start-nil (suc l) = refl
 
 -- keys above a number that is not below low are none of those before low
-start-above : (low k : ℕ) (xs : List ℕ) → low ≤ k → risesFrom k xs ≡ true → start_of low xs ≡ 0
+start-above : (low k : ℕ) (xs : List ℕ) → low ≤ k → rises_from k xs ≡ true → start_of low xs ≡ 0
 start-above low k [] h r = start-nil low
 start-above low k (x ∷ xs) h r = start_first low x xs (omega (arith, rises-head k x xs r))
 
 -- ── An entry in the range, or not ───────────────────────────────────────────────────────────────────────────────
 
 module _ {B : Type 0} where
-  cut-above : (low high k : ℕ) (xs : List (Entry B)) → high ≤ k → risesFrom k (keys xs) ≡ true → cut low high xs ≡ []
+  cut-above : (low high k : ℕ) (xs : List (Entry B)) → high ≤ k → rises_from k (keys xs) ≡ true → cut low high xs ≡ []
   unfolding cut keys
   cut-above low high k [] h r = refl
   cut-above low high k (x ∷ xs) h r =
       let above = rises-head k x.key (keys xs) r in
-      rw (cut, between-above low high x.key (omega arith)) (cut-above low high x.key xs (omega arith) (rises-tail k x.key (keys xs) r))
+      rw (cut, between-above low high x.key (omega arith)) (cut-above low high x.key xs (omega arith) (rises_tail k x.key (keys xs) r))
 
   pub cut_range : (low high : ℕ) (xs : List (Entry B)) → rising (keys xs) ≡ true
       → cut low high xs ≡ take (spot_of high (keys xs) - start_of low (keys xs)) (drop (start_of low (keys xs)) xs)

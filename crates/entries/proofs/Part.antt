@@ -6,21 +6,21 @@ use Prim.Native.Nat.{ℕ, ◌+◌, ◌-◌, ◌*◌, ◌≤◌}
 use native.Mathlib.Nat.{add-sub_cancel_left}
 use lib.ListN.{take, drop}
 use lib.Seq.{drop-drop}
-use Rattle.fields.specs.Field.{leAt, number}
-use Rattle.fields.proofs.Run.{part-take}
-use Rattle.rules.specs.Layout.{pageSize}
-use Rattle.rules.specs.Table.{pageAt}
+use Rattle.fields.specs.Field.{le_at, number}
+use Rattle.fields.proofs.Run.{part_take}
+use Rattle.rules.specs.Layout.{page_size}
+use Rattle.rules.specs.Table.{page_at}
 
-pub page-part : (t : List ℕ) (i : ℕ) → take (i * pageSize + pageSize - i * pageSize) (drop (i * pageSize) t) ≡ pageAt t i
-unfolding pageAt
-page-part t i = rw add-sub_cancel_left
+pub page_part : (t : List ℕ) (i : ℕ) → take (i * page_size + page_size - i * page_size) (drop (i * page_size) t) ≡ page_at t i
+unfolding page_at
+page_part t i = rw add-sub_cancel_left
 
 -- a run of a page's bytes
-pub part-page : (t : List ℕ) (i off w : ℕ) → off + w ≤ pageSize → take w (drop off (pageAt t i)) ≡ take w (drop (i * pageSize + off) t)
-unfolding pageAt
-part-page t i off w h = part-take w off pageSize (drop (i * pageSize) t) h ∙ rw drop-drop
+pub part_page : (t : List ℕ) (i off w : ℕ) → off + w ≤ page_size → take w (drop off (page_at t i)) ≡ take w (drop (i * page_size + off) t)
+unfolding page_at
+part_page t i off w h = part_take w off page_size (drop (i * page_size) t) h ∙ rw drop-drop
 
 -- a number on a page
-pub leAt-page : (t : List ℕ) (i off w : ℕ) → off + w ≤ pageSize → leAt (pageAt t i) off w ≡ leAt t (i * pageSize + off) w
-unfolding leAt
-leAt-page t i off w h = ap number (part-page t i off w h)
+pub le_at-page : (t : List ℕ) (i off w : ℕ) → off + w ≤ page_size → le_at (page_at t i) off w ≡ le_at t (i * page_size + off) w
+unfolding le_at
+le_at-page t i off w h = ap number (part_page t i off w h)

@@ -11,38 +11,38 @@ use borrow.Author.Tests.{ltb-true, ltb-false}
 use lib.Dec.{ltb}
 use lib.ListN.{length, take, drop, get_or, set, replicate, length-drop, length-replicate, replicate-append-replicate, take-append-drop}
 use lib.Seq.{sets, sets-eq, set_comm, take-suc, get_or-set_other, get_or-drop, drop-cons, drop-drop}
-use Rattle.fields.specs.Field.{Bytes, leAt, put_at}
-use Rattle.fields.proofs.Field.{le-leAt}
-use Rattle.fields.proofs.Run.{sets-append, length_part}
+use Rattle.fields.specs.Field.{Bytes, le_at, put_at}
+use Rattle.fields.proofs.Field.{le-le_at}
+use Rattle.fields.proofs.Run.{sets_append, length_part}
 use Rattle.rules.specs.Page.{over}
 
 -- ── What a run leaves alone ─────────────────────────────────────────────────────────────────────────────────────
 
-pub set-sets : (vs b : List ℕ) (i j v : ℕ) → j < i → set (sets b i vs) j v ≡ sets (set b j v) i vs
-set-sets [] b i j v h = refl
-set-sets (x ∷ vs) b i j v h =
-    set-sets vs (set b i x) (suc i) j v (omega arith)
+pub set_sets : (vs b : List ℕ) (i j v : ℕ) → j < i → set (sets b i vs) j v ≡ sets (set b j v) i vs
+set_sets [] b i j v h = refl
+set_sets (x ∷ vs) b i j v h =
+    set_sets vs (set b i x) (suc i) j v (omega arith)
     ∙ ap (λ (l : List ℕ). sets l (suc i) vs) (set_comm b i j x v (λ (e : i ≡ j). omega arith))
 
-pub getD-sets-below : (vs b : List ℕ) (i j : ℕ) → j < i → get_or (sets b i vs) j 0 ≡ get_or b j 0
-getD-sets-below [] b i j h = refl
-getD-sets-below (x ∷ vs) b i j h =
-    getD-sets-below vs (set b i x) (suc i) j (omega arith)
+pub get_d_sets_below : (vs b : List ℕ) (i j : ℕ) → j < i → get_or (sets b i vs) j 0 ≡ get_or b j 0
+get_d_sets_below [] b i j h = refl
+get_d_sets_below (x ∷ vs) b i j h =
+    get_d_sets_below vs (set b i x) (suc i) j (omega arith)
     ∙ get_or-set_other b i j x 0 (λ (e : j ≡ i). omega arith)
 
-pub getD-sets-above : (vs b : List ℕ) (i j : ℕ) → i + length vs ≤ j → get_or (sets b i vs) j 0 ≡ get_or b j 0
-getD-sets-above [] b i j h = refl
-getD-sets-above (x ∷ vs) b i j h =
-    getD-sets-above vs (set b i x) (suc i) j (omega arith)
+pub get_d_sets_above : (vs b : List ℕ) (i j : ℕ) → i + length vs ≤ j → get_or (sets b i vs) j 0 ≡ get_or b j 0
+get_d_sets_above [] b i j h = refl
+get_d_sets_above (x ∷ vs) b i j h =
+    get_d_sets_above vs (set b i x) (suc i) j (omega arith)
     ∙ get_or-set_other b i j x 0 (λ (e : j ≡ i). omega arith)
 
 -- two runs that share no place, in either order
-pub sets-comm : (xs ys b : List ℕ) (i j : ℕ) → i + length xs ≤ j
+pub sets_comm : (xs ys b : List ℕ) (i j : ℕ) → i + length xs ≤ j
     → sets (sets b i xs) j ys ≡ sets (sets b j ys) i xs
-sets-comm [] ys b i j h = refl
-sets-comm (x ∷ xs) ys b i j h =
-    sets-comm xs ys (set b i x) (suc i) j (omega arith)
-    ∙ ap (λ (l : List ℕ). sets l (suc i) xs) (sym (set-sets ys b j i x (omega arith)))
+sets_comm [] ys b i j h = refl
+sets_comm (x ∷ xs) ys b i j h =
+    sets_comm xs ys (set b i x) (suc i) j (omega arith)
+    ∙ ap (λ (l : List ℕ). sets l (suc i) xs) (sym (set_sets ys b j i x (omega arith)))
 
 -- what stands there already
 pub sets_same : (b : List ℕ) (off n : ℕ) → off + n ≤ length b → sets b off (take n (drop off b)) ≡ b
@@ -51,14 +51,14 @@ sets_same b off n h =
     sets-eq (take n (drop off b)) b off (rw e h)
     ∙ rw (append_assoc, e, ← drop-drop, take-append-drop, take-append-drop)
 
-pub put_same : (b : List ℕ) (off w v : ℕ) → Bytes b → off + w ≤ length b → v ≡ leAt b off w → put_at b off w v ≡ b
+pub put_same : (b : List ℕ) (off w v : ℕ) → Bytes b → off + w ≤ length b → v ≡ le_at b off w → put_at b off w v ≡ b
 unfolding put_at
-put_same b off w v h k e = rw (e, le-leAt b off w h k) (sets_same b off w k)
+put_same b off w v h k e = rw (e, le-le_at b off w h k) (sets_same b off w k)
 
 -- bytes over the start of others are a run from their start
-pub over-sets : (xs b : List ℕ) → length xs ≤ length b → over xs b ≡ sets b 0 xs
+pub over_sets : (xs b : List ℕ) → length xs ≤ length b → over xs b ≡ sets b 0 xs
 unfolding over
-over-sets xs b h = sym (sets-eq xs b 0 (rw zero-add h) ∙ rw zero-add)
+over_sets xs b h = sym (sets-eq xs b 0 (rw zero-add h) ∙ rw zero-add)
 
 -- ── A turn of a loop that copies a run, sets it to zero, or moves it up ────────────────────────────────────────────
 
@@ -68,10 +68,10 @@ copied-from : (b : List ℕ) (to from k : ℕ) → from + k < length b → (from
 copied-from b to from k h apart = go (ltb from to) refl
   where
     go : (t : Bool) → ltb from to ≡ t → get_or (sets b to (take k (drop from b))) (from + k) 0 ≡ get_or b (from + k) 0
-    go true e = getD-sets-below (take k (drop from b)) b to (from + k) (apart (ltb-true from to e))
+    go true e = get_d_sets_below (take k (drop from b)) b to (from + k) (apart (ltb-true from to e))
     go false e =
         let f : length (take k (drop from b)) ≡ k = length_part k from b (omega arith) in
-        getD-sets-above (take k (drop from b)) b to (from + k) (rw f (omega (arith, ltb-false from to e)))
+        get_d_sets_above (take k (drop from b)) b to (from + k) (rw f (omega (arith, ltb-false from to e)))
 
 pub copied_more : (b l : List ℕ) (to from len k : ℕ) → from + len ≤ length b → k < len → (from < to → from + len ≤ to)
     → l ≡ sets b to (take k (drop from b)) → set l (to + k) (get_or l (from + k) 0) ≡ sets b to (take (k + 1) (drop from b))
@@ -79,14 +79,14 @@ copied_more b l to from len k h m apart e =
     let long : k < length (drop from b) = rw length-drop (omega arith) in
     let f : length (take k (drop from b)) ≡ k = length_part k from b (omega arith) in
     let g = copied-from b to from k (omega arith) (λ (u : from < to). omega (arith, apart u)) in
-    rw (e, g, ← get_or-drop from b k 0, add-one, take-suc (drop from b) k 0 long, sets-append, f)
+    rw (e, g, ← get_or-drop from b k 0, add-one, take-suc (drop from b) k 0 long, sets_append, f)
 
 pub cleared_more : (b l : List ℕ) (at k : ℕ) → at ≤ k → l ≡ sets b at (replicate (k - at) 0)
     → set l k 0 ≡ sets b at (replicate (k + 1 - at) 0)
 cleared_more b l at k h e =
     let f : k + 1 - at ≡ (k - at) + 1 = omega arith in
     let g : at + (k - at) ≡ k = omega arith in
-    rw (e, f, ← replicate-append-replicate {A = ℕ} (k - at) 1 0, sets-append, length-replicate, g)
+    rw (e, f, ← replicate-append-replicate {A = ℕ} (k - at) 1 0, sets_append, length-replicate, g)
 
 pub moved_more : (b l : List ℕ) (k j end by : ℕ) → k ≡ j + 1 → k ≤ end → end ≤ length b → l ≡ sets b (k + by) (take (end - k) (drop k b))
     → set l (j + by) (get_or l j 0) ≡ sets b (j + by) (take (end - j) (drop j b))
@@ -94,4 +94,4 @@ moved_more b l k j end by e h m f =
     let w : end - j ≡ suc (end - suc j) = omega arith in
     let g : k ≡ suc j = omega arith in
     let u : suc j + by ≡ suc (j + by) = omega arith in
-    rw (f, getD-sets-below (take (end - k) (drop k b)) b (k + by) j (omega arith), set-sets (take (end - k) (drop k b)) b (k + by) (j + by) (get_or b j 0) (omega arith), w, drop-cons b j 0 (omega arith), g, u)
+    rw (f, get_d_sets_below (take (end - k) (drop k b)) b (k + by) j (omega arith), set_sets (take (end - k) (drop k b)) b (k + by) (j + by) (get_or b j 0) (omega arith), w, drop-cons b j 0 (omega arith), g, u)

@@ -9,10 +9,10 @@
 
 ghost use Rattle.std.specs.Prelude.{◌≡◌, ◌+◌, ◌*◌, ◌-◌, ◌≤◌, ◌<◌, length, take, drop, replicate};
 ghost use Rattle.std.proofs.lemmas.List.Edits.{sets};
-ghost use Rattle.rules.specs.Layout.{certSize, child_size};
-ghost use Rattle.rules.specs.Page.{certBytes, childBytes};
-ghost use Rattle.rules.specs.Insert.{newChild};
-ghost use Rattle.entries.specs.Spot.{headerSize, size_of, keysIn, spot_of, start_of, newCert};
+ghost use Rattle.rules.specs.Layout.{cert_size, child_size};
+ghost use Rattle.rules.specs.Page.{cert_bytes, child_bytes};
+ghost use Rattle.rules.specs.Insert.{new_child};
+ghost use Rattle.entries.specs.Spot.{header_size, size_of, keys_in, spot_of, start_of, new_cert};
 
 use rules::{
     AT_CHILD, AT_CHILD_BIRTH, AT_CHILD_PREVIOUS, AT_RECORD, CERT, CHILD, INNER_HEADER, LEAF,
@@ -21,7 +21,7 @@ use rules::{
 
 // How many bytes the header of a page of this kind takes.
 pub fn header_size(kind: u16) -> usize
-    ensures { result ≡ headerSize kind }
+    ensures { result ≡ header_size kind }
 {
     if kind == LEAF {
         LEAF_HEADER
@@ -41,7 +41,7 @@ pub fn size_of(kind: u16) -> usize
 pub fn spot(page: &[u8], header: usize, size: usize, count: usize, key: u64) -> usize
     requires le_size { 8 ≤ size }
     requires count_in_bounds { header + size * count ≤ length page.now }
-    ensures { result ≡ spot_of key (keysIn header size count page.now) }
+    ensures { result ≡ spot_of key (keys_in header size count page.now) }
 {
     let mut j = 0;
     let mut at = header;
@@ -59,7 +59,7 @@ pub fn spot(page: &[u8], header: usize, size: usize, count: usize, key: u64) -> 
 pub fn start(page: &[u8], header: usize, size: usize, count: usize, low: u64) -> usize
     requires le_size { 8 ≤ size }
     requires count_in_bounds { header + size * count ≤ length page.now }
-    ensures { result ≡ start_of low (keysIn header size count page.now) }
+    ensures { result ≡ start_of low (keys_in header size count page.now) }
 {
     if low == 0 {
         return 0;
@@ -97,8 +97,8 @@ pub fn clear(bytes: &mut [u8], at: usize, end: usize)
 
 // An entry of a leaf.
 pub fn write_cert(page: &mut [u8], at: usize, key: u64, value: u32)
-    requires { at + certSize ≤ length page.old }
-    ensures { page.new ≡ sets page.old at (certBytes (newCert key value)) }
+    requires { at + cert_size ≤ length page.old }
+    ensures { page.new ≡ sets page.old at (cert_bytes (new_cert key value)) }
 {
     fields::put64(page, at, key);
     fields::put32(page, at + AT_RECORD, value);
@@ -107,7 +107,7 @@ pub fn write_cert(page: &mut [u8], at: usize, key: u64, value: u32)
 // An entry of an inner page.
 pub fn write_child(page: &mut [u8], at: usize, key: u64, child: u16, previous: u16, birth: u32)
     requires { at + child_size ≤ length page.old }
-    ensures { page.new ≡ sets page.old at (childBytes (newChild birth key child previous)) }
+    ensures { page.new ≡ sets page.old at (child_bytes (new_child birth key child previous)) }
 {
     fields::put64(page, at, key);
     fields::put16(page, at + AT_CHILD, child);

@@ -8,22 +8,22 @@ use native.Mathlib.Omega.{arith}
 use borrow.Author.Tests.{ltb-true, lt-ltb}
 use lib.Dec.{ltb, lit<}
 use lib.ListN.{length}
-use Rattle.fields.specs.Field.{leAt, Bytes}
-use Rattle.fields.proofs.Field.{leAt-bound}
+use Rattle.fields.specs.Field.{le_at, Bytes}
+use Rattle.fields.proofs.Field.{le_at-bound}
 use Rattle.rules.specs.Test.{all}
 use Rattle.rules.specs.Entry.{Cert, keys}
-use Rattle.rules.proofs.entries.Tests.{all_head, all_tail, all_nil, all_cons}
-use Rattle.exchange.specs.Item.{Item, placeWidth, numberWidth, valueWidth, size, span, countWidth, item_at}
+use Rattle.rules.proofs.Entries.Tests.{all_head, all_tail, all_nil, all_cons}
+use Rattle.exchange.specs.Item.{Item, place_width, number_width, value_width, size, span, count_width, item_at}
 use Rattle.exchange.specs.Written.{item_of, items_of, bare}
-use Rattle.exchange.specs.Judged.{sectionJudged}
-use Rattle.exchange.specs.Told.{itemsFrom, items_in, entry_of, entriesOf}
+use Rattle.exchange.specs.Judged.{section_judged}
+use Rattle.exchange.specs.Told.{items_from, items_in, entry_of, entries_of}
 use Rattle.exchange.specs.declared.Section.{Section}
 use Rattle.exchange.specs.declared.Judged.{Judged}
-use Rattle.exchange.proofs.Sizes.{span-width}
-use Rattle.exchange.proofs.Steps.{after_is, section-on}
-use Rattle.exchange.proofs.Parts.{fine-count}
-use Rattle.exchange.proofs.Runs.{AllFit, fit_none, fit-more, Stands}
-use Rattle.exchange.proofs.Chains.{Chain, fine-chain, chain-fine}
+use Rattle.exchange.proofs.Sizes.{span_width}
+use Rattle.exchange.proofs.Steps.{after_is, section_on}
+use Rattle.exchange.proofs.Parts.{fine_count}
+use Rattle.exchange.proofs.Runs.{AllFit, fit_none, fit_more, Stands}
+use Rattle.exchange.proofs.Chains.{Chain, fine_chain, chain_fine}
 
 -- ── Lists ───────────────────────────────────────────────────────────────────────────────────────────────────────
 
@@ -47,22 +47,22 @@ bare-keys (e ∷ es) h =
     λ j. record { key = e.key; value = z j } ∷ t j
 
 module _ (b : ℕ) (ps : List ℕ) where
-  pub length-itemsOf : (es : List Cert) → length (items_of b ps es) ≡ length es
+  pub length-items_of : (es : List Cert) → length (items_of b ps es) ≡ length es
   unfolding items_of
-  length-itemsOf [] = refl
-  length-itemsOf (e ∷ es) = ap suc (length-itemsOf es)
+  length-items_of [] = refl
+  length-items_of (e ∷ es) = ap suc (length-items_of es)
 
-  pub length-entriesOf : (is : List Item) → length (entriesOf b ps is) ≡ length is
-  unfolding entriesOf
-  length-entriesOf [] = refl
-  length-entriesOf (i ∷ is) = ap suc (length-entriesOf is)
+  pub length-entries_of : (is : List Item) → length (entries_of b ps is) ≡ length is
+  unfolding entries_of
+  length-entries_of [] = refl
+  length-entries_of (i ∷ is) = ap suc (length-entries_of is)
 
-  pub values-entriesOf : (v : ℕ) (is : List Item) → all (λ (i : Item). ltb i.value v) is ≡ true → all (λ (e : Cert). ltb e.value v) (entriesOf b ps is) ≡ true
-  unfolding entriesOf entry_of
-  values-entriesOf v [] h = all_nil (λ (e : Cert). ltb e.value v)
-  values-entriesOf v (i ∷ is) h =
-      all_cons (λ (e : Cert). ltb e.value v) (entry_of b ps i) (entriesOf b ps is) (all_head (λ (i : Item). ltb i.value v) i is h)
-      (values-entriesOf v is (all_tail (λ (i : Item). ltb i.value v) i is h))
+  pub values-entries_of : (v : ℕ) (is : List Item) → all (λ (i : Item). ltb i.value v) is ≡ true → all (λ (e : Cert). ltb e.value v) (entries_of b ps is) ≡ true
+  unfolding entries_of entry_of
+  values-entries_of v [] h = all_nil (λ (e : Cert). ltb e.value v)
+  values-entries_of v (i ∷ is) h =
+      all_cons (λ (e : Cert). ltb e.value v) (entry_of b ps i) (entries_of b ps is) (all_head (λ (i : Item). ltb i.value v) i is h)
+      (values-entries_of v is (all_tail (λ (i : Item). ltb i.value v) i is h))
 
 pub span-real : (s : Section) → 0 < span s
 unfolding span
@@ -73,47 +73,47 @@ span-real Section.Certificates = lit< tt
 -- ── Written ─────────────────────────────────────────────────────────────────────────────────────────────────────
 
 -- items in order fit their fields, if what they stand under is not too much for their places
-pub chain_fits : (s : Section) (over : ℕ) (ps : List ℕ) → over ≤ 256 ^ placeWidth s → (es : List Cert) (used last : ℕ)
-    → all (λ (e : Cert). ltb e.value (256 ^ valueWidth s)) es ≡ true → Chain over used last (items_of (span s) ps es) → AllFit s (items_of (span s) ps es)
+pub chain_fits : (s : Section) (over : ℕ) (ps : List ℕ) → over ≤ 256 ^ place_width s → (es : List Cert) (used last : ℕ)
+    → all (λ (e : Cert). ltb e.value (256 ^ value_width s)) es ≡ true → Chain over used last (items_of (span s) ps es) → AllFit s (items_of (span s) ps es)
 unfolding Chain items_of item_of
 chain_fits s over ps m [] used last v c = fit_none
 chain_fits s over ps m (e ∷ es) used last v c =
-    fit-more {i = item_of (span s) ps e}
+    fit_more {i = item_of (span s) ps e}
     (record {
       place = omega (arith, c.0.inside, m);
-      number = omega (arith, mod-lt e.key (span-real s), span-width s);
-      value = ltb-true e.value (256 ^ valueWidth s) (all_head (λ (e : Cert). ltb e.value (256 ^ valueWidth s)) e es v);
+      number = omega (arith, mod-lt e.key (span-real s), span_width s);
+      value = ltb-true e.value (256 ^ value_width s) (all_head (λ (e : Cert). ltb e.value (256 ^ value_width s)) e es v);
     })
-    (chain_fits s over ps m es ((item_of (span s) ps e).place + 1) (e.key % span s) (all_tail (λ (e : Cert). ltb e.value (256 ^ valueWidth s)) e es v) c.1)
+    (chain_fits s over ps m es ((item_of (span s) ps e).place + 1) (e.key % span s) (all_tail (λ (e : Cert). ltb e.value (256 ^ value_width s)) e es v) c.1)
 
-pub section-fine : (s : Section) (f : List ℕ) (over used at : ℕ) (is : List Item) (rest : List ℕ) → Stands s f at is rest → Chain over used 0 is
-    → sectionJudged s f over used at ≡ Judged.Fine
+pub section_fine : (s : Section) (f : List ℕ) (over used at : ℕ) (is : List Item) (rest : List ℕ) → Stands s f at is rest → Chain over used 0 is
+    → section_judged s f over used at ≡ Judged.Fine
 unfolding items_in
-section-fine s f over used at is rest st c =
+section_fine s f over used at is rest st c =
     let e = after_is s f at in
-    section-on s f over used at (omega (arith, e, st.ends))
-    ∙ chain-fine s f over (leAt f at countWidth) (at + countWidth) used 0 (omega (arith, e, st.ends)) (subst (Chain over used 0) (sym st.items) c)
+    section_on s f over used at (omega (arith, e, st.ends))
+    ∙ chain_fine s f over (le_at f at count_width) (at + count_width) used 0 (omega (arith, e, st.ends)) (subst (Chain over used 0) (sym st.items) c)
 
 -- ── Read ────────────────────────────────────────────────────────────────────────────────────────────────────────
 
 module _ (s : Section) (f : List ℕ) (h : Bytes f) where
-  pub numbers_fit : (n at : ℕ) → all (λ (i : Item). ltb i.number (span s)) (itemsFrom s f n at) ≡ true
-  unfolding itemsFrom item_at
+  pub numbers_fit : (n at : ℕ) → all (λ (i : Item). ltb i.number (span s)) (items_from s f n at) ≡ true
+  unfolding items_from item_at
   numbers_fit zero at = all_nil (λ (i : Item). ltb i.number (span s))
   numbers_fit (suc n) at =
-      all_cons (λ (i : Item). ltb i.number (span s)) (item_at s f at) (itemsFrom s f n (at + size s))
-      (lt-ltb (item_at s f at).number (span s) (omega (arith, leAt-bound f (at + placeWidth s) (numberWidth s) h, span-width s)))
+      all_cons (λ (i : Item). ltb i.number (span s)) (item_at s f at) (items_from s f n (at + size s))
+      (lt-ltb (item_at s f at).number (span s) (omega (arith, le_at-bound f (at + place_width s) (number_width s) h, span_width s)))
       (numbers_fit n (at + size s))
 
-  pub values-fit : (n at : ℕ) → all (λ (i : Item). ltb i.value (256 ^ valueWidth s)) (itemsFrom s f n at) ≡ true
-  unfolding itemsFrom item_at
-  values-fit zero at = all_nil (λ (i : Item). ltb i.value (256 ^ valueWidth s))
+  pub values-fit : (n at : ℕ) → all (λ (i : Item). ltb i.value (256 ^ value_width s)) (items_from s f n at) ≡ true
+  unfolding items_from item_at
+  values-fit zero at = all_nil (λ (i : Item). ltb i.value (256 ^ value_width s))
   values-fit (suc n) at =
-      all_cons (λ (i : Item). ltb i.value (256 ^ valueWidth s)) (item_at s f at) (itemsFrom s f n (at + size s))
-      (lt-ltb (item_at s f at).value (256 ^ valueWidth s) (leAt-bound f (at + placeWidth s + numberWidth s) (valueWidth s) h))
+      all_cons (λ (i : Item). ltb i.value (256 ^ value_width s)) (item_at s f at) (items_from s f n (at + size s))
+      (lt-ltb (item_at s f at).value (256 ^ value_width s) (le_at-bound f (at + place_width s + number_width s) (value_width s) h))
       (values-fit n (at + size s))
 
-pub section-chain : (s : Section) (f : List ℕ) (over used at : ℕ) → sectionJudged s f over used at ≡ Judged.Fine → Chain over used 0 (items_in s f at)
+pub section_chain : (s : Section) (f : List ℕ) (over used at : ℕ) → section_judged s f over used at ≡ Judged.Fine → Chain over used 0 (items_in s f at)
 unfolding items_in
-section-chain s f over used at j =
-    fine-chain s f over (leAt f at countWidth) (at + countWidth) used 0 (fine-count s f over used at j).1
+section_chain s f over used at j =
+    fine_chain s f over (le_at f at count_width) (at + count_width) used 0 (fine_count s f over used at j).1

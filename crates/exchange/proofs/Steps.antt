@@ -8,11 +8,11 @@ use native.Mathlib.Omega.{arith}
 use borrow.Author.Tests.{ltb-true, lt-ltb, le-ltb, leb-true, le-leb, lt-leb, eqb-true, eq-eqb, ne_eqb}
 use lib.Dec.{leb, ltb, eqb}
 use lib.ListN.{length}
-use Rattle.fields.specs.Field.{leAt}
+use Rattle.fields.specs.Field.{le_at}
 use Rattle.rules.specs.Test.{every}
-use Rattle.rules.proofs.entries.Tests.{and_left, and_right, or_cases, every_true}
-use Rattle.exchange.specs.Item.{size, countWidth, item_at}
-use Rattle.exchange.specs.Judged.{within, isAbove, follows, itemsJudged, sectionJudged, after}
+use Rattle.rules.proofs.Entries.Tests.{and_left, and_right, or_cases, every_true}
+use Rattle.exchange.specs.Item.{size, count_width, item_at}
+use Rattle.exchange.specs.Judged.{within, is_above, follows, items_judged, section_judged, after}
 use Rattle.exchange.specs.declared.Section.{Section}
 use Rattle.exchange.specs.declared.Judged.{Judged}
 
@@ -23,24 +23,24 @@ module _ (over used last place number : ℕ) where
   unfolding follows every
   follows-zero e = rw (le-ltb 0 number (omega arith))
 
-  pub follows-beyond : 0 < number → over ≤ place → follows over used last place number ≡ false
+  pub follows_beyond : 0 < number → over ≤ place → follows over used last place number ≡ false
   unfolding follows every
-  follows-beyond a b = rw (lt-ltb 0 number a, le-ltb place over b)
+  follows_beyond a b = rw (lt-ltb 0 number a, le-ltb place over b)
 
   pub follows-passes : 0 < number → place < over → used < place → follows over used last place number ≡ false
-  unfolding follows every isAbove
+  unfolding follows every is_above
   follows-passes a b c = rw (lt-ltb 0 number a, lt-ltb place over b, le-leb used place (omega arith), lt-leb place used c)
 
   pub follows_next : 0 < number → place < over → place ≡ used → follows over used last place number ≡ true
-  unfolding follows every isAbove
+  unfolding follows every is_above
   follows_next a b c = rw (lt-ltb 0 number a, lt-ltb place over b, le-leb used place (omega arith), le-leb place used (omega arith))
 
   pub follows-below : 0 < number → place < over → place + 1 < used → follows over used last place number ≡ false
-  unfolding follows every isAbove
+  unfolding follows every is_above
   follows-below a b c = rw (lt-ltb 0 number a, lt-ltb place over b, lt-leb used place (omega arith), ne_eqb used (place + 1) (λ e. omega arith))
 
   pub follows_same : 0 < number → place < over → place + 1 ≡ used → follows over used last place number ≡ ltb last number
-  unfolding follows every isAbove
+  unfolding follows every is_above
   follows_same a b c = rw (lt-ltb 0 number a, lt-ltb place over b, lt-leb used place (omega arith), eq-eqb used (place + 1) (omega arith), le-leb place used (omega arith)) (go (ltb last number))
     where
       go : (t : Bool) → (t && true) ≡ t
@@ -54,9 +54,9 @@ pub record Followed (over used last place number : ℕ) : Type 0 where
   pub next : (place ≡ used) ⊎ ((place + 1 ≡ used) × (last < number))
 
 pub followed : (over used last place number : ℕ) → follows over used last place number ≡ true → Followed over used last place number
-unfolding follows every isAbove
+unfolding follows every is_above
 followed over used last place number h =
-    let t = every_true (ltb 0 number ∷ ltb place over ∷ isAbove used last place number ∷ leb place used ∷ []) h in
+    let t = every_true (ltb 0 number ∷ ltb place over ∷ is_above used last place number ∷ leb place used ∷ []) h in
     let p = leb-true place used t.1.1.1.0 in
     record {
       real = ltb-true 0 number t.0;
@@ -72,61 +72,61 @@ followed over used last place number h =
 -- ── The items of a section ──────────────────────────────────────────────────────────────────────────────────────
 
 module _ (s : Section) (f : List ℕ) (over left at used last : ℕ) where
-  pub items-end : left ≡ 0 → used ≡ over → itemsJudged s f over left at used last ≡ Judged.Fine
-  unfolding itemsJudged
-  items-end e h = rw (e, itemsJudged, eq-eqb used over h)
+  pub items-end : left ≡ 0 → used ≡ over → items_judged s f over left at used last ≡ Judged.Fine
+  unfolding items_judged
+  items-end e h = rw (e, items_judged, eq-eqb used over h)
 
-  pub items-bare : left ≡ 0 → (used ≡ over → ⊥) → itemsJudged s f over left at used last ≡ Judged.Bad at
-  unfolding itemsJudged
-  items-bare e h = rw (e, itemsJudged, ne_eqb used over h)
+  pub items-bare : left ≡ 0 → (used ≡ over → ⊥) → items_judged s f over left at used last ≡ Judged.Bad at
+  unfolding items_judged
+  items-bare e h = rw (e, items_judged, ne_eqb used over h)
 
-  pub items-cut : 0 < left → length f < at + size s → itemsJudged s f over left at used last ≡ Judged.Bad at
-  unfolding itemsJudged within
+  pub items-cut : 0 < left → length f < at + size s → items_judged s f over left at used last ≡ Judged.Bad at
+  unfolding items_judged within
   items-cut p h = go left p
     where
-      go : (n : ℕ) → 0 < n → itemsJudged s f over n at used last ≡ Judged.Bad at
+      go : (n : ℕ) → 0 < n → items_judged s f over n at used last ≡ Judged.Bad at
       go zero q = absurd (omega arith)
-      go (suc n) q = rw (itemsJudged, lt-leb (at + size s) (length f) h)
+      go (suc n) q = rw (items_judged, lt-leb (at + size s) (length f) h)
 
   module _ (h : at + size s ≤ length f) (p : 0 < left) where
-    bad-item : follows over used last (item_at s f at).place (item_at s f at).number ≡ false → itemsJudged s f over left at used last ≡ Judged.Bad at
-    unfolding itemsJudged within
-    bad-item t = go left p
+    bad_item : follows over used last (item_at s f at).place (item_at s f at).number ≡ false → items_judged s f over left at used last ≡ Judged.Bad at
+    unfolding items_judged within
+    bad_item t = go left p
       where
-        go : (n : ℕ) → 0 < n → itemsJudged s f over n at used last ≡ Judged.Bad at
+        go : (n : ℕ) → 0 < n → items_judged s f over n at used last ≡ Judged.Bad at
         go zero q = absurd (omega arith)
-        go (suc n) q = rw (itemsJudged, le-leb (at + size s) (length f) h, t)
+        go (suc n) q = rw (items_judged, le-leb (at + size s) (length f) h, t)
 
     next-item : follows over used last (item_at s f at).place (item_at s f at).number ≡ true
-        → itemsJudged s f over left at used last ≡ itemsJudged s f over (left - 1) (at + size s) ((item_at s f at).place + 1) (item_at s f at).number
-    unfolding itemsJudged within
+        → items_judged s f over left at used last ≡ items_judged s f over (left - 1) (at + size s) ((item_at s f at).place + 1) (item_at s f at).number
+    unfolding items_judged within
     next-item t = go left p
       where
-        go : (n : ℕ) → 0 < n → itemsJudged s f over n at used last ≡ itemsJudged s f over (n - 1) (at + size s) ((item_at s f at).place + 1) (item_at s f at).number
+        go : (n : ℕ) → 0 < n → items_judged s f over n at used last ≡ items_judged s f over (n - 1) (at + size s) ((item_at s f at).place + 1) (item_at s f at).number
         go zero q = absurd (omega arith)
         go (suc n) q =
             let e : suc n - 1 ≡ n = omega arith in
-            rw (itemsJudged, le-leb (at + size s) (length f) h, t, e)
+            rw (items_judged, le-leb (at + size s) (length f) h, t, e)
 
   -- the item at `at`, as it was read
   module _ (w place number : ℕ) (ew : w ≡ size s) (ep : place ≡ (item_at s f at).place) (en : number ≡ (item_at s f at).number) (h : at + w ≤ length f) (p : 0 < left) where
-    pub items-bad : follows over used last place number ≡ false → itemsJudged s f over left at used last ≡ Judged.Bad at
-    items-bad t = bad-item (omega (arith, ew)) p (rw (sym ep, sym en) t)
+    pub items_bad : follows over used last place number ≡ false → items_judged s f over left at used last ≡ Judged.Bad at
+    items_bad t = bad_item (omega (arith, ew)) p (rw (sym ep, sym en) t)
 
-    pub items-on : follows over used last place number ≡ true → itemsJudged s f over left at used last ≡ itemsJudged s f over (left - 1) (at + w) (place + 1) number
-    items-on t = rw (ew, ep, en) (next-item (omega (arith, ew)) p (rw (sym ep, sym en) t))
+    pub items_on : follows over used last place number ≡ true → items_judged s f over left at used last ≡ items_judged s f over (left - 1) (at + w) (place + 1) number
+    items_on t = rw (ew, ep, en) (next-item (omega (arith, ew)) p (rw (sym ep, sym en) t))
 
 -- ── A section ───────────────────────────────────────────────────────────────────────────────────────────────────
 
-pub after_is : (s : Section) (f : List ℕ) (at : ℕ) → after s f at ≡ at + countWidth + size s * leAt f at countWidth
+pub after_is : (s : Section) (f : List ℕ) (at : ℕ) → after s f at ≡ at + count_width + size s * le_at f at count_width
 unfolding after
 after_is s f at = refl
 
 module _ (s : Section) (f : List ℕ) (over used at : ℕ) where
-  pub section-cut : length f < at + countWidth → sectionJudged s f over used at ≡ Judged.Bad at
-  unfolding sectionJudged within
-  section-cut h = rw (sectionJudged, lt-leb (at + countWidth) (length f) h)
+  pub section_cut : length f < at + count_width → section_judged s f over used at ≡ Judged.Bad at
+  unfolding section_judged within
+  section_cut h = rw (section_judged, lt-leb (at + count_width) (length f) h)
 
-  pub section-on : at + countWidth ≤ length f → sectionJudged s f over used at ≡ itemsJudged s f over (leAt f at countWidth) (at + countWidth) used 0
-  unfolding sectionJudged within
-  section-on h = rw (sectionJudged, le-leb (at + countWidth) (length f) h)
+  pub section_on : at + count_width ≤ length f → section_judged s f over used at ≡ items_judged s f over (le_at f at count_width) (at + count_width) used 0
+  unfolding section_judged within
+  section_on h = rw (section_judged, le-leb (at + count_width) (length f) h)

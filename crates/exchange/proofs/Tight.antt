@@ -3,17 +3,17 @@ use mathlib.Core.Path.{refl, sym, ◌∙◌}
 use Rattle.tight.specs.Tight.{Tight}
 use Rattle.exchange.proofs as this
 
-pub check-tight : Tight this.check.Kinds.ps this.check.Kinds.r this.check.Reads.Pre this.check.Reads.Post
-check-tight κs a pre z z' l l' p q = (p ∙ sym q, refl)
+pub check_tight : Tight this.check.Kinds.ps this.check.Kinds.r this.check.Reads.Pre this.check.Reads.Post
+check_tight κs a pre z z' l l' p q = (p ∙ sym q, refl)
 
-pub cert-at-tight : Tight this.cert_at.Kinds.ps this.cert_at.Kinds.r this.cert_at.Reads.Pre this.cert_at.Reads.Post
-cert-at-tight κs a pre z z' l l' p q = (p ∙ sym q, refl)
+pub cert_at_tight : Tight this.cert_at.Kinds.ps this.cert_at.Kinds.r this.cert_at.Reads.Pre this.cert_at.Reads.Post
+cert_at_tight κs a pre z z' l l' p q = (p ∙ sym q, refl)
 
-pub put-model-tight : Tight this.put_model.Kinds.ps this.put_model.Kinds.r this.put_model.Reads.Pre this.put_model.Reads.Post
-put-model-tight κs a pre z z' l l' p q = (refl, λ i. ((p ∙ sym q) i, l.1))
+pub put_model_tight : Tight this.put_model.Kinds.ps this.put_model.Kinds.r this.put_model.Reads.Pre this.put_model.Reads.Post
+put_model_tight κs a pre z z' l l' p q = (refl, λ i. ((p ∙ sym q) i, l.1))
 
-pub put-meter-tight : Tight this.put_meter.Kinds.ps this.put_meter.Kinds.r this.put_meter.Reads.Pre this.put_meter.Reads.Post
-put-meter-tight κs a pre z z' l l' p q = (refl, λ i. ((p ∙ sym q) i, l.1))
+pub put_meter_tight : Tight this.put_meter.Kinds.ps this.put_meter.Kinds.r this.put_meter.Reads.Pre this.put_meter.Reads.Post
+put_meter_tight κs a pre z z' l l' p q = (refl, λ i. ((p ∙ sym q) i, l.1))
 
-pub put-cert-tight : Tight this.put_cert.Kinds.ps this.put_cert.Kinds.r this.put_cert.Reads.Pre this.put_cert.Reads.Post
-put-cert-tight κs a pre z z' l l' p q = (refl, λ i. ((p ∙ sym q) i, l.1))
+pub put_cert_tight : Tight this.put_cert.Kinds.ps this.put_cert.Kinds.r this.put_cert.Reads.Pre this.put_cert.Reads.Post
+put_cert_tight κs a pre z z' l l' p q = (refl, λ i. ((p ∙ sym q) i, l.1))

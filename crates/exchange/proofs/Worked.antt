@@ -5,21 +5,21 @@ use Prim.Native.Nat.{ℕ}
 use lib.ListN.{replicate}
 use Rattle.rules.specs.Key.{key_of}
 use Rattle.rules.specs.Entry.{Cert}
-use Rattle.exchange.specs.Written.{fileOf}
+use Rattle.exchange.specs.Written.{file_of}
 use Rattle.exchange.specs.Judged.{judged, checked}
-use Rattle.exchange.specs.Told.{certsIn}
+use Rattle.exchange.specs.Told.{certs_in}
 use Rattle.exchange.specs.declared.Judged.{Judged}
 use Rattle.exchange.specs.declared.Checked.{Checked}
 use Rattle.exchange.proofs.Computing.{exchange}
 
 -- an empty store gives twelve zero bytes
-no-certs : fileOf [] ≡ replicate 12 0
+no_certs : file_of [] ≡ replicate 12 0
 unfolding exchange
-no-certs = refl
+no_certs = refl
 
-no-certs-told : checked (replicate 12 0) ≡ Checked.Good 0
+no_certs-told : checked (replicate 12 0) ≡ Checked.Good 0
 unfolding exchange
-no-certs-told = refl
+no_certs-told = refl
 
 -- ── Four certificates of three meters of two models ─────────────────────────────────────────────────────────────
 
@@ -47,7 +47,7 @@ certs =
 file : List ℕ
 file = models ++ (meters ++ certs)
 
-written : fileOf four ≡ file
+written : file_of four ≡ file
 unfolding exchange cert four models meters certs file
 written = refl
 
@@ -55,21 +55,21 @@ read : checked file ≡ Checked.Good 4
 unfolding exchange models meters certs file
 read = refl
 
-told : certsIn file ≡ four
+told : certs_in file ≡ four
 unfolding exchange cert four models meters certs file
 told = refl
 
 -- ── Bad files ───────────────────────────────────────────────────────────────────────────────────────────────────
 
 -- no byte at all: the first count is cut off
-nothing-there : judged [] ≡ Judged.Bad 0
+nothing_there : judged [] ≡ Judged.Bad 0
 unfolding exchange
-nothing-there = refl
+nothing_there = refl
 
 -- a count larger than the file is not bad itself: the first model that is missing is
-count-too-large : judged (255 ∷ 255 ∷ 255 ∷ 255 ∷ 7 ∷ 0 ∷ 44 ∷ []) ≡ Judged.Bad 6
+count_too_large : judged (255 ∷ 255 ∷ 255 ∷ 255 ∷ 7 ∷ 0 ∷ 44 ∷ []) ≡ Judged.Bad 6
 unfolding exchange
-count-too-large = refl
+count_too_large = refl
 
 -- the count of the meters is cut off; it would begin behind the file
 meters-missing : judged models ≡ Judged.Bad 8
@@ -86,9 +86,9 @@ unfolding exchange
 model-again = refl
 
 -- a certificate that names a place beyond the meters
-cert-beyond : judged (1 ∷ 0 ∷ 0 ∷ 0 ∷ 7 ∷ 0 ∷ 1 ∷ 0 ∷ 0 ∷ 0 ∷ 0 ∷ 0 ∷ 1 ∷ 0 ∷ 0 ∷ 0 ∷ 1 ∷ 0 ∷ 0 ∷ 0 ∷ 1 ∷ 0 ∷ 0 ∷ 0 ∷ 1 ∷ 0 ∷ 5 ∷ 0 ∷ 0 ∷ 0 ∷ []) ≡ Judged.Bad 20
+cert_beyond : judged (1 ∷ 0 ∷ 0 ∷ 0 ∷ 7 ∷ 0 ∷ 1 ∷ 0 ∷ 0 ∷ 0 ∷ 0 ∷ 0 ∷ 1 ∷ 0 ∷ 0 ∷ 0 ∷ 1 ∷ 0 ∷ 0 ∷ 0 ∷ 1 ∷ 0 ∷ 0 ∷ 0 ∷ 1 ∷ 0 ∷ 5 ∷ 0 ∷ 0 ∷ 0 ∷ []) ≡ Judged.Bad 20
 unfolding exchange
-cert-beyond = refl
+cert_beyond = refl
 
 -- a model without a meter, when the meters end
 model-bare : judged (models ++ (1 ∷ 0 ∷ 0 ∷ 0 ∷ 0 ∷ 0 ∷ 1 ∷ 0 ∷ 0 ∷ 0 ∷ [])) ≡ Judged.Bad 18

@@ -3,41 +3,41 @@
 use Rattle.std.specs.Prelude.{ℕ, suc, true, false, List, [], ◌∷◌, eqb}
 use Rattle.rules.specs.Entry.{Cert}
 use Rattle.rules.specs.Report.{Reported, nothing}
-use Rattle.rules.specs.Call.{Left, lengthsFor}
+use Rattle.rules.specs.Call.{Left, lengths_for}
 use Rattle.rules.specs.Batch.{BatchLeft, batch}
 use Rattle.rules.specs.declared.Session.{Session}
 use Rattle.rules.specs.declared.Item.{Item}
 use Rattle.exchange.specs.Judged.{judged}
-use Rattle.exchange.specs.Told.{certParts, certsIn}
+use Rattle.exchange.specs.Told.{cert_parts, certs_in}
 use Rattle.exchange.specs.declared.Certificate.{Certificate}
 use Rattle.exchange.specs.declared.Judged.{Judged}
 use Rattle.exchange.specs.declared.Read.{Read}
 
 -- a certificate as an item of a batch
-unfoldable pub asItem : Certificate → Item
-asItem c = record { model = c.model; serial = c.serial; issue = c.issue; value = c.«record»; answer = 0 }
+unfoldable pub as_item : Certificate → Item
+as_item c = record { model = c.model; serial = c.serial; issue = c.issue; value = c.«record»; answer = 0 }
 
-unfoldable pub asItems : List Cert → List Item
-asItems [] = []
-asItems (e ∷ es) = asItem (certParts e) ∷ asItems es
+unfoldable pub as_items : List Cert → List Item
+as_items [] = []
+as_items (e ∷ es) = as_item (cert_parts e) ∷ as_items es
 
 -- how many items answered 0
-unfoldable pub doneIn : List Item → ℕ
-doneIn [] = 0
-doneIn (x ∷ xs) = elim (eqb x.answer 0) [ true ↦ suc (doneIn xs) | false ↦ doneIn xs ]
+unfoldable pub done_in : List Item → ℕ
+done_in [] = 0
+done_in (x ∷ xs) = elim (eqb x.answer 0) [ true ↦ suc (done_in xs) | false ↦ done_in xs ]
 
 -- nothing is entered
-abbrev pub readRefused : Read → List ℕ → List ℕ → Session → Reported (Left Read)
-readRefused answer w t s = record {
+abbrev pub read_refused : Read → List ℕ → List ℕ → Session → Reported (Left Read)
+read_refused answer w t s = record {
   left = record { answer = answer; session = s; working = w; stable = t };
   report = nothing;
 }
 
 -- what a batch leaves, and how many of its items were done
-abbrev pub readDone : Reported BatchLeft → Reported (Left Read)
-readDone b = record {
+abbrev pub read_done : Reported BatchLeft → Reported (Left Read)
+read_done b = record {
   left = record {
-    answer = Read.Done (doneIn b.left.items);
+    answer = Read.Done (done_in b.left.items);
     session = b.left.session;
     working = b.left.working;
     stable = b.left.stable;
@@ -47,23 +47,23 @@ readDone b = record {
 
 -- by the judgement of the file
 unfoldable pub read_by : Judged → List ℕ → List ℕ → Session → List ℕ → Reported (Left Read)
-read_by (Judged.Bad at) w t s f = readRefused (Read.File at) w t s
-read_by Judged.Fine w t s f = readDone (batch w t s (asItems (certsIn f)))
+read_by (Judged.Bad at) w t s f = read_refused (Read.File at) w t s
+read_by Judged.Fine w t s f = read_done (batch w t s (as_items (certs_in f)))
 
-unfoldable pub readFile : List ℕ → List ℕ → Session → List ℕ → Reported (Left Read)
-readFile w t s f =
-    elim (lengthsFor s w t) [ false ↦ readRefused Read.Length w t s | true ↦ read_by (judged f) w t s f ]
+unfoldable pub read_file : List ℕ → List ℕ → Session → List ℕ → Reported (Left Read)
+read_file w t s f =
+    elim (lengths_for s w t) [ false ↦ read_refused Read.Length w t s | true ↦ read_by (judged f) w t s f ]
 
 -- the paper's numbers: the answer, how many were done, and the byte place, which are 0 beside any other answer
-unfoldable pub readNo : Read → ℕ
-readNo (Read.Done k) = 0
-readNo Read.Length = 1
-readNo (Read.File at) = 11
+unfoldable pub read_no : Read → ℕ
+read_no (Read.Done k) = 0
+read_no Read.Length = 1
+read_no (Read.File at) = 11
 
-unfoldable pub readCount : Read → ℕ
-readCount (Read.Done k) = k
-readCount Read.Length = 0
-readCount (Read.File at) = 0
+unfoldable pub read_count : Read → ℕ
+read_count (Read.Done k) = k
+read_count Read.Length = 0
+read_count (Read.File at) = 0
 
 unfoldable pub read_place : Read → ℕ
 read_place (Read.Done k) = 0

@@ -4,31 +4,31 @@
 -- the meters as the meters do over the certificates, and one definition says what stands over keys that rise.
 use Rattle.std.specs.Prelude.{ℕ, suc, ◌/◌, ◌%◌, ◌^◌, Bool, true, false, List, [], ◌∷◌, ◌++◌, ltb, eqb, length}
 use Rattle.rules.specs.Test.{every, all}
-use Rattle.rules.specs.Key.{goodKey}
+use Rattle.rules.specs.Key.{good_key}
 use Rattle.rules.specs.Entry.{Cert, keys, rising}
-use Rattle.exchange.specs.Item.{Item, span, sectionBytes}
+use Rattle.exchange.specs.Item.{Item, span, section_bytes}
 use Rattle.exchange.specs.declared.Section.{Section}
 
 -- a certificate: no part of its key is zero, and its model, serial and issue, and its record, fit their widths
-unfoldable pub goodCert : Cert → Bool
-goodCert e = every (ltb e.key (2 ^ 64) ∷ goodKey e.key ∷ ltb e.value (2 ^ 32) ∷ [])
+unfoldable pub good_cert : Cert → Bool
+good_cert e = every (ltb e.key (2 ^ 64) ∷ good_key e.key ∷ ltb e.value (2 ^ 32) ∷ [])
 
 -- a set of certificates, listed by key, and not more of them than a count of 4 bytes can say
 unfoldable pub is_set : List Cert → Bool
-is_set cs = every (rising (keys cs) ∷ all goodCert cs ∷ ltb (length cs) (2 ^ 32) ∷ [])
+is_set cs = every (rising (keys cs) ∷ all good_cert cs ∷ ltb (length cs) (2 ^ 32) ∷ [])
 
 -- what keys stand under, each once; equal ones follow each other, since the keys rise
-unfoldable pub overFrom : ℕ → ℕ → List ℕ → List ℕ
-overFrom b last [] = []
-overFrom b last (k ∷ ks) =
-    elim (eqb last (k / b)) [ true ↦ overFrom b last ks | false ↦ k / b ∷ overFrom b (k / b) ks ]
+unfoldable pub over_from : ℕ → ℕ → List ℕ → List ℕ
+over_from b last [] = []
+over_from b last (k ∷ ks) =
+    elim (eqb last (k / b)) [ true ↦ over_from b last ks | false ↦ k / b ∷ over_from b (k / b) ks ]
 
 -- the first key stands under something other than 0, which is no model and no meter
-unfoldable pub metersOf : List Cert → List ℕ
-metersOf cs = overFrom (span Section.Certificates) 0 (keys cs)
+unfoldable pub meters_of : List Cert → List ℕ
+meters_of cs = over_from (span Section.Certificates) 0 (keys cs)
 
-unfoldable pub modelsOf : List ℕ → List ℕ
-modelsOf meters = overFrom (span Section.Meters) 0 meters
+unfoldable pub models_of : List ℕ → List ℕ
+models_of meters = over_from (span Section.Meters) 0 meters
 
 -- where a number first stands in a list, from 0
 unfoldable pub place_in : ℕ → List ℕ → ℕ
@@ -49,16 +49,16 @@ bare [] = []
 bare (k ∷ ks) = record { key = k; value = 0 } ∷ bare ks
 
 -- a section over a list of entries
-unfoldable pub sectionOf : Section → List ℕ → List Cert → List ℕ
-sectionOf s over es = sectionBytes s (items_of (span s) over es)
+unfoldable pub section_of : Section → List ℕ → List Cert → List ℕ
+section_of s over es = section_bytes s (items_of (span s) over es)
 
 -- all models stand under one roof, 0, whose place takes no bytes
 unfoldable pub roof : List ℕ
 roof = 0 ∷ []
 
-unfoldable pub fileOf : List Cert → List ℕ
-fileOf cs =
-    let meters = metersOf cs in
-    let models = modelsOf meters in
-    sectionOf Section.Models roof (bare models)
-    ++ (sectionOf Section.Meters models (bare meters) ++ sectionOf Section.Certificates meters cs)
+unfoldable pub file_of : List Cert → List ℕ
+file_of cs =
+    let meters = meters_of cs in
+    let models = models_of meters in
+    section_of Section.Models roof (bare models)
+    ++ (section_of Section.Meters models (bare meters) ++ section_of Section.Certificates meters cs)

@@ -8,10 +8,10 @@
 //
 // Below stand `fields`, numbers in bytes, and `rules`.
 ghost use Rattle.std.specs.Prelude.{◌≡◌, ◌+◌, ◌*◌, ◌^◌, ◌≤◌, ◌<◌, length, get_or};
-ghost use Rattle.fields.specs.Field.{leAt};
-ghost use Rattle.exchange.specs.Item.{itemFor, item_at, size, countWidth, putItem};
-ghost use Rattle.exchange.specs.Judged.{follows, itemsJudged, sectionJudged, after, metersAt, certsAt, end_at, endJudged, certsJudged, metersJudged, judged, counted, checked};
-ghost use Rattle.exchange.specs.Told.{modelsIn, metersIn, meterParts, certIn};
+ghost use Rattle.fields.specs.Field.{le_at};
+ghost use Rattle.exchange.specs.Item.{item_for, item_at, size, count_width, put_item};
+ghost use Rattle.exchange.specs.Judged.{follows, items_judged, section_judged, after, meters_at, certs_at, end_at, end_judged, certs_judged, meters_judged, judged, counted, checked};
+ghost use Rattle.exchange.specs.Told.{models_in, meters_in, meter_parts, cert_in};
 ghost use Rattle.exchange.specs.declared.Section.{Section};
 ghost use Rattle.exchange.specs.declared.Judged.{Judged};
 
@@ -136,7 +136,7 @@ fn follows(over: u32, used: u32, last: u32, place: u32, number: u32) -> bool
 // The items of a section, from the first one's byte on. A turn takes bytes of the file or ends, whatever the count says.
 fn items_judged(f: &[u8], s: Section, over: u32, begun: u32, count: u32, from: usize) -> Judged
     requires { from ≤ length f.now }
-    ensures { result ≡ itemsJudged s f.now over count from begun 0 }
+    ensures { result ≡ items_judged s f.now over count from begun 0 }
 {
     let width = size_of(s);
     let mut left = count;
@@ -166,7 +166,7 @@ fn items_judged(f: &[u8], s: Section, over: u32, begun: u32, count: u32, from: u
 // A section, from its count on.
 fn section_judged(f: &[u8], s: Section, over: u32, used: u32, at: usize) -> Judged
     requires { at ≤ length f.now }
-    ensures { result ≡ sectionJudged s f.now over used at }
+    ensures { result ≡ section_judged s f.now over used at }
 {
     if f.len() - at < COUNT {
         return Judged::Bad(at);
@@ -186,8 +186,8 @@ fn after(f: &[u8], s: Section, at: usize) -> usize
 
 // What is left to test after the certificates: that the file ends there.
 fn end_checked(f: &[u8], at: usize) -> Checked
-    requires { (at ≡ certsAt f.now) × (end_at f.now ≤ length f.now) }
-    ensures { result ≡ counted f.now (endJudged f.now) }
+    requires { (at ≡ certs_at f.now) × (end_at f.now ≤ length f.now) }
+    ensures { result ≡ counted f.now (end_judged f.now) }
 {
     let end = after(f, Section::Certificates, at);
     if end != f.len() {
@@ -198,8 +198,8 @@ fn end_checked(f: &[u8], at: usize) -> Checked
 
 // What is left to test after the meters.
 fn certs_checked(f: &[u8], before: usize) -> Checked
-    requires { (before ≡ metersAt f.now) × (certsAt f.now ≤ length f.now) }
-    ensures { result ≡ counted f.now (certsJudged f.now) }
+    requires { (before ≡ meters_at f.now) × (certs_at f.now ≤ length f.now) }
+    ensures { result ≡ counted f.now (certs_judged f.now) }
 {
     let at = after(f, Section::Meters, before);
     let meters = get32(f, before);
@@ -212,8 +212,8 @@ fn certs_checked(f: &[u8], before: usize) -> Checked
 
 // What is left to test after the models.
 fn meters_checked(f: &[u8]) -> Checked
-    requires { metersAt f.now ≤ length f.now }
-    ensures { result ≡ counted f.now (metersJudged f.now) }
+    requires { meters_at f.now ≤ length f.now }
+    ensures { result ≡ counted f.now (meters_judged f.now) }
 {
     let at = after(f, Section::Models, 0);
     let models = get32(f, 0);
@@ -237,8 +237,8 @@ pub fn check(f: &[u8]) -> Checked
 
 // The first byte of an item, by its place in the section whose count begins there.
 fn item_from(s: Section, at: usize, place: u32) -> usize
-    requires { at + countWidth + size s * place < 2 ^ 64 }
-    ensures { result ≡ at + countWidth + size s * place }
+    requires { at + count_width + size s * place < 2 ^ 64 }
+    ensures { result ≡ at + count_width + size s * place }
 {
     let width = size_of(s);
     at + COUNT + width * (place as usize)
@@ -246,8 +246,8 @@ fn item_from(s: Section, at: usize, place: u32) -> usize
 
 // The model at a place of an accepted file.
 fn model_at(f: &[u8], place: u32) -> u16
-    requires { (judged f.now ≡ Judged.Fine) × (place < leAt f.now 0 countWidth) }
-    ensures { result ≡ get_or (modelsIn f.now) place 0 }
+    requires { (judged f.now ≡ Judged.Fine) × (place < le_at f.now 0 count_width) }
+    ensures { result ≡ get_or (models_in f.now) place 0 }
 {
     let at = item_from(Section::Models, 0, place);
     get16(f, at)
@@ -255,8 +255,8 @@ fn model_at(f: &[u8], place: u32) -> u16
 
 // The meter at a place of an accepted file; `from` is where its section begins.
 fn meter_at(f: &[u8], from: usize, place: u32) -> Meter
-    requires { (judged f.now ≡ Judged.Fine) × (from ≡ metersAt f.now) × (place < leAt f.now (metersAt f.now) countWidth) }
-    ensures { result ≡ meterParts (get_or (metersIn f.now) place 0) }
+    requires { (judged f.now ≡ Judged.Fine) × (from ≡ meters_at f.now) × (place < le_at f.now (meters_at f.now) count_width) }
+    ensures { result ≡ meter_parts (get_or (meters_in f.now) place 0) }
 {
     let at = item_from(Section::Meters, from, place);
     let serial = get32(f, at + 2);
@@ -266,8 +266,8 @@ fn meter_at(f: &[u8], from: usize, place: u32) -> Meter
 
 // The certificate at a place of an accepted file. It is found by its place alone, without a walk.
 pub fn cert_at(f: &[u8], place: u32) -> Certificate
-    requires { (judged f.now ≡ Judged.Fine) × (place < leAt f.now (certsAt f.now) countWidth) }
-    ensures { result ≡ certIn f.now place }
+    requires { (judged f.now ≡ Judged.Fine) × (place < le_at f.now (certs_at f.now) count_width) }
+    ensures { result ≡ cert_in f.now place }
 {
     let meters = after(f, Section::Models, 0);
     let certs = after(f, Section::Meters, meters);
@@ -287,14 +287,14 @@ pub fn cert_at(f: &[u8], place: u32) -> Certificate
 
 pub fn put_model(out: &mut [u8], at: usize, model: u16)
     requires { at + 2 ≤ length out.old }
-    ensures { out.new ≡ putItem Section.Models out.old at (itemFor 0 model 0) }
+    ensures { out.new ≡ put_item Section.Models out.old at (item_for 0 model 0) }
 {
     put16(out, at, model);
 }
 
 pub fn put_meter(out: &mut [u8], at: usize, place: u16, serial: u32)
     requires { at + 6 ≤ length out.old }
-    ensures { out.new ≡ putItem Section.Meters out.old at (itemFor place serial 0) }
+    ensures { out.new ≡ put_item Section.Meters out.old at (item_for place serial 0) }
 {
     put16(out, at, place);
     put32(out, at + 2, serial);
@@ -302,7 +302,7 @@ pub fn put_meter(out: &mut [u8], at: usize, place: u16, serial: u32)
 
 pub fn put_cert(out: &mut [u8], at: usize, place: u32, issue: u16, record: u32)
     requires { at + 10 ≤ length out.old }
-    ensures { out.new ≡ putItem Section.Certificates out.old at (itemFor place issue «record») }
+    ensures { out.new ≡ put_item Section.Certificates out.old at (item_for place issue «record») }
 {
     put32(out, at, place);
     put16(out, at + 4, issue);

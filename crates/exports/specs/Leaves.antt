@@ -1,9 +1,9 @@
 -- What a call leaves for a caller in C: what it hands back, and both tables. Answers are document 01's numbers; the
 -- numbers beside a refusal are 0.
 use Rattle.std.specs.Prelude.{ℕ, List}
-use Rattle.rules.specs.Report.{Reported, reasonNo}
-use Rattle.rules.specs.Call.{Left, formattedNo, insertedNo, withdrawnNo, lookedNo, lookedRecord, newestNo, newestIssue, newestRecord, anyNo, anyYes, listedNo, listedCount}
-use Rattle.rules.specs.Batch.{BatchLeft, batchedNo}
+use Rattle.rules.specs.Report.{Reported, reason_no}
+use Rattle.rules.specs.Call.{Left, formatted_no, inserted_no, withdrawn_no, looked_no, looked_record, newest_no, newest_issue, newest_record, any_no, any_yes, listed_no, listed_count}
+use Rattle.rules.specs.Batch.{BatchLeft, batched_no}
 use Rattle.rules.specs.Format.{Formatting}
 use Rattle.rules.specs.List.{ListLeft}
 use Rattle.rules.specs.declared.Session.{Session}
@@ -16,7 +16,7 @@ use Rattle.rules.specs.declared.Looked.{Looked}
 use Rattle.rules.specs.declared.Newest.{Newest}
 use Rattle.rules.specs.declared.Any.{Any}
 use Rattle.rules.specs.declared.Listed.{Listed}
-use Rattle.exchange.specs.ReadFile.{readNo, readCount, read_place}
+use Rattle.exchange.specs.ReadFile.{read_no, read_count, read_place}
 use Rattle.exchange.specs.declared.Read.{Read}
 use Rattle.exports.specs.declared.KhAnswered.{KhAnswered}
 use Rattle.exports.specs.declared.KhChanged.{KhChanged}
@@ -26,7 +26,7 @@ use Rattle.exports.specs.declared.KhNewest.{KhNewest}
 use Rattle.exports.specs.declared.KhAny.{KhAny}
 use Rattle.exports.specs.declared.KhListed.{KhListed}
 use Rattle.exports.specs.declared.KhWritten.{KhWritten}
-use Rattle.write.specs.WriteFile.{WriteLeft, writtenNo, writtenLength}
+use Rattle.write.specs.WriteFile.{WriteLeft, written_no, written_length}
 use Rattle.write.specs.declared.Written.{Written}
 
 pub record Leaves (A : Type 0) : Type 0 where
@@ -84,115 +84,115 @@ writing back working stable out = record { back = back; working = working; stabl
 
 -- ── What is handed back ─────────────────────────────────────────────────────────────────────────────────────────
 
-abbrev pub answeredBack : ℕ → Session → KhAnswered
-answeredBack answer session = record { answer = answer; session = session }
+abbrev pub answered_back : ℕ → Session → KhAnswered
+answered_back answer session = record { answer = answer; session = session }
 
-abbrev pub changedBack : ℕ → Report → Session → KhChanged
-changedBack answer x session = record {
+abbrev pub changed_back : ℕ → Report → Session → KhChanged
+changed_back answer x session = record {
   answer = answer;
   mended = x.mended;
-  reason = reasonNo x.reason;
+  reason = reason_no x.reason;
   session = session;
 }
 
-abbrev pub batchedBack : Batched → Report → Session → KhChanged
-batchedBack a x session = record {
-  answer = batchedNo a;
+abbrev pub batched_back : Batched → Report → Session → KhChanged
+batched_back a x session = record {
+  answer = batched_no a;
   mended = x.mended;
-  reason = reasonNo x.reason;
+  reason = reason_no x.reason;
   session = session;
 }
 
-abbrev pub readBack : Read → Report → Session → KhRead
-readBack a x session = record {
-  answer = readNo a;
-  done = readCount a;
+abbrev pub read_back : Read → Report → Session → KhRead
+read_back a x session = record {
+  answer = read_no a;
+  done = read_count a;
   place = read_place a;
   mended = x.mended;
-  reason = reasonNo x.reason;
+  reason = reason_no x.reason;
   session = session;
 }
 
-abbrev pub lookedBack : Looked → Report → Session → KhLooked
-lookedBack a x session = record {
-  answer = lookedNo a;
-  «record» = lookedRecord a;
+abbrev pub looked_back : Looked → Report → Session → KhLooked
+looked_back a x session = record {
+  answer = looked_no a;
+  «record» = looked_record a;
   mended = x.mended;
-  reason = reasonNo x.reason;
+  reason = reason_no x.reason;
   session = session;
 }
 
-abbrev pub newestBack : Newest → Report → Session → KhNewest
-newestBack a x session = record {
-  answer = newestNo a;
-  issue = newestIssue a;
-  «record» = newestRecord a;
+abbrev pub newest_back : Newest → Report → Session → KhNewest
+newest_back a x session = record {
+  answer = newest_no a;
+  issue = newest_issue a;
+  «record» = newest_record a;
   mended = x.mended;
-  reason = reasonNo x.reason;
+  reason = reason_no x.reason;
   session = session;
 }
 
-abbrev pub anyBack : Any → Report → Session → KhAny
-anyBack a x session = record {
-  answer = anyNo a;
-  any = anyYes a;
+abbrev pub any_back : Any → Report → Session → KhAny
+any_back a x session = record {
+  answer = any_no a;
+  any = any_yes a;
   mended = x.mended;
-  reason = reasonNo x.reason;
+  reason = reason_no x.reason;
   session = session;
 }
 
-abbrev pub listedBack : Listed → Report → Session → KhListed
-listedBack a x session = record {
-  answer = listedNo a;
-  count = listedCount a;
+abbrev pub listed_back : Listed → Report → Session → KhListed
+listed_back a x session = record {
+  answer = listed_no a;
+  count = listed_count a;
   mended = x.mended;
-  reason = reasonNo x.reason;
+  reason = reason_no x.reason;
   session = session;
 }
 
-abbrev pub writtenBack : Written → Report → Session → KhWritten
-writtenBack a x session = record {
-  answer = writtenNo a;
-  length = writtenLength a;
+abbrev pub written_back : Written → Report → Session → KhWritten
+written_back a x session = record {
+  answer = written_no a;
+  length = written_length a;
   mended = x.mended;
-  reason = reasonNo x.reason;
+  reason = reason_no x.reason;
   session = session;
 }
 
 -- ── The same of what the rules say ──────────────────────────────────────────────────────────────────────────────
 
 abbrev pub formatted : Formatting → Formats
-formatted l = formatting (formattedNo l.answer) l.stable
+formatted l = formatting (formatted_no l.answer) l.stable
 
 abbrev pub answered : {A : Type 0} → (A → ℕ) → Left A → Leaves KhAnswered
-answered number l = leaves (answeredBack (number l.answer) l.session) l.working l.stable
+answered number l = leaves (answered_back (number l.answer) l.session) l.working l.stable
 
 abbrev pub inserted : Reported (Left Inserted) → Leaves KhChanged
-inserted r = leaves (changedBack (insertedNo r.left.answer) r.report r.left.session) r.left.working r.left.stable
+inserted r = leaves (changed_back (inserted_no r.left.answer) r.report r.left.session) r.left.working r.left.stable
 
 abbrev pub withdrawn : Reported (Left Withdrawn) → Leaves KhChanged
-withdrawn r = leaves (changedBack (withdrawnNo r.left.answer) r.report r.left.session) r.left.working r.left.stable
+withdrawn r = leaves (changed_back (withdrawn_no r.left.answer) r.report r.left.session) r.left.working r.left.stable
 
 abbrev pub batched : Reported BatchLeft → Batches
 batched r =
-    batching (batchedBack r.left.answer r.report r.left.session) r.left.working r.left.stable r.left.items
+    batching (batched_back r.left.answer r.report r.left.session) r.left.working r.left.stable r.left.items
 
 abbrev pub read : Reported (Left Read) → Leaves KhRead
-read r = leaves (readBack r.left.answer r.report r.left.session) r.left.working r.left.stable
+read r = leaves (read_back r.left.answer r.report r.left.session) r.left.working r.left.stable
 
 abbrev pub looked : Reported (Left Looked) → Leaves KhLooked
-looked r = leaves (lookedBack r.left.answer r.report r.left.session) r.left.working r.left.stable
+looked r = leaves (looked_back r.left.answer r.report r.left.session) r.left.working r.left.stable
 
 abbrev pub newest : Reported (Left Newest) → Leaves KhNewest
-newest r = leaves (newestBack r.left.answer r.report r.left.session) r.left.working r.left.stable
+newest r = leaves (newest_back r.left.answer r.report r.left.session) r.left.working r.left.stable
 
 abbrev pub any : Reported (Left Any) → Leaves KhAny
-any r = leaves (anyBack r.left.answer r.report r.left.session) r.left.working r.left.stable
+any r = leaves (any_back r.left.answer r.report r.left.session) r.left.working r.left.stable
 
 abbrev pub listed : Reported ListLeft → Lists
 listed r =
     listing
-    (listedBack r.left.answer r.report r.left.session)
+    (listed_back r.left.answer r.report r.left.session)
     r.left.working
     r.left.stable
     r.left.keys
@@ -201,7 +201,7 @@ listed r =
 abbrev pub written : Reported WriteLeft → Writes
 written r =
     writing
-    (writtenBack r.left.answer r.report r.left.session)
+    (written_back r.left.answer r.report r.left.session)
     r.left.working
     r.left.stable
     r.left.out

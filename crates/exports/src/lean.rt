@@ -8,9 +8,9 @@
 //
 // Below stand `store`, `numbers`, `write` for the numbers of its answers, and `rules`.
 ghost use Rattle.std.specs.Prelude.{◌≡◌};
-ghost use Rattle.rules.specs.Reports.{lookupReported, newestReported, hasAnyReported, listReported};
+ghost use Rattle.rules.specs.Reports.{lookup_reported, newest_reported, has_any_reported, list_reported};
 ghost use Rattle.rules.specs.declared.Session.{Session};
-ghost use Rattle.write.specs.WriteFile.{writeReported};
+ghost use Rattle.write.specs.WriteFile.{write_reported};
 ghost use Rattle.exports.specs.Leaves as C;
 ghost use Rattle.exports.specs.Lean;
 
@@ -71,7 +71,7 @@ pub extern "C" fn kh_lean_lookup(
     issue: u16,
 ) -> KhLeanLooked
     ensures { (s : Session) → s.n ≡ n → s.c ≡ c → C.leaves (Lean.looked s result) working.new stable.now
-        ≡ C.looked (lookupReported working.old stable.now s model serial issue) }
+        ≡ C.looked (lookup_reported working.old stable.now s model serial issue) }
 {
     let left = store::lean_lookup(working, stable, n, c, model, serial, issue);
     let answer = left.answer;
@@ -95,7 +95,7 @@ pub extern "C" fn kh_lean_newest(
     serial: u32,
 ) -> KhLeanNewest
     ensures { (s : Session) → s.n ≡ n → s.c ≡ c → C.leaves (Lean.newest s result) working.new stable.now
-        ≡ C.newest (newestReported working.old stable.now s model serial) }
+        ≡ C.newest (newest_reported working.old stable.now s model serial) }
 {
     let left = store::lean_newest(working, stable, n, c, model, serial);
     let answer = left.answer;
@@ -120,7 +120,7 @@ pub extern "C" fn kh_lean_has_any(
     serial: u32,
 ) -> KhLeanAny
     ensures { (s : Session) → s.n ≡ n → s.c ≡ c → C.leaves (Lean.any s result) working.new stable.now
-        ≡ C.any (hasAnyReported working.old stable.now s model serial) }
+        ≡ C.any (has_any_reported working.old stable.now s model serial) }
 {
     let left = store::lean_has_any(working, stable, n, c, model, serial);
     let answer = left.answer;
@@ -146,7 +146,7 @@ pub extern "C" fn kh_lean_list(
 ) -> KhLeanListed
     ensures { (s : Session) → s.n ≡ n → s.c ≡ c
         → C.listing (Lean.listed s result) working.new stable.now keys.new records.new
-        ≡ C.listed (listReported working.old stable.now s start keys.old records.old) }
+        ≡ C.listed (list_reported working.old stable.now s start keys.old records.old) }
 {
     let left = store::lean_list(working, stable, n, c, start, keys, records);
     let answer = left.answer;
@@ -170,7 +170,7 @@ pub extern "C" fn kh_lean_write_file(
 ) -> KhLeanWritten
     ensures { (s : Session) → s.n ≡ n → s.c ≡ c
         → C.writing (Lean.written s result) working.new stable.now out.new
-        ≡ C.written (writeReported working.old stable.now s out.old) }
+        ≡ C.written (write_reported working.old stable.now s out.old) }
 {
     let left = store::lean_write_file(working, stable, n, c, out);
     let answer = left.answer;

@@ -17,14 +17,14 @@
 mod lean;
 
 ghost use Rattle.std.specs.Prelude.{◌≡◌};
-ghost use Rattle.rules.specs.Call.{openedNo, insertedNo, syncedNo};
+ghost use Rattle.rules.specs.Call.{opened_no, inserted_no, synced_no};
 ghost use Rattle.rules.specs.Batch;
 ghost use Rattle.rules.specs.Format;
 ghost use Rattle.rules.specs.Open;
-ghost use Rattle.rules.specs.Reports.{insertReported, withdrawReported, lookupReported, newestReported, hasAnyReported, listReported};
+ghost use Rattle.rules.specs.Reports.{insert_reported, withdraw_reported, lookup_reported, newest_reported, has_any_reported, list_reported};
 ghost use Rattle.rules.specs.Sync;
-ghost use Rattle.write.specs.WriteFile.{writeReported};
-ghost use Rattle.exchange.specs.ReadFile.{readFile};
+ghost use Rattle.write.specs.WriteFile.{write_reported};
+ghost use Rattle.exchange.specs.ReadFile.{read_file};
 ghost use Rattle.exports.specs.Leaves as C;
 
 use rules::{Batching, Item, Session};
@@ -118,7 +118,7 @@ pub extern "C" fn kh_format(working: &[u8], stable: &mut [u8]) -> u32
 #[unsafe(no_mangle)]
 pub extern "C" fn kh_open(working: &mut [u8], stable: &mut [u8]) -> KhAnswered
     ensures { C.leaves result working.new stable.new
-        ≡ C.answered openedNo (Open.opening working.old stable.old) }
+        ≡ C.answered opened_no (Open.opening working.old stable.old) }
 {
     let left = store::open(working, stable);
     let answer = left.answer;
@@ -140,7 +140,7 @@ pub extern "C" fn kh_insert(
     value: u32,
 ) -> KhChanged
     ensures { C.leaves result working.new stable.now
-        ≡ C.inserted (insertReported working.old stable.now session model serial issue value) }
+        ≡ C.inserted (insert_reported working.old stable.now session model serial issue value) }
 {
     let left = insert::insert(working, stable, session, model, serial, issue, value);
     let answer = left.answer;
@@ -157,7 +157,7 @@ pub extern "C" fn kh_insert(
 
 // What a batch handed back, for C.
 fn delivered(left: Batching) -> KhChanged
-    ensures { result ≡ C.batchedBack left.answer left.report left.session }
+    ensures { result ≡ C.batched_back left.answer left.report left.session }
 {
     let answer = left.answer;
     let report = left.report;
@@ -195,7 +195,7 @@ pub extern "C" fn kh_withdraw(
     issue: u16,
 ) -> KhChanged
     ensures { C.leaves result working.new stable.now
-        ≡ C.withdrawn (withdrawReported working.old stable.now session model serial issue) }
+        ≡ C.withdrawn (withdraw_reported working.old stable.now session model serial issue) }
 {
     let left = store::withdraw(working, stable, session, model, serial, issue);
     let answer = left.answer;
@@ -218,7 +218,7 @@ pub extern "C" fn kh_read_file(
     file: &[u8],
 ) -> KhRead
     ensures { C.leaves result working.new stable.now
-        ≡ C.read (readFile working.old stable.now session file.now) }
+        ≡ C.read (read_file working.old stable.now session file.now) }
 {
     let left = store::read_file(working, stable, session, file);
     let answer = left.answer;
@@ -245,7 +245,7 @@ pub extern "C" fn kh_lookup(
     issue: u16,
 ) -> KhLooked
     ensures { C.leaves result working.new stable.now
-        ≡ C.looked (lookupReported working.old stable.now session model serial issue) }
+        ≡ C.looked (lookup_reported working.old stable.now session model serial issue) }
 {
     let left = store::lean_lookup(working, stable, session.n, session.c, model, serial, issue);
     let answer = left.answer;
@@ -269,7 +269,7 @@ pub extern "C" fn kh_newest(
     serial: u32,
 ) -> KhNewest
     ensures { C.leaves result working.new stable.now
-        ≡ C.newest (newestReported working.old stable.now session model serial) }
+        ≡ C.newest (newest_reported working.old stable.now session model serial) }
 {
     let left = store::lean_newest(working, stable, session.n, session.c, model, serial);
     let answer = left.answer;
@@ -294,7 +294,7 @@ pub extern "C" fn kh_has_any(
     serial: u32,
 ) -> KhAny
     ensures { C.leaves result working.new stable.now
-        ≡ C.any (hasAnyReported working.old stable.now session model serial) }
+        ≡ C.any (has_any_reported working.old stable.now session model serial) }
 {
     let left = store::lean_has_any(working, stable, session.n, session.c, model, serial);
     let answer = left.answer;
@@ -319,7 +319,7 @@ pub extern "C" fn kh_list(
     records: &mut [u32],
 ) -> KhListed
     ensures { C.listing result working.new stable.now keys.new records.new
-        ≡ C.listed (listReported working.old stable.now session start keys.old records.old) }
+        ≡ C.listed (list_reported working.old stable.now session start keys.old records.old) }
 {
     let left = store::lean_list(working, stable, session.n, session.c, start, keys, records);
     let answer = left.answer;
@@ -342,7 +342,7 @@ pub extern "C" fn kh_write_file(
     out: &mut [u8],
 ) -> KhWritten
     ensures { C.writing result working.new stable.now out.new
-        ≡ C.written (writeReported working.old stable.now session out.old) }
+        ≡ C.written (write_reported working.old stable.now session out.old) }
 {
     let left = store::lean_write_file(working, stable, session.n, session.c, out);
     let answer = left.answer;
@@ -360,7 +360,7 @@ pub extern "C" fn kh_write_file(
 #[unsafe(no_mangle)]
 pub extern "C" fn kh_sync(working: &mut [u8], stable: &mut [u8], session: Session) -> KhAnswered
     ensures { C.leaves result working.new stable.new
-        ≡ C.answered syncedNo (Sync.sync working.old stable.old session) }
+        ≡ C.answered synced_no (Sync.sync working.old stable.old session) }
 {
     let left = store::sync(working, stable, session);
     let answer = left.answer;

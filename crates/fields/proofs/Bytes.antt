@@ -39,6 +39,6 @@ bytes-set [] i x h k = h
 bytes-set (y ∷ xs) zero x h k = bytes-cons x xs k (λ i. h (suc i))
 bytes-set (y ∷ xs) (suc i) x h k = bytes-cons y (set xs i x) (h zero) (bytes-set xs i x (λ j. h (suc j)) k)
 
-pub bytes-sets : (vs b : List ℕ) (i : ℕ) → Bytes b → Bytes vs → Bytes (sets b i vs)
-bytes-sets [] b i h k = h
-bytes-sets (v ∷ vs) b i h k = bytes-sets vs (set b i v) (suc i) (bytes-set b i v h (k zero)) (λ j. k (suc j))
+pub bytes_sets : (vs b : List ℕ) (i : ℕ) → Bytes b → Bytes vs → Bytes (sets b i vs)
+bytes_sets [] b i h k = h
+bytes_sets (v ∷ vs) b i h k = bytes_sets vs (set b i v) (suc i) (bytes-set b i v h (k zero)) (λ j. k (suc j))

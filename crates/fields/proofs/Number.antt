@@ -32,11 +32,11 @@ le-number (x ∷ xs) h =
     rw (add-mul-mod_self_left, mod-eq_of_lt (h zero).fits, add-mul-div_left x (number xs) (lit< tt), div-eq_of_lt (h zero).fits, zero-add, le-number xs (λ i. h (suc i)))
 
 -- what `w` bytes do not hold makes no difference to them
-pub le-mod : (w v : ℕ) → le w (v % 256 ^ w) ≡ le w v
+pub le_mod : (w v : ℕ) → le w (v % 256 ^ w) ≡ le w v
 unfolding le
-le-mod zero v = refl
-le-mod (suc w) v =
-    rw (pow-suc, mod-mul v (one-le-pow w 256 (lit< tt)) (lit< tt), digits_mod (v / 256 % 256 ^ w) (mod-lt v (lit< tt)), digits_div (v / 256 % 256 ^ w) (mod-lt v (lit< tt)), le-mod w (v / 256))
+le_mod zero v = refl
+le_mod (suc w) v =
+    rw (pow-suc, mod-mul v (one-le-pow w 256 (lit< tt)) (lit< tt), digits_mod (v / 256 % 256 ^ w) (mod-lt v (lit< tt)), digits_div (v / 256 % 256 ^ w) (mod-lt v (lit< tt)), le_mod w (v / 256))
 
 -- ── Cutting ─────────────────────────────────────────────────────────────────────────────────────────────────────
 

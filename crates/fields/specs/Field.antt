@@ -16,8 +16,8 @@ le zero v = []
 le (suc w) v = v % 256 ∷ le w (v / 256)
 
 -- the field of `w` bytes that starts at `off`
-unfoldable pub leAt : List ℕ → ℕ → ℕ → ℕ
-leAt b off w = number (take w (drop off b))
+unfoldable pub le_at : List ℕ → ℕ → ℕ → ℕ
+le_at b off w = number (take w (drop off b))
 
 -- the same bytes with that field set to `v`
 unfoldable pub put_at : List ℕ → ℕ → ℕ → ℕ → List ℕ

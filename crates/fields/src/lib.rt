@@ -7,7 +7,7 @@
 // functions are two calls of the next narrower one, so that each is proved by cutting its field in two.
 
 ghost use Rattle.std.specs.Prelude.{◌≡◌, ◌+◌, ◌≤◌, length};
-ghost use Rattle.fields.specs.Field.{leAt, put_at};
+ghost use Rattle.fields.specs.Field.{le_at, put_at};
 
 // What the second part of a field counts by: 256 to the power of the first part's width.
 const PAST_1: u16 = 256;
@@ -18,7 +18,7 @@ const PAST_4: u64 = 4294967296;
 
 pub fn get16(b: &[u8], at: usize) -> u16
     requires { at + 2 ≤ length b.now }
-    ensures { result ≡ leAt b.now at 2 }
+    ensures { result ≡ le_at b.now at 2 }
 {
     let first = b[at] as u16;
     let second = b[at + 1] as u16;
@@ -27,7 +27,7 @@ pub fn get16(b: &[u8], at: usize) -> u16
 
 pub fn get32(b: &[u8], at: usize) -> u32
     requires { at + 4 ≤ length b.now }
-    ensures { result ≡ leAt b.now at 4 }
+    ensures { result ≡ le_at b.now at 4 }
 {
     let first = get16(b, at) as u32;
     let second = get16(b, at + 2) as u32;
@@ -36,7 +36,7 @@ pub fn get32(b: &[u8], at: usize) -> u32
 
 pub fn get64(b: &[u8], at: usize) -> u64
     requires { at + 8 ≤ length b.now }
-    ensures { result ≡ leAt b.now at 8 }
+    ensures { result ≡ le_at b.now at 8 }
 {
     let first = get32(b, at) as u64;
     let second = get32(b, at + 4) as u64;

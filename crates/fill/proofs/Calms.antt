@@ -5,25 +5,25 @@ use mathlib.Core.Path.{◌≡◌, refl, sym, ap, ◌∙◌}
 use mathlib.Core.Bool.{Bool, true, false}
 use mathlib.Core.List.{List, [], ◌++◌}
 use lib.ListN.{length, take, replicate}
-use Rattle.rules.specs.Layout.{pageSize, leafHeader, certSize, leafKind, leafRoom, mostPages}
+use Rattle.rules.specs.Layout.{page_size, leaf_header, cert_size, leaf_kind, leaf_room, most_pages}
 use Rattle.rules.specs.Entry.{Cert, cut, rising}
-use Rattle.rules.specs.Table.{pageAt, read}
+use Rattle.rules.specs.Table.{page_at, read}
 use Rattle.rules.specs.declared.Asked.{Asked}
-use Rattle.rules.proofs.entries.Tests.{not-both}
-use Rattle.head.specs.Head.{headIn}
+use Rattle.rules.proofs.Entries.Tests.{not_both}
+use Rattle.head.specs.Head.{head_in}
 use Rattle.head.specs.declared.Head.{Head}
-use Rattle.head.proofs.Headers.{head_of, headIn-page}
-use Rattle.entries.specs.Spot.{keysIn}
+use Rattle.head.proofs.Headers.{head_of, head_in-page}
+use Rattle.entries.specs.Spot.{keys_in}
 use Rattle.seen.proofs.Looks.{head-kind}
-use Rattle.dry.specs.Walk.{marked, Sighted, asks, dryOver}
-use Rattle.dry.specs.Cursor.{atRoot, stepping, step_of, Sure}
+use Rattle.dry.specs.Walk.{marked, Sighted, asks, dry_over}
+use Rattle.dry.specs.Cursor.{at_root, stepping, step_of, Sure}
 use Rattle.dry.specs.declared.Cursor.{Cursor}
 use Rattle.dry.specs.declared.LeafAt.{LeafAt}
 use Rattle.dry.specs.declared.Step.{Step}
-use Rattle.dry.proofs.Leads.{wayLeft}
-use Rattle.dry.proofs.Going.{Going, Taken, leafView, root-comes, root-leads, full-sees, end-sees, damage-sees, on-less, on-comes, on-leads, leaf-less, leaf-inside, leaf-shown, leaf-comes, leaf-leads}
+use Rattle.dry.proofs.Leads.{way_left}
+use Rattle.dry.proofs.Going.{Going, Taken, leaf_view, root-comes, root-leads, full_sees, end_sees, damage_sees, on_less, on_comes, on_leads, leaf_less, leaf-inside, leaf-shown, leaf-comes, leaf-leads}
 use Rattle.dry.proofs.Sures.{leaf-fits, leaf-view}
-use Rattle.fill.specs.Fills.{listing, lists_of, Roomy, Calm, certsFrom, listed, asked, Sorted}
+use Rattle.fill.specs.Fills.{listing, lists_of, Roomy, Calm, certs_from, listed, asked, Sorted}
 use Rattle.fill.proofs.Copies.{lists-none, lists-count, lists-more}
 use Rattle.fill.proofs.Leaves as leaves
 
@@ -32,10 +32,10 @@ pub record Filling (n : ℕ) (a : Asked) (t ks xs : List ℕ) (c : Cursor) (fill
   pub going : Going n a t c filled m
   pub lists : listing filled us vs ≡ lists_of ks xs going.found
   pub roomy : Roomy a us vs
-  pub size : length m ≡ mostPages
+  pub size : length m ≡ most_pages
 
 module _ {n : ℕ} {a : Asked} {t ks xs : List ℕ} (calm : Calm n a t) where
-  pub filling-begins : Roomy a ks xs → (c : Cursor) → c ≡ atRoot → Filling n a t ks xs c 0 (replicate mostPages false) ks xs
+  pub filling-begins : Roomy a ks xs → (c : Cursor) → c ≡ at_root → Filling n a t ks xs c 0 (replicate most_pages false) ks xs
   filling-begins r c e = record {
     going = record { found = []; counts = refl; comes = root-comes n t c e a; leads = root-leads n t c e calm.fit };
     lists = lists-none ks xs;
@@ -51,8 +51,8 @@ module _ {n : ℕ} {a : Asked} {t ks xs : List ℕ} (calm : Calm n a t) where
     marks-room = omega (arith, f.size, calm.most)
 
     -- the walk ahead is known to be calm
-    pub filling-sure : filled < a.room → Sure n a t c m
-    filling-sure h = record {
+    pub filling_sure : filled < a.room → Sure n a t c m
+    filling_sure h = record {
       marks = marks-room;
       found = seen;
       room = omega (arith, f.going.counts);
@@ -60,26 +60,26 @@ module _ {n : ℕ} {a : Asked} {t ks xs : List ℕ} (calm : Calm n a t) where
       still = λ i. ap (λ (x : Sighted). marked x.mended i) f.going.comes ∙ calm.still i;
     }
 
-    pub filling-full : a.room ≤ filled → listing filled us vs ≡ lists_of ks xs (dryOver n a t).found
-    filling-full h = f.lists ∙ ap (λ (x : Sighted). lists_of ks xs x.found) (full-sees f.going h)
+    pub filling-full : a.room ≤ filled → listing filled us vs ≡ lists_of ks xs (dry_over n a t).found
+    filling-full h = f.lists ∙ ap (λ (x : Sighted). lists_of ks xs x.found) (full_sees f.going h)
 
     module _ (room : filled < a.room) {s : Step} {marks : List Bool} (is : stepping s marks ≡ step_of n a t c m) where
       abbrev y : Taken n a t c filled m s marks
       y = record { long = calm.long; room = room; going = f.going; is = is }
 
-      pub filling-ends : s ≡ Step.End → listing filled us vs ≡ lists_of ks xs (dryOver n a t).found
-      filling-ends q = f.lists ∙ ap (λ (x : Sighted). lists_of ks xs x.found) (end-sees y q)
+      pub filling-ends : s ≡ Step.End → listing filled us vs ≡ lists_of ks xs (dry_over n a t).found
+      filling-ends q = f.lists ∙ ap (λ (x : Sighted). lists_of ks xs x.found) (end_sees y q)
 
-      pub filling-breaks : s ≡ Step.Damaged → listing filled us vs ≡ lists_of ks xs (dryOver n a t).found
-      filling-breaks q = absurd (not-both calm.whole (sym (ap (λ (x : Sighted). x.whole) (damage-sees y q))))
+      pub filling-breaks : s ≡ Step.Damaged → listing filled us vs ≡ lists_of ks xs (dry_over n a t).found
+      filling-breaks q = absurd (not_both calm.whole (sym (ap (λ (x : Sighted). x.whole) (damage_sees y q))))
 
       module _ (x : Cursor) (q : s ≡ Step.On x) where
-        pub filling-less : wayLeft x < wayLeft c
-        filling-less = on-less y x q
+        pub filling_less : way_left x < way_left c
+        filling_less = on_less y x q
 
-        pub filling-on : length marks ≡ mostPages → Filling n a t ks xs x filled marks us vs
-        filling-on size = record {
-          going = record { found = seen; counts = f.going.counts; comes = on-comes y x q; leads = on-leads y x q };
+        pub filling_on : length marks ≡ most_pages → Filling n a t ks xs x filled marks us vs
+        filling_on size = record {
+          going = record { found = seen; counts = f.going.counts; comes = on_comes y x q; leads = on_leads y x q };
           lists = f.lists;
           roomy = f.roomy;
           size = size;
@@ -88,50 +88,50 @@ module _ {n : ℕ} {a : Asked} {t ks xs : List ℕ} (calm : Calm n a t) where
       -- ── A leaf ──────────────────────────────────────────────────────────────────────────────────────────────────
 
       module _ (l : LeafAt) (q : s ≡ Step.Leaf l) where
-        pub filling-passes : wayLeft l.after < wayLeft c
-        filling-passes = leaf-less y l q
+        pub filling-passes : way_left l.after < way_left c
+        filling-passes = leaf_less y l q
 
-        pub filling-inside : (l.page + 1) * pageSize ≤ length t
+        pub filling-inside : (l.page + 1) * page_size ≤ length t
         filling-inside = leaf-inside y l q
 
-        module _ (h : Head) (p : h ≡ headIn (pageAt t l.page)) where
+        module _ (h : Head) (p : h ≡ head_in (page_at t l.page)) where
           here : h ≡ head_of (read t l.page)
           unfolding read
-          here = p ∙ headIn-page (pageAt t l.page)
+          here = p ∙ head_in-page (page_at t l.page)
 
-          kind : h.kind ≡ leafKind
+          kind : h.kind ≡ leaf_kind
           kind = head-kind t l.page h p ∙ (leaf-shown y l q).kind
 
           sorted : Sorted (read t l.page).view.certs
           sorted =
               let z = (leaf-fits y marks-room calm.still l q).sound in
-              record { room = z.certs-room; rise = z.certs-rise }
+              record { room = z.certs_room; rise = z.certs_rise }
 
-          pub filling-count : h.count ≤ leafRoom
-          filling-count = leaves.leaf_room t l.page h here kind sorted
+          pub filling-count : h.count ≤ leaf_room
+          filling-count = leaves.leaf_room_lem t l.page h here kind sorted
 
-          pub filling-rises : rising (keysIn leafHeader certSize h.count (pageAt t l.page)) ≡ true
+          pub filling-rises : rising (keys_in leaf_header cert_size h.count (page_at t l.page)) ≡ true
           filling-rises = leaves.leaf-rise t l.page h here kind sorted
 
-          shown : leafView t a l seen ≡ asked a filled (certsFrom (pageAt t l.page) 0 h.count)
+          shown : leaf_view t a l seen ≡ asked a filled (certs_from (page_at t l.page) 0 h.count)
           unfolding asks asked
           shown =
               leaf-view y marks-room calm.still l q seen
               ∙ ap (λ (k : ℕ). take (a.room - k) (cut a.low a.high (read t l.page).view.certs)) f.going.counts
               ∙ ap (asked a filled) (leaves.leaf-certs t l.page h here kind)
 
-          module _ (k : ℕ) (ms ns : List ℕ) (g : listing k ms ns ≡ listed (asked a filled (certsFrom (pageAt t l.page) 0 h.count)) filled us vs) where
-            now : listing k ms ns ≡ lists_of ks xs (seen ++ leafView t a l seen)
+          module _ (k : ℕ) (ms ns : List ℕ) (g : listing k ms ns ≡ listed (asked a filled (certs_from (page_at t l.page) 0 h.count)) filled us vs) where
+            now : listing k ms ns ≡ lists_of ks xs (seen ++ leaf_view t a l seen)
             now =
                 g
                 ∙ ap (λ (ys : List Cert). listed ys filled us vs) (sym shown)
-                ∙ lists-more ks xs filled us vs seen (leafView t a l seen) f.lists
+                ∙ lists-more ks xs filled us vs seen (leaf_view t a l seen) f.lists
 
-            pub filling-leaf : Roomy a ms ns → length marks ≡ mostPages → Filling n a t ks xs l.after k marks ms ns
+            pub filling-leaf : Roomy a ms ns → length marks ≡ most_pages → Filling n a t ks xs l.after k marks ms ns
             filling-leaf roomy size = record {
               going = record {
-                found = seen ++ leafView t a l seen;
-                counts = sym (lists-count ks xs (seen ++ leafView t a l seen) k ms ns now);
+                found = seen ++ leaf_view t a l seen;
+                counts = sym (lists-count ks xs (seen ++ leaf_view t a l seen) k ms ns now);
                 comes = leaf-comes y l q;
                 leads = leaf-leads y l q;
               };

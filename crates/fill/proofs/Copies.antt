@@ -7,32 +7,32 @@ use native.Mathlib.Numerals.{add-one}
 use native.Mathlib.Omega.{arith}
 use lib.ListN.{length, take, drop, get_or, set, length-append}
 use lib.Seq.{paste, paste-suc, take-length, drop-drop}
-use Rattle.rules.specs.Layout.{leafHeader, certSize}
+use Rattle.rules.specs.Layout.{leaf_header, cert_size}
 use Rattle.rules.specs.Entry.{Cert, keys}
-use Rattle.rules.specs.Page.{certIn, over}
-use Rattle.rules.specs.List.{recordsOf}
-use Rattle.rules.proofs.bytes.Each.{length-readEach, readEach-at}
-use Rattle.rules.proofs.bytes.Over.{take-over, drop-over-behind}
-use Rattle.rules.proofs.entries.Rises.{length-keys, getD-keys, keys-append}
-use Rattle.head.specs.Head.{certAt}
+use Rattle.rules.specs.Page.{cert_in, over}
+use Rattle.rules.specs.List.{records_of}
+use Rattle.rules.proofs.Bytes.Each.{length-read_each, read_each-at}
+use Rattle.rules.proofs.Bytes.Over.{take-over, drop-over-behind}
+use Rattle.rules.proofs.Entries.Rises.{length-keys, get_d_keys, keys-append}
+use Rattle.head.specs.Head.{cert_at}
 use Rattle.rules.specs.declared.Asked.{Asked}
-use Rattle.fill.specs.Fills.{Lists, listing, lists_of, certsFrom, listed, Roomy}
+use Rattle.fill.specs.Fills.{Lists, listing, lists_of, certs_from, listed, Roomy}
 
 -- ── The records of certificates ─────────────────────────────────────────────────────────────────────────────────
 
-length-records : (xs : List Cert) → length (recordsOf xs) ≡ length xs
-unfolding recordsOf
+length-records : (xs : List Cert) → length (records_of xs) ≡ length xs
+unfolding records_of
 length-records [] = refl
 length-records (x ∷ xs) = ap suc (length-records xs)
 
-getD-records : (xs : List Cert) (i : ℕ) (d : Cert) → get_or (recordsOf xs) i d.value ≡ (get_or xs i d).value
-unfolding recordsOf
-getD-records [] i d = refl
-getD-records (x ∷ xs) zero d = refl
-getD-records (x ∷ xs) (suc i) d = getD-records xs i d
+get_d_records : (xs : List Cert) (i : ℕ) (d : Cert) → get_or (records_of xs) i d.value ≡ (get_or xs i d).value
+unfolding records_of
+get_d_records [] i d = refl
+get_d_records (x ∷ xs) zero d = refl
+get_d_records (x ∷ xs) (suc i) d = get_d_records xs i d
 
-records-append : (xs ys : List Cert) → recordsOf (xs ++ ys) ≡ recordsOf xs ++ recordsOf ys
-unfolding recordsOf
+records-append : (xs ys : List Cert) → records_of (xs ++ ys) ≡ records_of xs ++ records_of ys
+unfolding records_of
 records-append [] ys = refl
 records-append (x ∷ xs) ys = ap (λ (zs : List ℕ). x.value ∷ zs) (records-append xs ys)
 
@@ -47,33 +47,33 @@ copy-turn : (d e new : List ℕ) (at j v : ℕ) → e ≡ paste d at new j → a
 copy-turn d e new at j v p l m q = rw (p, q, add-one j) (paste-suc d at new j 0 l m)
 
 module _ (b : List ℕ) (first many : ℕ) where
-  length_from : length (certsFrom b first many) ≡ many
-  unfolding certsFrom
-  length_from = length-readEach certIn certSize many (drop (leafHeader + certSize * first) b)
+  length_from : length (certs_from b first many) ≡ many
+  unfolding certs_from
+  length_from = length-read_each cert_in cert_size many (drop (leaf_header + cert_size * first) b)
 
-  cert-from : (j : ℕ) → j < many → get_or (certsFrom b first many) j nothing ≡ certAt b (first + j)
-  unfolding certsFrom certAt
-  cert-from j h =
-      rw (readEach-at certIn certSize many (drop (leafHeader + certSize * first) b) j nothing h, drop-drop, mul-add, add_assoc)
+  cert_from : (j : ℕ) → j < many → get_or (certs_from b first many) j nothing ≡ cert_at b (first + j)
+  unfolding certs_from cert_at
+  cert_from j h =
+      rw (read_each-at cert_in cert_size many (drop (leaf_header + cert_size * first) b) j nothing h, drop-drop, mul-add, add_assoc)
 
   module _ (d e : List ℕ) (at j v : ℕ) (h : j < many) (l : at + many ≤ length d) where
-    pub key-turn : e ≡ paste d at (keys (certsFrom b first many)) j → v ≡ (certAt b (first + j)).key
-        → set e (at + j) v ≡ paste d at (keys (certsFrom b first many)) (j + 1)
+    pub key-turn : e ≡ paste d at (keys (certs_from b first many)) j → v ≡ (cert_at b (first + j)).key
+        → set e (at + j) v ≡ paste d at (keys (certs_from b first many)) (j + 1)
     unfolding nothing
     key-turn p q =
-        copy-turn d e (keys (certsFrom b first many)) at j v p (omega arith) (omega (arith, length-keys (certsFrom b first many), length_from))
-        (q ∙ sym (getD-keys (certsFrom b first many) j nothing ∙ ap (λ (x : Cert). x.key) (cert-from j h)))
+        copy-turn d e (keys (certs_from b first many)) at j v p (omega arith) (omega (arith, length-keys (certs_from b first many), length_from))
+        (q ∙ sym (get_d_keys (certs_from b first many) j nothing ∙ ap (λ (x : Cert). x.key) (cert_from j h)))
 
-    pub record-turn : e ≡ paste d at (recordsOf (certsFrom b first many)) j → v ≡ (certAt b (first + j)).value
-        → set e (at + j) v ≡ paste d at (recordsOf (certsFrom b first many)) (j + 1)
+    pub record_turn : e ≡ paste d at (records_of (certs_from b first many)) j → v ≡ (cert_at b (first + j)).value
+        → set e (at + j) v ≡ paste d at (records_of (certs_from b first many)) (j + 1)
     unfolding nothing
-    record-turn p q =
-        copy-turn d e (recordsOf (certsFrom b first many)) at j v p (omega arith) (omega (arith, length-records (certsFrom b first many), length_from))
-        (q ∙ sym (getD-records (certsFrom b first many) j nothing ∙ ap (λ (x : Cert). x.value) (cert-from j h)))
+    record_turn p q =
+        copy-turn d e (records_of (certs_from b first many)) at j v p (omega arith) (omega (arith, length-records (certs_from b first many), length_from))
+        (q ∙ sym (get_d_records (certs_from b first many) j nothing ∙ ap (λ (x : Cert). x.value) (cert_from j h)))
 
-  pub copied : (filled : ℕ) (ks xs us vs : List ℕ) (j : ℕ) → j ≡ many → us ≡ paste ks filled (keys (certsFrom b first many)) j
-      → vs ≡ paste xs filled (recordsOf (certsFrom b first many)) j
-      → listing (filled + many) us vs ≡ listed (certsFrom b first many) filled ks xs
+  pub copied : (filled : ℕ) (ks xs us vs : List ℕ) (j : ℕ) → j ≡ many → us ≡ paste ks filled (keys (certs_from b first many)) j
+      → vs ≡ paste xs filled (records_of (certs_from b first many)) j
+      → listing (filled + many) us vs ≡ listed (certs_from b first many) filled ks xs
   unfolding listed
   copied filled ks xs us vs j i p q = rw (p, q, i, length_from)
 
@@ -84,7 +84,7 @@ same_lists p q r = cc
 
 -- nothing was found
 pub lists-none : (ks xs : List ℕ) → listing 0 ks xs ≡ lists_of ks xs []
-unfolding lists_of over keys recordsOf
+unfolding lists_of over keys records_of
 lists-none ks xs = refl
 
 pub lists-count : (ks xs : List ℕ) (found : List Cert) (filled : ℕ) (us vs : List ℕ) → listing filled us vs ≡ lists_of ks xs found → filled ≡ length found
@@ -118,9 +118,9 @@ lists-more ks xs filled us vs found new e =
         stands-over (keys found) (keys new) ks us filled (length new) (ap (λ (l : Lists). l.keys) e) (count ∙ sym (length-keys found)) (sym (length-keys new))
         ∙ ap (λ (l : List ℕ). over l ks) (sym (keys-append found new))
 
-    second : paste vs filled (recordsOf new) (length new) ≡ over (recordsOf (found ++ new)) xs
+    second : paste vs filled (records_of new) (length new) ≡ over (records_of (found ++ new)) xs
     second =
-        stands-over (recordsOf found) (recordsOf new) xs vs filled (length new) (ap (λ (l : Lists). l.records) e) (count ∙ sym (length-records found)) (sym (length-records new))
+        stands-over (records_of found) (records_of new) xs vs filled (length new) (ap (λ (l : Lists). l.records) e) (count ∙ sym (length-records found)) (sym (length-records new))
         ∙ ap (λ (l : List ℕ). over l xs) (sym (records-append found new))
 
 pub roomy-kept : {a : Asked} {us vs ms ns : List ℕ} → Roomy a us vs → length ms ≡ length us → length ns ≡ length vs → Roomy a ms ns

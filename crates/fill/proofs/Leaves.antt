@@ -5,28 +5,28 @@ use mathlib.Core.List.{List}
 use Prim.Native.Nat.{ℕ, ◌≤◌}
 use native.Mathlib.Omega.{arith}
 use lib.ListN.{length, drop}
-use Rattle.rules.specs.Layout.{leafHeader, certSize, leafKind, leafRoom}
+use Rattle.rules.specs.Layout.{leaf_header, cert_size, leaf_kind, leaf_room}
 use Rattle.rules.specs.Entry.{keys, rising}
-use Rattle.rules.specs.Page.{certIn}
-use Rattle.rules.specs.Table.{pageAt, read}
-use Rattle.rules.proofs.bytes.Each.{length-readEach}
+use Rattle.rules.specs.Page.{cert_in}
+use Rattle.rules.specs.Table.{page_at, read}
+use Rattle.rules.proofs.Bytes.Each.{length-read_each}
 use Rattle.head.specs.declared.Head.{Head}
 use Rattle.head.proofs.Headers.{head_of, certs-leaf}
-use Rattle.entries.specs.Spot.{keysIn}
+use Rattle.entries.specs.Spot.{keys_in}
 use Rattle.entries.proofs.KeysIn.{keys-certs}
-use Rattle.fill.specs.Fills.{certsFrom, Sorted}
+use Rattle.fill.specs.Fills.{certs_from, Sorted}
 
-module _ (t : List ℕ) (page : ℕ) (h : Head) (f : h ≡ head_of (read t page)) (q : h.kind ≡ leafKind) where
-  pub leaf-certs : (read t page).view.certs ≡ certsFrom (pageAt t page) 0 h.count
-  unfolding certsFrom
+module _ (t : List ℕ) (page : ℕ) (h : Head) (f : h ≡ head_of (read t page)) (q : h.kind ≡ leaf_kind) where
+  pub leaf-certs : (read t page).view.certs ≡ certs_from (page_at t page) 0 h.count
+  unfolding certs_from
   leaf-certs = certs-leaf t page h f q
 
   module _ (r : Sorted (read t page).view.certs) where
-    pub leaf_room : h.count ≤ leafRoom
-    unfolding certsFrom
-    leaf_room =
-        omega (arith, r.room, ap length leaf-certs, length-readEach certIn certSize h.count (drop leafHeader (pageAt t page)))
+    pub leaf_room_lem : h.count ≤ leaf_room
+    unfolding certs_from
+    leaf_room_lem =
+        omega (arith, r.room, ap length leaf-certs, length-read_each cert_in cert_size h.count (drop leaf_header (page_at t page)))
 
-    pub leaf-rise : rising (keysIn leafHeader certSize h.count (pageAt t page)) ≡ true
-    unfolding certsFrom
-    leaf-rise = ap rising (sym (ap keys leaf-certs ∙ keys-certs h.count (pageAt t page))) ∙ r.rise
+    pub leaf-rise : rising (keys_in leaf_header cert_size h.count (page_at t page)) ≡ true
+    unfolding certs_from
+    leaf-rise = ap rising (sym (ap keys leaf-certs ∙ keys-certs h.count (page_at t page))) ∙ r.rise

@@ -9,40 +9,40 @@ use borrow.Author.Tests.{leb-true, leb-false}
 use lib.Dec.{leb}
 use lib.ListN.{take, drop, get_or, length-take}
 use lib.Seq.{take_all, take-take, drop-drop}
-use Rattle.rules.specs.Layout.{leafHeader, certSize}
+use Rattle.rules.specs.Layout.{leaf_header, cert_size}
 use Rattle.rules.specs.Entry.{keys, rising}
-use Rattle.rules.specs.Page.{certIn}
+use Rattle.rules.specs.Page.{cert_in}
 use Rattle.rules.specs.declared.Asked.{Asked}
-use Rattle.rules.proofs.bytes.Each.{readEach-at, take-readEach, drop-readEach}
-use Rattle.head.specs.Head.{certAt}
-use Rattle.entries.specs.Spot.{keyIn, keysIn, spot_of, start_of}
+use Rattle.rules.proofs.Bytes.Each.{read_each-at, take-read_each, drop-read_each}
+use Rattle.head.specs.Head.{cert_at}
+use Rattle.entries.specs.Spot.{key_in, keys_in, spot_of, start_of}
 use Rattle.entries.proofs.Cut.{cut_range}
-use Rattle.entries.proofs.KeysIn.{keys-certs, length-keysIn, spot-bound, start-bound}
+use Rattle.entries.proofs.KeysIn.{keys-certs, length-keys_in, spot-bound, start-bound}
 use Rattle.seek.proofs.Spots.{spot-above, spot-below}
-use Rattle.fill.specs.Fills.{certsFrom, asked}
+use Rattle.fill.specs.Fills.{certs_from, asked}
 
 -- ── A spot at either end ────────────────────────────────────────────────────────────────────────────────────────
 
-key-cert : (count j : ℕ) (b : List ℕ) → j < count → get_or (keysIn leafHeader certSize count b) j 0 ≡ (certAt b j).key
-unfolding keysIn keyIn certAt certIn
-key-cert count j b h = rw (readEach-at keyIn certSize count (drop leafHeader b) j 0 h, drop-drop)
+key_cert : (count j : ℕ) (b : List ℕ) → j < count → get_or (keys_in leaf_header cert_size count b) j 0 ≡ (cert_at b j).key
+unfolding keys_in key_in cert_at cert_in
+key_cert count j b h = rw (read_each-at key_in cert_size count (drop leaf_header b) j 0 h, drop-drop)
 
 module _ (b : List ℕ) (count k : ℕ) where
-  pub spot-none : count ≡ 0 → 0 ≡ spot_of k (keysIn leafHeader certSize count b)
-  spot-none z = omega (arith, spot-bound k (keysIn leafHeader certSize count b), length-keysIn leafHeader certSize count b)
+  pub spot-none : count ≡ 0 → 0 ≡ spot_of k (keys_in leaf_header cert_size count b)
+  spot-none z = omega (arith, spot-bound k (keys_in leaf_header cert_size count b), length-keys_in leaf_header cert_size count b)
 
-  pub spot-start : 0 < count → (x : ℕ) → x ≡ (certAt b 0).key → k < x → 0 ≡ spot_of k (keysIn leafHeader certSize count b)
+  pub spot-start : 0 < count → (x : ℕ) → x ≡ (cert_at b 0).key → k < x → 0 ≡ spot_of k (keys_in leaf_header cert_size count b)
   spot-start h x e l =
-      let at : k < get_or (keysIn leafHeader certSize count b) 0 0 = omega (arith, key-cert count 0 b h) in
-      let s = spot-below k 0 (keysIn leafHeader certSize count b) (omega (arith, length-keysIn leafHeader certSize count b)) at in
+      let at : k < get_or (keys_in leaf_header cert_size count b) 0 0 = omega (arith, key_cert count 0 b h) in
+      let s = spot-below k 0 (keys_in leaf_header cert_size count b) (omega (arith, length-keys_in leaf_header cert_size count b)) at in
       omega arith
 
-  pub spot-end : rising (keysIn leafHeader certSize count b) ≡ true → 0 < count → (x : ℕ) → x ≡ (certAt b (count - 1)).key → x ≤ k
-      → count ≡ spot_of k (keysIn leafHeader certSize count b)
+  pub spot-end : rising (keys_in leaf_header cert_size count b) ≡ true → 0 < count → (x : ℕ) → x ≡ (cert_at b (count - 1)).key → x ≤ k
+      → count ≡ spot_of k (keys_in leaf_header cert_size count b)
   spot-end r h x e l =
-      let at : get_or (keysIn leafHeader certSize count b) (count - 1) 0 ≤ k = omega (arith, key-cert count (count - 1) b (omega arith)) in
-      let s = spot-above k (count - 1) (keysIn leafHeader certSize count b) r (omega (arith, length-keysIn leafHeader certSize count b)) at in
-      omega (arith, spot-bound k (keysIn leafHeader certSize count b), length-keysIn leafHeader certSize count b)
+      let at : get_or (keys_in leaf_header cert_size count b) (count - 1) 0 ≤ k = omega (arith, key_cert count (count - 1) b (omega arith)) in
+      let s = spot-above k (count - 1) (keys_in leaf_header cert_size count b) r (omega (arith, length-keys_in leaf_header cert_size count b)) at in
+      omega (arith, spot-bound k (keys_in leaf_header cert_size count b), length-keys_in leaf_header cert_size count b)
 
 -- ── Those asked for ─────────────────────────────────────────────────────────────────────────────────────────────
 
@@ -56,34 +56,34 @@ take_min m n xs = go (leb m n) refl
         rw (min-eq_right h) (take_all m (take n xs) (omega (arith, length-take n xs)))
 
 certs-run : (b : List ℕ) (count first many : ℕ) → many ≤ count - first
-    → take many (drop first (certsFrom b 0 count)) ≡ certsFrom b first many
-unfolding certsFrom
+    → take many (drop first (certs_from b 0 count)) ≡ certs_from b first many
+unfolding certs_from
 certs-run b count first many h =
-    rw (drop-readEach certIn certSize first count (drop leafHeader b), take-readEach certIn certSize many (count - first) (drop (certSize * first) (drop leafHeader b)) h, drop-drop)
+    rw (drop-read_each cert_in cert_size first count (drop leaf_header b), take-read_each cert_in cert_size many (count - first) (drop (cert_size * first) (drop leaf_header b)) h, drop-drop)
 
-module _ (b : List ℕ) (count : ℕ) (a : Asked) (filled : ℕ) (r : rising (keysIn leafHeader certSize count b) ≡ true) (first past many : ℕ) (f : first ≡ start_of a.low (keysIn leafHeader certSize count b)) (p : past ≡ spot_of a.high (keysIn leafHeader certSize count b)) (m : many ≡ min (a.room - filled) (past - first)) where
+module _ (b : List ℕ) (count : ℕ) (a : Asked) (filled : ℕ) (r : rising (keys_in leaf_header cert_size count b) ≡ true) (first past many : ℕ) (f : first ≡ start_of a.low (keys_in leaf_header cert_size count b)) (p : past ≡ spot_of a.high (keys_in leaf_header cert_size count b)) (m : many ≡ min (a.room - filled) (past - first)) where
   many-room : many ≤ count - first
   many-room =
-      omega (arith, min-le_right (a.room - filled) (past - first), spot-bound a.high (keysIn leafHeader certSize count b), length-keysIn leafHeader certSize count b)
+      omega (arith, min-le_right (a.room - filled) (past - first), spot-bound a.high (keys_in leaf_header cert_size count b), length-keys_in leaf_header cert_size count b)
 
   -- they lie in the page
   pub run-within : first + many ≤ count
-  run-within = omega (arith, many-room, start-bound a.low (keysIn leafHeader certSize count b), length-keysIn leafHeader certSize count b)
+  run-within = omega (arith, many-room, start-bound a.low (keys_in leaf_header cert_size count b), length-keys_in leaf_header cert_size count b)
 
-  same_keys : keys (certsFrom b 0 count) ≡ keysIn leafHeader certSize count b
-  unfolding certsFrom
+  same_keys : keys (certs_from b 0 count) ≡ keys_in leaf_header cert_size count b
+  unfolding certs_from
   same_keys = keys-certs count b
 
-  asked-cut : asked a filled (certsFrom b 0 count) ≡ take (a.room - filled) (take (past - first) (drop first (certsFrom b 0 count)))
+  asked-cut : asked a filled (certs_from b 0 count) ≡ take (a.room - filled) (take (past - first) (drop first (certs_from b 0 count)))
   unfolding asked
-  asked-cut = rw (cut_range a.low a.high (certsFrom b 0 count) (rw same_keys r), same_keys, p, f)
+  asked-cut = rw (cut_range a.low a.high (certs_from b 0 count) (rw same_keys r), same_keys, p, f)
 
-  pub asked-run : certsFrom b first many ≡ asked a filled (certsFrom b 0 count)
+  pub asked-run : certs_from b first many ≡ asked a filled (certs_from b 0 count)
   asked-run =
       sym
       (asked-cut
-      ∙ (take_min (a.room - filled) (past - first) (drop first (certsFrom b 0 count))
-      ∙ (ap (λ (k : ℕ). take k (drop first (certsFrom b 0 count))) (sym m) ∙ certs-run b count first many many-room)))
+      ∙ (take_min (a.room - filled) (past - first) (drop first (certs_from b 0 count))
+      ∙ (ap (λ (k : ℕ). take k (drop first (certs_from b 0 count))) (sym m) ∙ certs-run b count first many many-room)))
 
 -- and there is room for them in the lists
 pub run_room : (room at past first many : ℕ) → at ≤ room → many ≡ min (room - at) (past - first) → at + many ≤ room

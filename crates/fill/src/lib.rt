@@ -9,13 +9,13 @@
 //
 // Below stand `leaves` and `dry`, which step from leaf to leaf, `seek`, which finds a key on a page, and `head`.
 ghost use Rattle.std.specs.Prelude.{◌≡◌, true, min, ◌+◌, ◌-◌, ◌*◌, ◌≤◌, length};
-ghost use Rattle.rules.specs.Layout.{pageSize, leafHeader, certSize, leafRoom, lastKey};
+ghost use Rattle.rules.specs.Layout.{page_size, leaf_header, cert_size, leaf_room, last_key};
 ghost use Rattle.rules.specs.Entry.{rising};
-ghost use Rattle.rules.specs.Table.{pageAt, fit0};
+ghost use Rattle.rules.specs.Table.{page_at, fit0};
 ghost use Rattle.rules.specs.Walk.{walk_of};
-ghost use Rattle.entries.specs.Spot.{keysIn, spot_of, start_of};
-ghost use Rattle.dry.specs.Walk.{dryOver};
-ghost use Rattle.fill.specs.Fills.{listing, lists_of, filling, filledIn, mending, mendedIn, Roomy, HasRoom, Calm, certsFrom, listed, asked};
+ghost use Rattle.entries.specs.Spot.{keys_in, spot_of, start_of};
+ghost use Rattle.dry.specs.Walk.{dry_over};
+ghost use Rattle.fill.specs.Fills.{listing, lists_of, filling, filled_in, mending, mended_in, Roomy, HasRoom, Calm, certs_from, listed, asked};
 
 use dry::Step;
 use leaves::Stepped;
@@ -30,9 +30,9 @@ pub struct Filled {
 
 // How many of a leaf's keys are not above one. As a rule that is none or all of them, so both ends are tried first.
 fn spot(page: &[u8], count: usize, key: u64) -> usize
-    requires { (leafHeader + certSize * count ≤ length page.now) × (length page.now ≤ pageSize)
-        × (rising (keysIn leafHeader certSize count page.now) ≡ true) }
-    ensures { result ≡ spot_of key (keysIn leafHeader certSize count page.now) }
+    requires { (leaf_header + cert_size * count ≤ length page.now) × (length page.now ≤ page_size)
+        × (rising (keys_in leaf_header cert_size count page.now) ≡ true) }
+    ensures { result ≡ spot_of key (keys_in leaf_header cert_size count page.now) }
 {
     if count == 0 {
         return 0;
@@ -48,9 +48,9 @@ fn spot(page: &[u8], count: usize, key: u64) -> usize
 
 // How many of a leaf's keys are below one.
 fn start(page: &[u8], count: usize, low: u64) -> usize
-    requires { (leafHeader + certSize * count ≤ length page.now) × (length page.now ≤ pageSize)
-        × (rising (keysIn leafHeader certSize count page.now) ≡ true) }
-    ensures { result ≡ start_of low (keysIn leafHeader certSize count page.now) }
+    requires { (leaf_header + cert_size * count ≤ length page.now) × (length page.now ≤ page_size)
+        × (rising (keys_in leaf_header cert_size count page.now) ≡ true) }
+    ensures { result ≡ start_of low (keys_in leaf_header cert_size count page.now) }
 {
     if low == 0 {
         return 0;
@@ -80,10 +80,10 @@ fn copy(
     records: &mut [u32],
     filled: usize,
 ) -> usize
-    requires { (leafHeader + certSize * (first + many) ≤ length page.now) × (length page.now ≤ pageSize)
+    requires { (leaf_header + cert_size * (first + many) ≤ length page.now) × (length page.now ≤ page_size)
         × (filled + many ≤ length keys.old) × (filled + many ≤ length records.old) }
     ensures { listing result keys.new records.new
-        ≡ listed (certsFrom page.now first many) filled keys.old records.old }
+        ≡ listed (certs_from page.now first many) filled keys.old records.old }
 {
     let mut j = 0;
     while j < many {
@@ -103,10 +103,10 @@ fn fill_leaf(
     records: &mut [u32],
     filled: usize,
 ) -> usize
-    requires { (leafHeader + certSize * count ≤ length page.now) × (length page.now ≤ pageSize)
-        × (rising (keysIn leafHeader certSize count page.now) ≡ true) × (filled ≤ a.room) × Roomy a keys.old records.old }
+    requires { (leaf_header + cert_size * count ≤ length page.now) × (length page.now ≤ page_size)
+        × (rising (keys_in leaf_header cert_size count page.now) ≡ true) × (filled ≤ a.room) × Roomy a keys.old records.old }
     ensures { listing result keys.new records.new
-        ≡ listed (asked a filled (certsFrom page.now 0 count)) filled keys.old records.old }
+        ≡ listed (asked a filled (certs_from page.now 0 count)) filled keys.old records.old }
 {
     let first = start(page, count, a.low);
     let past = spot(page, count, a.high);
@@ -124,10 +124,10 @@ fn fill_leaf_at(
     records: &mut [u32],
     filled: usize,
 ) -> usize
-    requires { ((page + 1) * pageSize ≤ length t.now) × (count ≤ leafRoom) × (rising (keysIn leafHeader certSize count (pageAt t.now page)) ≡ true)
+    requires { ((page + 1) * page_size ≤ length t.now) × (count ≤ leaf_room) × (rising (keys_in leaf_header cert_size count (page_at t.now page)) ≡ true)
         × (filled ≤ a.room) × Roomy a keys.old records.old }
     ensures { listing result keys.new records.new
-        ≡ listed (asked a filled (certsFrom (pageAt t.now page) 0 count)) filled keys.old records.old }
+        ≡ listed (asked a filled (certs_from (page_at t.now page) 0 count)) filled keys.old records.old }
 {
     let from = page * PAGE;
     let to = from + PAGE;
@@ -139,7 +139,7 @@ fn fill_leaf_at(
 pub fn fill_known(t: &[u8], n: usize, a: Asked, keys: &mut [u64], records: &mut [u32]) -> usize
     requires { Calm n a t.now × Roomy a keys.old records.old }
     ensures { listing result keys.new records.new
-        ≡ lists_of keys.old records.old (dryOver n a t.now).found }
+        ≡ lists_of keys.old records.old (dry_over n a t.now).found }
 {
     let mut c = dry::at_root();
     let mut filled = 0;
@@ -176,10 +176,10 @@ pub fn fill(
     keys: &mut [u64],
     records: &mut [u32],
 ) -> Filled
-    requires { (length t.old ≡ n * pageSize) × (fit0 n t.old ≡ true) × (a.low ≤ a.high) × (a.high ≤ lastKey)
+    requires { (length t.old ≡ n * page_size) × (fit0 n t.old ≡ true) × (a.low ≤ a.high) × (a.high ≤ last_key)
         × Roomy a keys.old records.old × ((walk_of n c a t.old).whole ≡ true) }
     ensures { filling t.new result keys.new records.new
-        ≡ filledIn keys.old records.old (walk_of n c a t.old) }
+        ≡ filled_in keys.old records.old (walk_of n c a t.old) }
 {
     let mut key = a.low;
     let mut cursor = leaves::start();
@@ -218,9 +218,9 @@ pub fn fill(
 // The walk that only mends, to its end or up to the damaged place that lies ahead. There is room to the end, so nothing
 // is counted.
 pub fn mend(t: &mut [u8], n: usize, c: u32, a: Asked) -> Report
-    requires { (length t.old ≡ n * pageSize) × (fit0 n t.old ≡ true) × (a.low ≤ a.high) × (a.high ≤ lastKey)
+    requires { (length t.old ≡ n * page_size) × (fit0 n t.old ≡ true) × (a.low ≤ a.high) × (a.high ≤ last_key)
         × HasRoom a (walk_of n c a t.old) }
-    ensures { mending t.new result ≡ mendedIn (walk_of n c a t.old) }
+    ensures { mending t.new result ≡ mended_in (walk_of n c a t.old) }
 {
     let mut key = a.low;
     let mut cursor = leaves::start();

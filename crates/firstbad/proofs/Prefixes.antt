@@ -6,11 +6,11 @@ use mathlib.Core.Path.{◌≡◌, refl, sym, ap, ◌∙◌, subst}
 use mathlib.Core.Logic.{inl}
 use mathlib.Core.List.{List, [], ◌∷◌, ◌++◌}
 use lib.ListN.{length, take}
-use Rattle.exchange.specs.Item.{Item, placeWidth, numberWidth, valueWidth, size, item_at, itemFor}
-use Rattle.exchange.specs.Told.{itemsFrom}
+use Rattle.exchange.specs.Item.{Item, place_width, number_width, value_width, size, item_at, item_for}
+use Rattle.exchange.specs.Told.{items_from}
 use Rattle.exchange.specs.declared.Section.{Section}
 use Rattle.exchange.proofs.Steps.{Followed}
-use Rattle.exchange.proofs.Runs.{AllFit, fit_none, fit-more}
+use Rattle.exchange.proofs.Runs.{AllFit, fit_none, fit_more}
 use Rattle.exchange.proofs.Chains.{Chain}
 
 -- each follows the one before it; u of those over them have something under them then, and the last one has the number l
@@ -21,30 +21,30 @@ Prefix over used last (i ∷ is) u l = Followed over used last i.place i.number 
 -- ── Going on ────────────────────────────────────────────────────────────────────────────────────────────────────
 
 -- one item with number 1 under each of so many places
-unfoldable pub oneEach : ℕ → ℕ → List Item
-oneEach zero place = []
-oneEach (suc n) place = itemFor place 1 0 ∷ oneEach n (place + 1)
+unfoldable pub one_each : ℕ → ℕ → List Item
+one_each zero place = []
+one_each (suc n) place = item_for place 1 0 ∷ one_each n (place + 1)
 
-pub length-each : (n place : ℕ) → length (oneEach n place) ≡ n
-unfolding oneEach
-length-each zero place = refl
-length-each (suc n) place = ap suc (length-each n (place + 1))
+pub length_each : (n place : ℕ) → length (one_each n place) ≡ n
+unfolding one_each
+length_each zero place = refl
+length_each (suc n) place = ap suc (length_each n (place + 1))
 
-pub each-chain : (over n used last : ℕ) → used + n ≡ over → Chain over used last (oneEach n used)
-unfolding oneEach Chain
-each-chain over zero used last e = omega (arith, e)
-each-chain over (suc n) used last e =
-    (record { real = omega arith; inside = omega (arith, e); next = inl refl }, each-chain over n (used + 1) 1 (omega (arith, e)))
+pub each_chain : (over n used last : ℕ) → used + n ≡ over → Chain over used last (one_each n used)
+unfolding one_each Chain
+each_chain over zero used last e = omega (arith, e)
+each_chain over (suc n) used last e =
+    (record { real = omega arith; inside = omega (arith, e); next = inl refl }, each_chain over n (used + 1) 1 (omega (arith, e)))
 
-pub each_fits : (s : Section) (n place : ℕ) → place + n ≤ 256 ^ placeWidth s → 1 < 256 ^ numberWidth s → 0 < 256 ^ valueWidth s → AllFit s (oneEach n place)
-unfolding oneEach
+pub each_fits : (s : Section) (n place : ℕ) → place + n ≤ 256 ^ place_width s → 1 < 256 ^ number_width s → 0 < 256 ^ value_width s → AllFit s (one_each n place)
+unfolding one_each
 each_fits s zero place p n v = fit_none
 each_fits s (suc n) place p a v =
-    fit-more {i = itemFor place 1 0} (record { place = omega (arith, p); number = a; value = v }) (each_fits s n (place + 1) (omega (arith, p)) a v)
+    fit_more {i = item_for place 1 0} (record { place = omega (arith, p); number = a; value = v }) (each_fits s n (place + 1) (omega (arith, p)) a v)
 
 pub fits-append : (s : Section) (is js : List Item) → AllFit s is → AllFit s js → AllFit s (is ++ js)
 fits-append s [] js fit_none b = b
-fits-append s (i ∷ is) js (fit-more h a) b = fit-more {i = i} h (fits-append s is js a b)
+fits-append s (i ∷ is) js (fit_more h a) b = fit_more {i = i} h (fits-append s is js a b)
 
 pub goes_on : (over used last : ℕ) (is js : List Item) (u l : ℕ) → Prefix over used last is u l → Chain over u l js → Chain over used last (is ++ js)
 unfolding Prefix Chain
@@ -52,16 +52,16 @@ goes_on over used last [] js u l p c = subst (λ (x : ℕ). Chain over x last js
 goes_on over used last (i ∷ is) js u l p c = (p.0, goes_on over (i.place + 1) i.number is js u l p.1 c)
 
 -- no more places are used than there are
-pub prefix-used : (over used last : ℕ) (is : List Item) (u l : ℕ) → used ≤ over → Prefix over used last is u l → u ≤ over
+pub prefix_used : (over used last : ℕ) (is : List Item) (u l : ℕ) → used ≤ over → Prefix over used last is u l → u ≤ over
 unfolding Prefix
-prefix-used over used last [] u l h p = omega (arith, h, p.0)
-prefix-used over used last (i ∷ is) u l h p = prefix-used over (i.place + 1) i.number is u l (omega (arith, p.0.inside)) p.1
+prefix_used over used last [] u l h p = omega (arith, h, p.0)
+prefix_used over used last (i ∷ is) u l h p = prefix_used over (i.place + 1) i.number is u l (omega (arith, p.0.inside)) p.1
 
 -- a chain is one whose end uses them all
-pub chain-prefix : (over used last : ℕ) (is : List Item) → Chain over used last is → (l : ℕ) × Prefix over used last is over l
+pub chain_prefix : (over used last : ℕ) (is : List Item) → Chain over used last is → (l : ℕ) × Prefix over used last is over l
 unfolding Chain Prefix
-chain-prefix over used last [] c = (last, (c, refl))
-chain-prefix over used last (i ∷ is) c = let r = chain-prefix over (i.place + 1) i.number is c.1 in (r.0, (c.0, r.1))
+chain_prefix over used last [] c = (last, (c, refl))
+chain_prefix over used last (i ∷ is) c = let r = chain_prefix over (i.place + 1) i.number is c.1 in (r.0, (c.0, r.1))
 
 take-append : (is js : List Item) → take (length is) (is ++ js) ≡ is
 take-append [] js = refl
@@ -80,10 +80,10 @@ tail_of a b ys zs e = cc
 
 module _ (s : Section) (f : List ℕ) (over : ℕ) where
   -- in a section that begins with these items and the next one, that one follows
-  pub next-follows : (j at used last : ℕ) (xs : List Item) (u l : ℕ) → Chain over used last xs → take (suc j) xs ≡ itemsFrom s f (suc j) at
-      → Prefix over used last (itemsFrom s f j at) u l
+  pub next-follows : (j at used last : ℕ) (xs : List Item) (u l : ℕ) → Chain over used last xs → take (suc j) xs ≡ items_from s f (suc j) at
+      → Prefix over used last (items_from s f j at) u l
       → let i = item_at s f (at + size s * j) in Followed over u l i.place i.number
-  unfolding Chain Prefix itemsFrom
+  unfolding Chain Prefix items_from
   next-follows j at used last [] u l c e p = absurd (omega (arith, ap (λ (y : List Item). length y) e))
   next-follows zero at used last (x ∷ xs) u l c e p =
       let q : at + size s * 0 ≡ at = rw (mul-zero, add-zero) in
@@ -94,15 +94,15 @@ module _ (s : Section) (f : List ℕ) (over : ℕ) where
       subst (λ (y : ℕ). Followed over u l (item_at s f y).place (item_at s f y).number) (sym q) d
   next-follows (suc j) at used last (x ∷ xs) u l c e p =
       let i = item_at s f at in
-      let h : x ≡ i = head_of x i (take (suc j) xs) (itemsFrom s f (suc j) (at + size s)) e in
-      let t : take (suc j) xs ≡ itemsFrom s f (suc j) (at + size s) = tail_of x i (take (suc j) xs) (itemsFrom s f (suc j) (at + size s)) e in
+      let h : x ≡ i = head_of x i (take (suc j) xs) (items_from s f (suc j) (at + size s)) e in
+      let t : take (suc j) xs ≡ items_from s f (suc j) (at + size s) = tail_of x i (take (suc j) xs) (items_from s f (suc j) (at + size s)) e in
       let c' = subst (λ (y : Item). Chain over (y.place + 1) y.number xs) h c.1 in
       let m : at + size s + size s * j ≡ at + size s * suc j = omega (arith, mul-suc (size s) j) in
       subst (λ (y : ℕ). Followed over u l (item_at s f y).place (item_at s f y).number) m
       (next-follows j (at + size s) (i.place + 1) i.number xs u l c' t p.1)
 
 -- and if it has these alone, all that stands over them is used
-pub ends-used : (over used last : ℕ) (xs : List Item) (u l : ℕ) → Chain over used last xs → Prefix over used last xs u l → u ≡ over
+pub ends_used : (over used last : ℕ) (xs : List Item) (u l : ℕ) → Chain over used last xs → Prefix over used last xs u l → u ≡ over
 unfolding Chain Prefix
-ends-used over used last [] u l c p = sym p.0 ∙ c
-ends-used over used last (x ∷ xs) u l c p = ends-used over (x.place + 1) x.number xs u l c.1 p.1
+ends_used over used last [] u l c p = sym p.0 ∙ c
+ends_used over used last (x ∷ xs) u l c p = ends_used over (x.place + 1) x.number xs u l c.1 p.1

@@ -1,12 +1,12 @@
 -- What the place of the first bad item says (K9). A count is bad only if it is cut off, so a file begins as a good one does if its
 -- items do, whatever the count of the section says in which they stand.
 use Rattle.std.specs.Prelude.{ℕ, suc, ◌+◌, ◌*◌, ◌^◌, ◌<◌, ◌≡◌, ◌⊎◌, true, List, [], ◌++◌, length, take}
-use Rattle.fields.specs.Field.{leAt, Bytes}
+use Rattle.fields.specs.Field.{le_at, Bytes}
 use Rattle.rules.specs.Entry.{Cert}
-use Rattle.exchange.specs.Item.{Item, size, countWidth}
-use Rattle.exchange.specs.Written.{is_set, fileOf}
-use Rattle.exchange.specs.Judged.{metersAt, certsAt, judged}
-use Rattle.exchange.specs.Told.{items_in, itemsFrom}
+use Rattle.exchange.specs.Item.{Item, size, count_width}
+use Rattle.exchange.specs.Written.{is_set, file_of}
+use Rattle.exchange.specs.Judged.{meters_at, certs_at, judged}
+use Rattle.exchange.specs.Told.{items_in, items_from}
 use Rattle.exchange.specs.declared.Section.{Section}
 use Rattle.exchange.specs.declared.Judged.{Judged}
 
@@ -14,27 +14,27 @@ use Rattle.exchange.specs.declared.Judged.{Judged}
 pub record GoodFile (g : List ℕ) : Type 0 where
   pub certs : List Cert
   pub set : is_set certs ≡ true
-  pub is : g ≡ fileOf certs
+  pub is : g ≡ file_of certs
 
 -- where a section's count begins, how many items it says, and where they end
 unfoldable pub start_of : Section → List ℕ → ℕ
 start_of Section.Models f = 0
-start_of Section.Meters f = metersAt f
-start_of Section.Certificates f = certsAt f
+start_of Section.Meters f = meters_at f
+start_of Section.Certificates f = certs_at f
 
 abbrev pub count_of : Section → List ℕ → ℕ
-count_of s f = leAt f (start_of s f) countWidth
+count_of s f = le_at f (start_of s f) count_width
 
 -- the byte of a section's item, by its place from 0; behind the last one it is the section's end
 abbrev pub byte_of : Section → List ℕ → ℕ → ℕ
-byte_of s f j = start_of s f + countWidth + size s * j
+byte_of s f j = start_of s f + count_width + size s * j
 
 -- all items of a section, and the first so many
 abbrev pub all_of : Section → List ℕ → List Item
 all_of s f = items_in s f (start_of s f)
 
 abbrev pub first_of : Section → List ℕ → ℕ → List Item
-first_of s f j = itemsFrom s f j (start_of s f + countWidth)
+first_of s f j = items_from s f j (start_of s f + count_width)
 
 -- the sections before one have the same items
 unfoldable pub SameBefore : Section → List ℕ → List ℕ → Type 0
@@ -60,7 +60,7 @@ NoneEnds s j f = (g : List ℕ) → Begins s j f g → length (all_of s g) ≡ j
 -- where a file is bad first
 pub data First (f : List ℕ) (at : ℕ) : Type 0 where
   -- a count that is cut off
-  count : (s : Section) → at ≡ start_of s f → length f < at + countWidth → Could s 0 f → First f at
+  count : (s : Section) → at ≡ start_of s f → length f < at + count_width → Could s 0 f → First f at
   -- a model, meter or certificate: it is cut off, or no good file goes on with it
   item : (s : Section) (j : ℕ) → at ≡ byte_of s f j → j < count_of s f → Could s j f
       → (length f < at + size s) ⊎ ((g : List ℕ) → Begins s (suc j) f g → ⊥) → First f at

@@ -1,10 +1,10 @@
 -- What the parts of format make, each a piece of the rules' `formatted`.
 use Rattle.std.specs.Prelude.{ℕ, List}
 use Rattle.fields.specs.Field.{put_at}
-use Rattle.rules.specs.Layout.{zeroKind, lastKey}
+use Rattle.rules.specs.Layout.{zero_kind, last_key}
 use Rattle.rules.specs.Page.{Page, fresh}
-use Rattle.rules.specs.Table.{setNumber, setRoot}
-use Rattle.rules.specs.Format.{Formatting, emptyLeaf}
+use Rattle.rules.specs.Table.{set_number, set_root}
+use Rattle.rules.specs.Format.{Formatting, empty_leaf}
 use Rattle.rules.specs.declared.Formatted.{Formatted}
 
 -- what a format leaves
@@ -13,8 +13,8 @@ formatting answer stable = record { answer = answer; stable = stable }
 
 -- page 0
 unfoldable pub named : ℕ → List ℕ → List ℕ
-named n t = setRoot (setNumber (put_at (put_at t 0 2 zeroKind) 2 2 n) 2) 1 0 1
+named n t = set_root (set_number (put_at (put_at t 0 2 zero_kind) 2 2 n) 2) 1 0 1
 
 -- page 1
-abbrev pub firstLeaf : Page
-firstLeaf = fresh 1 1 0 lastKey emptyLeaf
+abbrev pub first_leaf : Page
+first_leaf = fresh 1 1 0 last_key empty_leaf

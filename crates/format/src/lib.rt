@@ -6,8 +6,8 @@
 // Below stand `fields`, `rules` and `tables`.
 ghost use Rattle.std.specs.Prelude.{◌≡◌, ◌≤◌, length};
 ghost use Rattle.rules.specs.Format;
-ghost use Rattle.rules.specs.Page.{blank, buildBytes};
-ghost use Rattle.format.specs.Formats.{formatting, named, firstLeaf};
+ghost use Rattle.rules.specs.Page.{blank, build_bytes};
+ghost use Rattle.format.specs.Formats.{formatting, named, first_leaf};
 
 use rules::{
     AT_BIRTH, AT_BUILT, AT_HIGH, AT_KIND, AT_N, AT_NUMBER, AT_ROOT, AT_ROOT_BIRTH,
@@ -38,7 +38,7 @@ fn name_root(stable: &mut [u8], n: u16)
 // A page of zeros becomes an empty leaf over every key: no entry, low 0, birth, built and touched 1.
 fn empty_leaf(page: &mut [u8])
     requires { page.old ≡ blank }
-    ensures { page.new ≡ buildBytes firstLeaf }
+    ensures { page.new ≡ build_bytes first_leaf }
 {
     fields::put16(page, AT_KIND, LEAF);
     fields::put32(page, AT_BIRTH, FIRST);

@@ -6,13 +6,13 @@ use mathlib.Core.Bool.{Bool, true, false, and-true, and-false}
 use mathlib.Core.List.{List, [], ◌∷◌, ◌++◌}
 use lib.ListN.{get_or}
 use Rattle.rules.specs.Test.{every}
-use Rattle.rules.proofs.entries.Tests.{Holds, every_of}
+use Rattle.rules.proofs.Entries.Tests.{Holds, every_of}
 
-pub every-fails : (ts : List Bool) (i : ℕ) → get_or ts i true ≡ false → every ts ≡ false
+pub every_fails : (ts : List Bool) (i : ℕ) → get_or ts i true ≡ false → every ts ≡ false
 unfolding every
-every-fails [] i h = h
-every-fails (t ∷ ts) zero h = rw h
-every-fails (t ∷ ts) (suc i) h = rw (every-fails ts i h, and-false)
+every_fails [] i h = h
+every_fails (t ∷ ts) zero h = rw h
+every_fails (t ∷ ts) (suc i) h = rw (every_fails ts i h, and-false)
 
 pub every-last : (ts : List Bool) (t : Bool) → Holds ts → every (ts ++ (t ∷ [])) ≡ t
 unfolding every

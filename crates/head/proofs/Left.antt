@@ -8,7 +8,7 @@ use native.Mathlib.Numerals.{add-one}
 use native.Mathlib.Omega.{arith}
 use lib.ListN.{drop}
 use lib.Seq.{drop-drop}
-use Rattle.rules.specs.Page.{readEach}
+use Rattle.rules.specs.Page.{read_each}
 
 module _ {A : Type 0} (read : List ℕ → A) (header size : ℕ) (b : List ℕ) (count : ℕ) where
   -- the entry at an index, and those from an index on
@@ -16,19 +16,19 @@ module _ {A : Type 0} (read : List ℕ → A) (header size : ℕ) (b : List ℕ)
   entry j = read (drop (header + size * j) b)
 
   abbrev pub left : ℕ → List A
-  left j = readEach read size (count - j) (drop (header + size * j) b)
+  left j = read_each read size (count - j) (drop (header + size * j) b)
 
-  pub left-all : readEach read size count (drop header b) ≡ left 0
+  pub left-all : read_each read size count (drop header b) ≡ left 0
   left-all = rw (mul-zero, add-zero, sub-zero)
 
   pub left-more : (j : ℕ) → j < count → left j ≡ entry j ∷ left (j + 1)
-  unfolding readEach
+  unfolding read_each
   left-more j h =
       let e : count - j ≡ suc (count - (j + 1)) = omega arith in
-      rw (e, readEach, drop-drop, add-one j, mul-suc, add_assoc)
+      rw (e, read_each, drop-drop, add-one j, mul-suc, add_assoc)
 
   pub left-none : (j : ℕ) → count ≤ j → left j ≡ []
-  unfolding readEach
+  unfolding read_each
   left-none j h =
       let e : count - j ≡ 0 = omega arith in
-      rw (e, readEach)
+      rw (e, read_each)

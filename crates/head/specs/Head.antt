@@ -1,33 +1,33 @@
 -- What one look at a page gives: its header, one of its entries, page 0's fields. Each is read off the page's bytes at
 -- document 01's offsets, and the laws of proofs/ say that it is what the rules read there.
 use Rattle.std.specs.Prelude.{ℕ, ◌+◌, ◌*◌, List, drop}
-use Rattle.fields.specs.Field.{leAt}
-use Rattle.rules.specs.Layout.{leafHeader, innerHeader, certSize, child_size}
+use Rattle.fields.specs.Field.{le_at}
+use Rattle.rules.specs.Layout.{leaf_header, inner_header, cert_size, child_size}
 use Rattle.rules.specs.Entry.{Cert, Child}
-use Rattle.rules.specs.Page.{certIn, childIn}
+use Rattle.rules.specs.Page.{cert_in, child_in}
 use Rattle.rules.specs.Table.{kind0, n0, number0, root0, previous0, birth0}
 use Rattle.rules.specs.declared.Place.{Place}
 use Rattle.head.specs.declared.Head.{Head}
 use Rattle.head.specs.declared.ChildEntry.{ChildEntry}
 use Rattle.head.specs.declared.Zero.{Zero}
 
-unfoldable pub headIn : List ℕ → Head
-headIn b = record {
-  kind = leAt b 0 2;
-  count = leAt b 2 2;
-  birth = leAt b 4 4;
-  built = leAt b 8 4;
-  touched = leAt b 12 4;
-  low = leAt b 16 8;
-  high = leAt b 24 8;
+unfoldable pub head_in : List ℕ → Head
+head_in b = record {
+  kind = le_at b 0 2;
+  count = le_at b 2 2;
+  birth = le_at b 4 4;
+  built = le_at b 8 4;
+  touched = le_at b 12 4;
+  low = le_at b 16 8;
+  high = le_at b 24 8;
 }
 
 -- the entry at an index, whatever the count says
-unfoldable pub certAt : List ℕ → ℕ → Cert
-certAt b j = certIn (drop (leafHeader + certSize * j) b)
+unfoldable pub cert_at : List ℕ → ℕ → Cert
+cert_at b j = cert_in (drop (leaf_header + cert_size * j) b)
 
-unfoldable pub childAt : List ℕ → ℕ → Child
-childAt b j = childIn (drop (innerHeader + child_size * j) b)
+unfoldable pub child_at : List ℕ → ℕ → Child
+child_at b j = child_in (drop (inner_header + child_size * j) b)
 
 -- an inner page's entry as one flat value
 unfoldable pub entry_of : Child → ChildEntry
@@ -38,8 +38,8 @@ entry_of x = record {
   birth = x.value.birth;
 }
 
-unfoldable pub zeroIn : List ℕ → Zero
-zeroIn t = record {
+unfoldable pub zero_in : List ℕ → Zero
+zero_in t = record {
   kind = kind0 t;
   n = n0 t;
   number = number0 t;

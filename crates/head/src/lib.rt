@@ -6,11 +6,11 @@
 //
 // Below stand `fields`, numbers in bytes, and `rules`, the definitions.
 ghost use Rattle.std.specs.Prelude.{◌≡◌, ◌+◌, ◌*◌, ◌≤◌, ◌<◌, length, drop, get_or};
-ghost use Rattle.rules.specs.Layout.{pageSize, commonHeader, leafHeader, innerHeader, certSize, child_size, leafRoom, innerRoom};
-ghost use Rattle.rules.specs.Table.{pageAt, fit0, number0, setNumber, setRoot};
-ghost use Rattle.rules.specs.Page.{readEach, childIn};
-ghost use Rattle.rules.specs.Place.{rootPlace, highBefore, placesIn};
-ghost use Rattle.head.specs.Head.{headIn, certAt, childAt, entry_of, zeroIn, nowhere};
+ghost use Rattle.rules.specs.Layout.{page_size, common_header, leaf_header, inner_header, cert_size, child_size, leaf_room, inner_room};
+ghost use Rattle.rules.specs.Table.{page_at, fit0, number0, set_number, set_root};
+ghost use Rattle.rules.specs.Page.{read_each, child_in};
+ghost use Rattle.rules.specs.Place.{root_place, high_before, places_in};
+ghost use Rattle.head.specs.Head.{head_in, cert_at, child_at, entry_of, zero_in, nowhere};
 
 use fields::{get16, get32, get64, put16, put32};
 use rules::{
@@ -52,8 +52,8 @@ pub struct Zero {
 }
 
 pub fn read_head(page: &[u8]) -> Head
-    requires { commonHeader ≤ length page.now }
-    ensures { result ≡ headIn page.now }
+    requires { common_header ≤ length page.now }
+    ensures { result ≡ head_in page.now }
 {
     Head {
         kind: get16(page, AT_KIND),
@@ -67,8 +67,8 @@ pub fn read_head(page: &[u8]) -> Head
 }
 
 pub fn head_at(table: &[u8], i: usize) -> Head
-    requires { (i + 1) * pageSize ≤ length table.now }
-    ensures { result ≡ headIn (pageAt table.now i) }
+    requires { (i + 1) * page_size ≤ length table.now }
+    ensures { result ≡ head_in (page_at table.now i) }
 {
     let from = i * PAGE;
     let to = from + PAGE;
@@ -76,50 +76,50 @@ pub fn head_at(table: &[u8], i: usize) -> Head
 }
 
 pub fn cert_key(page: &[u8], j: usize) -> u64
-    requires { leafHeader + certSize * (j + 1) ≤ length page.now }
-    ensures { result ≡ (certAt page.now j).key }
+    requires { leaf_header + cert_size * (j + 1) ≤ length page.now }
+    ensures { result ≡ (cert_at page.now j).key }
 {
     get64(page, LEAF_HEADER + CERT * j)
 }
 
 pub fn cert_record(page: &[u8], j: usize) -> u32
-    requires { leafHeader + certSize * (j + 1) ≤ length page.now }
-    ensures { result ≡ (certAt page.now j).value }
+    requires { leaf_header + cert_size * (j + 1) ≤ length page.now }
+    ensures { result ≡ (cert_at page.now j).value }
 {
     get32(page, LEAF_HEADER + CERT * j + AT_RECORD)
 }
 
 pub fn child_key(page: &[u8], j: usize) -> u64
-    requires { innerHeader + child_size * (j + 1) ≤ length page.now }
-    ensures { result ≡ (childAt page.now j).key }
+    requires { inner_header + child_size * (j + 1) ≤ length page.now }
+    ensures { result ≡ (child_at page.now j).key }
 {
     get64(page, INNER_HEADER + CHILD * j)
 }
 
 pub fn child_number(page: &[u8], j: usize) -> u16
-    requires { innerHeader + child_size * (j + 1) ≤ length page.now }
-    ensures { result ≡ (childAt page.now j).value.child }
+    requires { inner_header + child_size * (j + 1) ≤ length page.now }
+    ensures { result ≡ (child_at page.now j).value.child }
 {
     get16(page, INNER_HEADER + CHILD * j + AT_CHILD)
 }
 
 pub fn child_previous(page: &[u8], j: usize) -> u16
-    requires { innerHeader + child_size * (j + 1) ≤ length page.now }
-    ensures { result ≡ (childAt page.now j).value.previous }
+    requires { inner_header + child_size * (j + 1) ≤ length page.now }
+    ensures { result ≡ (child_at page.now j).value.previous }
 {
     get16(page, INNER_HEADER + CHILD * j + AT_CHILD_PREVIOUS)
 }
 
 pub fn child_birth(page: &[u8], j: usize) -> u32
-    requires { innerHeader + child_size * (j + 1) ≤ length page.now }
-    ensures { result ≡ (childAt page.now j).value.birth }
+    requires { inner_header + child_size * (j + 1) ≤ length page.now }
+    ensures { result ≡ (child_at page.now j).value.birth }
 {
     get32(page, INNER_HEADER + CHILD * j + AT_CHILD_BIRTH)
 }
 
 pub fn child_entry(page: &[u8], j: usize) -> ChildEntry
-    requires { innerHeader + child_size * (j + 1) ≤ length page.now }
-    ensures { result ≡ entry_of (childAt page.now j) }
+    requires { inner_header + child_size * (j + 1) ≤ length page.now }
+    ensures { result ≡ entry_of (child_at page.now j) }
 {
     ChildEntry {
         key: child_key(page, j),
@@ -131,8 +131,8 @@ pub fn child_entry(page: &[u8], j: usize) -> ChildEntry
 
 // Where the range of the child at j ends: before the next entry's key, or with the page's.
 fn child_high(page: &[u8], count: usize, j: usize, high: u64) -> u64
-    requires { (j < count) × (innerHeader + child_size * count ≤ length page.now) }
-    ensures { result ≡ highBefore high (drop (j + 1) (readEach childIn child_size count (drop innerHeader page.now))) }
+    requires { (j < count) × (inner_header + child_size * count ≤ length page.now) }
+    ensures { result ≡ high_before high (drop (j + 1) (read_each child_in child_size count (drop inner_header page.now))) }
 {
     let next = j + 1;
     if next >= count {
@@ -147,8 +147,8 @@ fn child_high(page: &[u8], count: usize, j: usize, high: u64) -> u64
 
 // The place that entry j of an inner page asks for, if the page's range ends at high.
 pub fn kid(page: &[u8], count: usize, j: usize, want: u16, high: u64) -> Place
-    requires { (j < count) × (innerHeader + child_size * count ≤ length page.now) }
-    ensures { result ≡ get_or (placesIn want high (readEach childIn child_size count (drop innerHeader page.now))) j nowhere }
+    requires { (j < count) × (inner_header + child_size * count ≤ length page.now) }
+    ensures { result ≡ get_or (places_in want high (read_each child_in child_size count (drop inner_header page.now))) j nowhere }
 {
     let entry = child_entry(page, j);
     Place {
@@ -164,8 +164,8 @@ pub fn kid(page: &[u8], count: usize, j: usize, want: u16, high: u64) -> Place
 // The same entries of page i of a table. A full page ends before its 512 bytes do, so j below the room is enough.
 
 pub fn cert_key_at(table: &[u8], i: usize, j: usize) -> u64
-    requires { ((i + 1) * pageSize ≤ length table.now) × (j < leafRoom) }
-    ensures { result ≡ (certAt (pageAt table.now i) j).key }
+    requires { ((i + 1) * page_size ≤ length table.now) × (j < leaf_room) }
+    ensures { result ≡ (cert_at (page_at table.now i) j).key }
 {
     let from = i * PAGE;
     let to = from + PAGE;
@@ -173,8 +173,8 @@ pub fn cert_key_at(table: &[u8], i: usize, j: usize) -> u64
 }
 
 pub fn cert_record_at(table: &[u8], i: usize, j: usize) -> u32
-    requires { ((i + 1) * pageSize ≤ length table.now) × (j < leafRoom) }
-    ensures { result ≡ (certAt (pageAt table.now i) j).value }
+    requires { ((i + 1) * page_size ≤ length table.now) × (j < leaf_room) }
+    ensures { result ≡ (cert_at (page_at table.now i) j).value }
 {
     let from = i * PAGE;
     let to = from + PAGE;
@@ -182,8 +182,8 @@ pub fn cert_record_at(table: &[u8], i: usize, j: usize) -> u32
 }
 
 pub fn child_key_at(table: &[u8], i: usize, j: usize) -> u64
-    requires { ((i + 1) * pageSize ≤ length table.now) × (j < innerRoom) }
-    ensures { result ≡ (childAt (pageAt table.now i) j).key }
+    requires { ((i + 1) * page_size ≤ length table.now) × (j < inner_room) }
+    ensures { result ≡ (child_at (page_at table.now i) j).key }
 {
     let from = i * PAGE;
     let to = from + PAGE;
@@ -191,8 +191,8 @@ pub fn child_key_at(table: &[u8], i: usize, j: usize) -> u64
 }
 
 pub fn kid_at(table: &[u8], i: usize, count: usize, j: usize, want: u16, high: u64) -> Place
-    requires { ((i + 1) * pageSize ≤ length table.now) × (j < count) × (count ≤ innerRoom) }
-    ensures { result ≡ get_or (placesIn want high (readEach childIn child_size count (drop innerHeader (pageAt table.now i)))) j nowhere }
+    requires { ((i + 1) * page_size ≤ length table.now) × (j < count) × (count ≤ inner_room) }
+    ensures { result ≡ get_or (places_in want high (read_each child_in child_size count (drop inner_header (page_at table.now i)))) j nowhere }
 {
     let from = i * PAGE;
     let to = from + PAGE;
@@ -202,8 +202,8 @@ pub fn kid_at(table: &[u8], i: usize, count: usize, j: usize, want: u16, high: u
 // Page 0 is read and changed where it lies, at the table's start.
 
 pub fn read_zero(table: &[u8]) -> Zero
-    requires { pageSize ≤ length table.now }
-    ensures { result ≡ zeroIn table.now }
+    requires { page_size ≤ length table.now }
+    ensures { result ≡ zero_in table.now }
 {
     Zero {
         kind: get16(table, AT_KIND),
@@ -217,7 +217,7 @@ pub fn read_zero(table: &[u8]) -> Zero
 
 // What opening and every walking call ask of page 0.
 pub fn fit0(table: &[u8], n: usize) -> bool
-    requires { pageSize ≤ length table.now }
+    requires { page_size ≤ length table.now }
     ensures { result ≡ fit0 n table.now }
 {
     let zero = read_zero(table);
@@ -238,8 +238,8 @@ pub fn fit0(table: &[u8], n: usize) -> bool
 
 // The place that page 0 asks for: the root, over every key.
 pub fn root_place(table: &[u8]) -> Place
-    requires { pageSize ≤ length table.now }
-    ensures { result ≡ rootPlace table.now }
+    requires { page_size ≤ length table.now }
+    ensures { result ≡ root_place table.now }
 {
     let zero = read_zero(table);
     Place {
@@ -253,22 +253,22 @@ pub fn root_place(table: &[u8]) -> Place
 }
 
 pub fn number(table: &[u8]) -> u32
-    requires { pageSize ≤ length table.now }
+    requires { page_size ≤ length table.now }
     ensures { result ≡ number0 table.now }
 {
     get32(table, AT_NUMBER)
 }
 
 pub fn set_number(table: &mut [u8], number: u32)
-    requires { pageSize ≤ length table.old }
-    ensures { table.new ≡ setNumber table.old number }
+    requires { page_size ≤ length table.old }
+    ensures { table.new ≡ set_number table.old number }
 {
     put32(table, AT_NUMBER, number);
 }
 
 pub fn set_root(table: &mut [u8], root: u16, previous: u16, birth: u32)
-    requires { pageSize ≤ length table.old }
-    ensures { table.new ≡ setRoot table.old root previous birth }
+    requires { page_size ≤ length table.old }
+    ensures { table.new ≡ set_root table.old root previous birth }
 {
     put16(table, AT_ROOT, root);
     put16(table, AT_ROOT_PREVIOUS, previous);

@@ -10,15 +10,15 @@ use Rattle.rules.specs.Table.{read}
 use Rattle.rules.specs.Walk as rules
 use Rattle.rules.specs.declared.Place.{Place}
 use Rattle.rules.specs.declared.Session.{Session}
-use Rattle.rules.proofs.bytes.All.{All, nil, cons, all_map}
-use Rattle.rules.proofs.entries.Views.{Shaped, shaped-read}
+use Rattle.rules.proofs.Bytes.All.{All, nil, cons, all_map}
+use Rattle.rules.proofs.Entries.Views.{Shaped, shaped-read}
 use Rattle.head.proofs.Headers.{head_of}
-use Rattle.way.specs.Ways.{step_of, wayFor, Walking, walking, wayOr, told}
+use Rattle.way.specs.Ways.{step_of, way_for, Walking, walking, way_or, told}
 use Rattle.way.specs.declared.Step.{Step}
 use Rattle.way.specs.declared.Way.{Way}
 use Rattle.way.proofs.Stood.{Stood, WayStands}
 use Rattle.way.proofs.Linked.{Linked, AllLinked, WayLinked}
-use Rattle.apply.specs.Leads.{Whole, Stands, Leads, EndsInLeaf, HeadRead, listed, stepsIn}
+use Rattle.apply.specs.Leads.{Whole, Stands, Leads, EndsInLeaf, HeadRead, listed, steps_in}
 use Rattle.insert.specs.Inserts.{steps_of, Walked}
 
 -- ── Steps by their places and headers ───────────────────────────────────────────────────────────────────────────
@@ -27,40 +27,40 @@ known : List rules.Step → List Step
 known [] = []
 known (s ∷ ss) = step_of s ∷ known ss
 
-listed-known : (ss : List rules.Step) → length ss ≤ 3 → listed (wayFor ss) ≡ known ss
+listed_known : (ss : List rules.Step) → length ss ≤ 3 → listed (way_for ss) ≡ known ss
 unfolding known
-listed-known [] h = refl
-listed-known (s ∷ []) h = refl
-listed-known (s ∷ (u ∷ [])) h = refl
-listed-known (s ∷ (u ∷ (v ∷ []))) h = refl
-listed-known (s ∷ (u ∷ (v ∷ (x ∷ ss)))) h = absurd (omega arith)
+listed_known [] h = refl
+listed_known (s ∷ []) h = refl
+listed_known (s ∷ (u ∷ [])) h = refl
+listed_known (s ∷ (u ∷ (v ∷ []))) h = refl
+listed_known (s ∷ (u ∷ (v ∷ (x ∷ ss)))) h = absurd (omega arith)
 
-abbrev stepWith : Place → Page → rules.Step
-stepWith e p = record { place = e; page = p }
+abbrev step_with : Place → Page → rules.Step
+step_with e p = record { place = e; page = p }
 
 module _ {n k : ℕ} {u : List ℕ} where
   -- each step is read where its page stands
-  steps-known : {ss : List rules.Step} → All (Stood n k u) ss → stepsIn u (known ss) ≡ ss
+  steps_known : {ss : List rules.Step} → All (Stood n k u) ss → steps_in u (known ss) ≡ ss
   unfolding known
-  steps-known nil = refl
-  steps-known (cons {x = s} {xs = ss} h a) = go h.here (steps-known a)
+  steps_known nil = refl
+  steps_known (cons {x = s} {xs = ss} h a) = go h.here (steps_known a)
     where
-      go : read u s.place.child ≡ s.page → stepsIn u (known ss) ≡ ss → stepsIn u (known (s ∷ ss)) ≡ s ∷ ss
+      go : read u s.place.child ≡ s.page → steps_in u (known ss) ≡ ss → steps_in u (known (s ∷ ss)) ≡ s ∷ ss
       go e f =
-          ap (λ (p : Page). stepWith s.place p ∷ stepsIn u (known ss)) e
+          ap (λ (p : Page). step_with s.place p ∷ steps_in u (known ss)) e
           ∙ ap (λ (zs : List rules.Step). s ∷ zs) f
 
-  heads-known : {ss : List rules.Step} → All (Stood n k u) ss → All (HeadRead u) (known ss)
+  heads_known : {ss : List rules.Step} → All (Stood n k u) ss → All (HeadRead u) (known ss)
   unfolding known
-  heads-known nil = nil
-  heads-known (cons {x = s} h a) = cons {x = step_of s} (ap head_of (sym h.here)) (heads-known a)
+  heads_known nil = nil
+  heads_known (cons {x = s} h a) = cons {x = step_of s} (ap head_of (sym h.here)) (heads_known a)
 
   -- ── The way leads ─────────────────────────────────────────────────────────────────────────────────────────────
 
   stands : {s : rules.Step} {above : List rules.Step} → Stood n k u s → Linked n k s above → Stands n k u s
   stands h l = record {
-    page = h.child-from;
-    below = h.child-below;
+    page = h.child_from;
+    below = h.child_below;
     previous = l.previous;
     reads = h.here;
     fits = h.fits;
@@ -79,32 +79,32 @@ pub record Went (x : rules.Way) (u : List ℕ) (w : Way) : Type 0 where
   pub steps : List rules.Step
   pub found : x.steps ≡ some steps
   pub table : u ≡ x.table
-  pub way : w ≡ wayFor steps
+  pub way : w ≡ way_for steps
 
 module _ (x : rules.Way) (u : List ℕ) (w : Way) (h : walking u w ≡ told x) where
   table-left : u ≡ x.table
   unfolding told
   table-left = ap (λ (y : Walking). y.table) h
 
-  way-told : w ≡ wayOr x.steps
+  way-told : w ≡ way_or x.steps
   unfolding told
   way-told = ap (λ (y : Walking). y.way) h
 
   pub went : (w.len ≡ 0 → ⊥) → Went x u w
-  unfolding wayOr
+  unfolding way_or
   went o = go x.steps refl way-told
     where
-      go : (s : Option (List rules.Step)) → x.steps ≡ s → w ≡ wayOr s → Went x u w
+      go : (s : Option (List rules.Step)) → x.steps ≡ s → w ≡ way_or s → Went x u w
       go none q f = absurd (o (ap (λ (v : Way). v.len) f))
       go (some ss) q f = record { steps = ss; found = q; table = table-left; way = f }
 
   -- no pages: a damaged place was met
   pub went-nowhere : (n k : ℕ) → ((steps : List rules.Step) → x.steps ≡ some steps → WayStands n k x.table steps)
       → w.len ≡ 0 → (x.steps ≡ none) × (u ≡ x.table)
-  unfolding wayOr
+  unfolding way_or
   went-nowhere n k a z = go x.steps refl way-told
     where
-      go : (s : Option (List rules.Step)) → x.steps ≡ s → w ≡ wayOr s → (x.steps ≡ none) × (u ≡ x.table)
+      go : (s : Option (List rules.Step)) → x.steps ≡ s → w ≡ way_or s → (x.steps ≡ none) × (u ≡ x.table)
       go none q f = (q, table-left)
       go (some ss) q f = absurd (omega (arith, z, ap (λ (v : Way). v.len) f, ap length (a ss q).are))
 
@@ -113,10 +113,10 @@ module _ {x : rules.Way} {u : List ℕ} {w : Way} (d : Went x u w) {n k : ℕ} (
   all_here = subst (λ (t : List ℕ). All (Stood n k t) d.steps) (sym d.table) a.all
 
   listed_here : listed w ≡ known d.steps
-  listed_here = ap listed d.way ∙ listed-known d.steps l.short
+  listed_here = ap listed d.way ∙ listed_known d.steps l.short
 
   pub steps-here : steps_of u w ≡ d.steps
-  steps-here = ap (stepsIn u) listed_here ∙ steps-known all_here
+  steps-here = ap (steps_in u) listed_here ∙ steps_known all_here
 
   pub walked : (s : Session) → s.n ≡ n → Whole s.n s.c u → Walked k u s w
   walked s e f = record {
@@ -124,12 +124,12 @@ module _ {x : rules.Way} {u : List ℕ} {w : Way} (d : Went x u w) {n k : ℕ} (
     leads = subst (λ (m : ℕ). Leads m k u (steps_of u w)) (sym e) (subst (Leads n k u) (sym (steps-here ∙ a.are)) leads-here);
     ends = subst EndsInLeaf (sym (steps-here ∙ a.are)) a.ends;
     headed = record {
-      way = d.way ∙ ap wayFor (sym steps-here);
+      way = d.way ∙ ap way_for (sym steps-here);
       few = omega (arith, ap length steps-here, l.short);
       shaped = subst (All (λ (z : rules.Step). Shaped z.page.view)) (sym steps-here) (all_map shaped-stood all_here);
     };
-    heads = subst (All (HeadRead u)) (sym listed_here) (heads-known all_here);
-    some-page = omega (arith, ap (λ (v : Way). v.len) d.way, ap length a.are);
+    heads = subst (All (HeadRead u)) (sym listed_here) (heads_known all_here);
+    some_page = omega (arith, ap (λ (v : Way). v.len) d.way, ap length a.are);
   }
     where
       leads-here : Leads n k u (a.leaf ∷ a.rest)

@@ -1,21 +1,21 @@
 -- What an insert hands back, piece by piece, as the rules say it, and what it knows once its way is walked.
 use Rattle.std.specs.Prelude.{ℕ, ◌≤◌, ◌≡◌, Bool, true, false, List, eqb}
 use Rattle.std.proofs.Math.Option.{Option, some, none}
-use Rattle.rules.specs.Key.{goodParts}
+use Rattle.rules.specs.Key.{good_parts}
 use Rattle.rules.specs.Entry.{find}
 use Rattle.rules.specs.Table.{fit0}
 use Rattle.rules.specs.Report.{Reported}
-use Rattle.rules.specs.Walk.{Step, certsAt}
-use Rattle.rules.specs.Call.{Left, lengthsFor}
+use Rattle.rules.specs.Walk.{Step, certs_at}
+use Rattle.rules.specs.Call.{Left, lengths_for}
 use Rattle.rules.specs.declared.Session.{Session}
 use Rattle.rules.specs.declared.Inserted.{Inserted}
 use Rattle.rules.specs.declared.Inserting.{Inserting}
-use Rattle.rules.proofs.bytes.All.{All}
+use Rattle.rules.proofs.Bytes.All.{All}
 use Rattle.marks.specs.declared.Chosen.{Chosen}
 use Rattle.way.specs.declared.Way.{Way}
-use Rattle.plan.specs.Plan.{chosenBy, Headed, plan_of}
+use Rattle.plan.specs.Plan.{chosen_by, Headed, plan_of}
 use Rattle.plan.specs.declared.Planned.{Planned}
-use Rattle.apply.specs.Leads.{Whole, Leads, EndsInLeaf, HeadRead, listed, stepsIn}
+use Rattle.apply.specs.Leads.{Whole, Leads, EndsInLeaf, HeadRead, listed, steps_in}
 
 -- what is left, and with the report the whole of it
 abbrev pub left : Inserted → Session → List ℕ → List ℕ → Left Inserted
@@ -25,9 +25,9 @@ abbrev pub leaving : Inserting → List ℕ → List ℕ → Reported (Left Inse
 leaving r w t = record { left = left r.answer r.session w t; report = r.report }
 
 -- the key is there, any record
-unfoldable pub presentIn : Option ℕ → Bool
-presentIn none = false
-presentIn (some x) = true
+unfoldable pub present_in : Option ℕ → Bool
+present_in none = false
+present_in (some x) = true
 
 -- the answer of an insert that was planned so
 unfoldable pub answer_of : Planned → Inserted
@@ -38,7 +38,7 @@ answer_of Planned.Go = Inserted.Done
 
 -- the rules' steps, read where their pages stand
 abbrev pub steps_of : List ℕ → Way → List Step
-steps_of t w = stepsIn t (listed w)
+steps_of t w = steps_in t (listed w)
 
 -- a way walked to its end: its pages stand in the table, each below the one that asked for it, the first a leaf
 pub record Walked (k : ℕ) (t : List ℕ) (s : Session) (w : Way) : Type 0 where
@@ -47,16 +47,16 @@ pub record Walked (k : ℕ) (t : List ℕ) (s : Session) (w : Way) : Type 0 wher
   pub ends : EndsInLeaf (steps_of t w)
   pub headed : Headed w (steps_of t w)
   pub heads : All (HeadRead t) (listed w)
-  pub some-page : 1 ≤ w.len
+  pub some_page : 1 ≤ w.len
 
 -- ── What is decided before anything is written ──────────────────────────────────────────────────────────────────
 
 -- along a way: no pages, a damaged place; else by the plan. Done: it is to go on
-unfoldable pub decidedOn : ℕ → Session → Way → List ℕ → Inserted
-decidedOn k s w t =
+unfoldable pub decided_on : ℕ → Session → Way → List ℕ → Inserted
+decided_on k s w t =
     elim (eqb w.len 0) [
       | true ↦ Inserted.Damaged
-      | false ↦ answer_of (plan_of s (presentIn (find k (certsAt (steps_of t w)))) (steps_of t w))
+      | false ↦ answer_of (plan_of s (present_in (find k (certs_at (steps_of t w)))) (steps_of t w))
     ]
 
 -- what the decision is made of: a session with this counter, its lowest free numbers, and a way walked to its end,
@@ -64,15 +64,15 @@ decidedOn k s w t =
 pub record Deciding (c k : ℕ) (t : List ℕ) (w : Way) (x : Chosen) : Type 0 where
   pub session : Session
   pub counter : session.c ≡ c
-  pub chosen : x ≡ chosenBy session w
+  pub chosen : x ≡ chosen_by session w
   pub walked : (w.len ≡ 0 → ⊥) → Walked k t session w
 
 -- before the walk. Done: all tests pass
-unfoldable pub testedBy : Session → List ℕ → List ℕ → ℕ → ℕ → ℕ → Inserted
-testedBy s w t model serial issue =
-    elim (lengthsFor s w t) [
+unfoldable pub tested_by : Session → List ℕ → List ℕ → ℕ → ℕ → ℕ → Inserted
+tested_by s w t model serial issue =
+    elim (lengths_for s w t) [
       | false ↦ Inserted.Length
-      | true ↦ elim (goodParts model serial issue) [
+      | true ↦ elim (good_parts model serial issue) [
         | false ↦ Inserted.BadKey
         | true ↦ elim (fit0 s.n w) [ false ↦ Inserted.Damaged | true ↦ Inserted.Done ]
       ]

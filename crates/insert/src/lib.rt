@@ -8,14 +8,14 @@
 // Below stand `tables`, which tests lengths, `keys`, `way`, which walks, `lookup`, which finds a key in a leaf, `plan`,
 // which decides, and `apply`, which splits pages, puts the entry and has the marks.
 ghost use Rattle.std.specs.Prelude.{◌≡◌, ◌+◌, ◌*◌, ◌≤◌, length};
-ghost use Rattle.rules.specs.Layout.{pageSize};
+ghost use Rattle.rules.specs.Layout.{page_size};
 ghost use Rattle.rules.specs.Entry.{find};
 ghost use Rattle.rules.specs.Table.{read};
-ghost use Rattle.rules.specs.Reports.{insertReported};
+ghost use Rattle.rules.specs.Reports.{insert_reported};
 ghost use Rattle.rules.specs.declared.Session.{Session};
 ghost use Rattle.head.proofs.Headers.{head_of};
 ghost use Rattle.way.specs.Ways.{Holds};
-ghost use Rattle.insert.specs.Inserts.{leaving, presentIn, answer_of, decidedOn, Deciding, testedBy};
+ghost use Rattle.insert.specs.Inserts.{leaving, present_in, answer_of, decided_on, Deciding, tested_by};
 
 use marks::Chosen;
 use plan::Planned;
@@ -24,9 +24,9 @@ use way::{Step, Way};
 
 // The key is in the leaf, with any record.
 fn is_present(table: &[u8], leaf: Step, key: u64) -> bool
-    requires { ((leaf.place.child + 1) * pageSize ≤ length table.now)
+    requires { ((leaf.place.child + 1) * page_size ≤ length table.now)
         × (leaf.head ≡ head_of (read table.now leaf.place.child)) × (Holds (read table.now leaf.place.child).view) }
-    ensures { result ≡ presentIn (find key (read table.now leaf.place.child).view.certs) }
+    ensures { result ≡ present_in (find key (read table.now leaf.place.child).view.certs) }
 {
     let Looked::Found(_) = lookup::find_at(table, leaf, key) else {
         return false;
@@ -49,7 +49,7 @@ fn answer_of(planned: Planned) -> Inserted
 // The answer along a way, before anything is written: done where the insert is to go on.
 fn decided(t: &[u8], c: u32, key: u64, way: Way, chosen: Chosen) -> Inserted
     requires { Deciding c key t.now way chosen }
-    ensures { (d : Deciding c key t.now way chosen) → result ≡ decidedOn key d.session way t.now }
+    ensures { (d : Deciding c key t.now way chosen) → result ≡ decided_on key d.session way t.now }
 {
     if way.len == 0 {
         return Inserted::Damaged;
@@ -61,7 +61,7 @@ fn decided(t: &[u8], c: u32, key: u64, way: Way, chosen: Chosen) -> Inserted
 // The answer of the tests that come before the walk: done where all pass.
 fn tested(working: &[u8], stable: &[u8], n: u16, model: u16, serial: u32, issue: u16) -> Inserted
     ensures { (s : Session) → s.n ≡ n
-        → result ≡ testedBy s working.now stable.now model serial issue }
+        → result ≡ tested_by s working.now stable.now model serial issue }
 {
     if !tables::lengths_for(n, working, stable) {
         return Inserted::Length;
@@ -85,7 +85,7 @@ pub fn insert(
     value: u32,
 ) -> Inserting
     ensures { leaving result working.new stable.now
-        ≡ insertReported working.old stable.now session model serial issue value }
+        ≡ insert_reported working.old stable.now session model serial issue value }
 {
     let tests = tested(working, stable, session.n, model, serial, issue);
     let Inserted::Done = tests else {

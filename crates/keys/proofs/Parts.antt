@@ -6,12 +6,12 @@ use native.Mathlib.Omega.{arith}
 use borrow.Author.Tests.{lt-ltb, le-ltb, eqb-true, eqb-false}
 use lib.Dec.{ltb, eqb}
 use Rattle.rules.specs.Test.{every}
-use Rattle.rules.specs.Key.{goodParts}
+use Rattle.rules.specs.Key.{good_parts}
 
 module _ (m s i : ℕ) where
-  pub no-model : m ≡ 0 → false ≡ goodParts m s i
-  unfolding goodParts every
-  no-model h = rw (le-ltb 0 m (omega arith))
+  pub no_model : m ≡ 0 → false ≡ good_parts m s i
+  unfolding good_parts every
+  no_model h = rw (le-ltb 0 m (omega arith))
 
   module _ (o : m ≡ 0 → ⊥) where
     above : 0 < m
@@ -21,12 +21,12 @@ module _ (m s i : ℕ) where
         go true e = absurd (o (eqb-true m 0 e))
         go false e = let q = eqb-false m 0 e in omega arith
 
-    pub no-serial : s ≡ 0 → false ≡ goodParts m s i
-    unfolding goodParts every
-    no-serial h = rw (lt-ltb 0 m above, le-ltb 0 s (omega arith))
+    pub no_serial : s ≡ 0 → false ≡ good_parts m s i
+    unfolding good_parts every
+    no_serial h = rw (lt-ltb 0 m above, le-ltb 0 s (omega arith))
 
-    pub only-issue : (s ≡ 0 → ⊥) → not (eqb i 0) ≡ goodParts m s i
-    unfolding goodParts every
+    pub only-issue : (s ≡ 0 → ⊥) → not (eqb i 0) ≡ good_parts m s i
+    unfolding good_parts every
     only-issue p = rw (lt-ltb 0 m above, lt-ltb 0 s serial) (go (eqb i 0) refl)
       where
         serial : 0 < s

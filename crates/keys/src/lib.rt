@@ -5,13 +5,13 @@
 //
 // Below stands `rules`.
 ghost use Rattle.std.specs.Prelude.{◌≡◌};
-ghost use Rattle.rules.specs.Key.{key_of, goodParts};
+ghost use Rattle.rules.specs.Key.{key_of, good_parts};
 
 use rules::{MODEL, SERIAL};
 
 // No part of the key is zero.
 pub fn good_parts(model: u16, serial: u32, issue: u16) -> bool
-    ensures { result ≡ goodParts model serial issue }
+    ensures { result ≡ good_parts model serial issue }
 {
     if model == 0 {
         return false;

@@ -7,25 +7,25 @@ use mathlib.Core.Bool.{Bool, true, false}
 use mathlib.Core.List.{List, [], ◌∷◌}
 use lib.ListN.{length}
 use borrow.Author.Tests.{ne_eqb}
-use Rattle.rules.specs.Layout.{lastKey}
+use Rattle.rules.specs.Layout.{last_key}
 use Rattle.rules.specs.Test.{between}
 use Rattle.rules.specs.Page.{Page}
-use Rattle.rules.specs.Sound.{startsAt}
+use Rattle.rules.specs.Sound.{starts_at}
 use Rattle.rules.specs.Table.{read}
-use Rattle.rules.specs.Place.{rootPlace}
+use Rattle.rules.specs.Place.{root_place}
 use Rattle.rules.specs.Enter as entry
 use Rattle.rules.specs.Walk as rules
 use Rattle.rules.specs.declared.Place.{Place}
-use Rattle.rules.proofs.entries.Tests.{between-low, between-high, between-of}
-use Rattle.rules.proofs.entries.Places.{fits-true}
-use Rattle.rules.proofs.entries.Asks.{kids-pick, kids-names}
+use Rattle.rules.proofs.Entries.Tests.{between-low, between-high, between-of}
+use Rattle.rules.proofs.Entries.Places.{fits_true}
+use Rattle.rules.proofs.Entries.Asks.{kids-pick, kids-names}
 use Rattle.head.proofs.Headers.{head_of}
 use Rattle.way.specs.Ways.{Leads}
 use Rattle.way.proofs.Stood.{Ready, ready-next}
 use Rattle.climbs.specs.Ground.{Ground}
 use Rattle.climbs.proofs.Ground.{root-ready}
 use Rattle.leaves.specs.Kept.{KeptSteps, holding}
-use Rattle.leaves.specs.Cursors.{cursorOf, holdingIn, Lies, LeadsOn}
+use Rattle.leaves.specs.Cursors.{cursor_of, holding_in, Lies, LeadsOn}
 use Rattle.leaves.proofs.Resume.{enter-kept, range-above, leads-here}
 
 -- ── Which pages are kept for a key ──────────────────────────────────────────────────────────────────────────────
@@ -56,11 +56,11 @@ held n k t (s ∷ above) x = go (between s.place.low s.place.high k) refl (held 
     go false f ih = rw (f, holding) record { kept = ih.kept; first = ih.first; short = omega (arith, ih.short) }
 
 -- the root's place holds every key
-root-holds : (n k : ℕ) (t : List ℕ) (s : rules.Step) → KeptSteps n t (s ∷ []) → k ≤ lastKey
+root-holds : (n k : ℕ) (t : List ℕ) (s : rules.Step) → KeptSteps n t (s ∷ []) → k ≤ last_key
     → between s.place.low s.place.high k ≡ true
-unfolding rootPlace
+unfolding root_place
 root-holds n k t s x h =
-    ap (λ (e : Place). between e.low e.high k) x.0.asked ∙ between-of 0 lastKey k (omega arith) h
+    ap (λ (e : Place). between e.low e.high k) x.0.asked ∙ between-of 0 last_key k (omega arith) h
 
 -- ── What a cursor says of them ──────────────────────────────────────────────────────────────────────────────────
 
@@ -69,16 +69,16 @@ module _ {n c : ℕ} {t : List ℕ} (g : Ground n c t) where
   kept-number : (s : rules.Step) (above : List rules.Step) → KeptSteps n t (s ∷ above) → (1 ≤ s.place.child) × (s.place.child < n)
   kept-number s [] x =
       let r = root-ready g 0 (omega arith) in
-      subst (λ (e : Place). (1 ≤ e.child) × (e.child < n)) (sym x.0.asked) (r.child-from, r.child-below)
+      subst (λ (e : Place). (1 ≤ e.child) × (e.child < n)) (sym x.0.asked) (r.child_from, r.child_below)
   kept-number s (u ∷ above) x =
-      let f = (fits-true n u.place u.page x.1.0.fit).sound in
+      let f = (fits_true n u.place u.page x.1.0.fit).sound in
       let m = kids-names u.place f s.place (kids-pick u.place f s.place.low s.place x.0.asked) in
-      (m.child-from, m.child-below)
+      (m.child_from, m.child_below)
 
   pub named : (s : rules.Step) (above : List rules.Step) → KeptSteps n t (s ∷ above) → s.place.child ≡ 0 → ⊥
   named s above x z = omega (arith, (kept-number s above x).0, z)
 
-  pub lies-kept : (ss : List rules.Step) → KeptSteps n t ss → Lies t (cursorOf ss)
+  pub lies-kept : (ss : List rules.Step) → KeptSteps n t ss → Lies t (cursor_of ss)
   lies-kept [] x = λ z. absurd (z refl)
   lies-kept (s ∷ above) x = λ z. omega (arith, g.long, (kept-number s above x).1)
 
@@ -86,30 +86,30 @@ module _ {n c : ℕ} {t : List ℕ} (g : Ground n c t) where
   range-read : (k : ℕ) (s : rules.Step) (above : List rules.Step) → KeptSteps n t (s ∷ above)
       → between (read t s.place.child).low (read t s.place.child).high k ≡ between s.place.low s.place.high k
   range-read k s above x =
-      let f = fits-true n s.place s.page x.0.fit in
+      let f = fits_true n s.place s.page x.0.fit in
       ap (λ (p : Page). between p.low p.high k) x.0.here ∙ rw (f.low, f.high) refl
 
   -- at most two pages: the root is never passed over, so one test is enough
-  pub held-cursor : (k : ℕ) (ss : List rules.Step) → KeptSteps n t ss → length ss ≤ 2 → k ≤ lastKey
-      → holdingIn k t (cursorOf ss) ≡ cursorOf (holding k ss)
-  unfolding holdingIn holding
-  held-cursor k [] x l h = refl
-  held-cursor k (s ∷ []) x l h =
+  pub held_cursor : (k : ℕ) (ss : List rules.Step) → KeptSteps n t ss → length ss ≤ 2 → k ≤ last_key
+      → holding_in k t (cursor_of ss) ≡ cursor_of (holding k ss)
+  unfolding holding_in holding
+  held_cursor k [] x l h = refl
+  held_cursor k (s ∷ []) x l h =
       let q = root-holds n k t s x h in
-      rw (ne_eqb s.place.child 0 (named s [] x), holdingIn, range-read k s [] x ∙ q, holding, q)
-  held-cursor k (s ∷ (u ∷ [])) x l h = go (between s.place.low s.place.high k) refl
+      rw (ne_eqb s.place.child 0 (named s [] x), holding_in, range-read k s [] x ∙ q, holding, q)
+  held_cursor k (s ∷ (u ∷ [])) x l h = go (between s.place.low s.place.high k) refl
     where
       go : (b : Bool) → between s.place.low s.place.high k ≡ b
-          → holdingIn k t (cursorOf (s ∷ (u ∷ []))) ≡ cursorOf (holding k (s ∷ (u ∷ [])))
+          → holding_in k t (cursor_of (s ∷ (u ∷ []))) ≡ cursor_of (holding k (s ∷ (u ∷ [])))
       go true q =
-          rw (ne_eqb s.place.child 0 (named s (u ∷ []) x), holdingIn, range-read k s (u ∷ []) x ∙ q, holding, q)
+          rw (ne_eqb s.place.child 0 (named s (u ∷ []) x), holding_in, range-read k s (u ∷ []) x ∙ q, holding, q)
       go false q =
-          rw (ne_eqb s.place.child 0 (named s (u ∷ []) x), holdingIn, range-read k s (u ∷ []) x ∙ q, holding, q, root-holds n k t u x.1 h)
-  held-cursor k (s ∷ (u ∷ (v ∷ ss))) x l h = absurd (omega arith)
+          rw (ne_eqb s.place.child 0 (named s (u ∷ []) x), holding_in, range-read k s (u ∷ []) x ∙ q, holding, q, root-holds n k t u x.1 h)
+  held_cursor k (s ∷ (u ∷ (v ∷ ss))) x l h = absurd (omega arith)
 
 -- ── The place that they lead to ─────────────────────────────────────────────────────────────────────────────────
 
-module _ {n c k : ℕ} {t : List ℕ} (A : Ground n c t) (B : k ≤ lastKey) where
+module _ {n c k : ℕ} {t : List ℕ} (A : Ground n c t) (B : k ≤ last_key) where
   pub ready-kept : (s : rules.Step) (above : List rules.Step) → KeptSteps n t (s ∷ above) → s.place.low ≤ k → k ≤ s.place.high
       → Ready n c k t s.place
   ready-kept s [] x p q =
@@ -125,20 +125,20 @@ module _ {n c k : ℕ} {t : List ℕ} (A : Ground n c t) (B : k ≤ lastKey) whe
       → Leads k (head_of s.page) s.page.view
   unfolding head_of
   leads-kept s above x p q =
-      let f = fits-true n s.place s.page x.0.fit in
+      let f = fits_true n s.place s.page x.0.fit in
       record {
         inner = x.0.inner;
         kind = refl;
-        from = f.sound.kind-from;
+        from = f.sound.kind_from;
         count = refl;
-        room = f.sound.children-room;
-        rise = f.sound.children-rise;
-        starts = ap (λ (i : ℕ). startsAt i s.page.view.children) f.low ∙ f.sound.starts x.0.inner;
+        room = f.sound.children_room;
+        rise = f.sound.children_rise;
+        starts = ap (λ (i : ℕ). starts_at i s.page.view.children) f.low ∙ f.sound.starts x.0.inner;
         low = omega (arith, f.low);
         high = omega (arith, f.high);
       }
 
-  pub leads-on : (hs : List rules.Step) → KeptSteps n t hs → First k hs → LeadsOn k t (cursorOf hs)
-  leads-on [] x f = λ z. absurd (z refl)
-  leads-on (s ∷ above) x f = λ z.
+  pub leads_on : (hs : List rules.Step) → KeptSteps n t hs → First k hs → LeadsOn k t (cursor_of hs)
+  leads_on [] x f = λ z. absurd (z refl)
+  leads_on (s ∷ above) x f = λ z.
       subst (λ (y : Page). Leads k (head_of y) y.view) (sym x.0.here) (leads-kept s above x f.0 f.1)

@@ -5,20 +5,20 @@ use mathlib.Core.Path.{◌≡◌, refl, sym, ◌∙◌, subst}
 use mathlib.Core.Bool.{Bool, true, false}
 use mathlib.Core.List.{List, [], ◌∷◌}
 use mathlib.Core.Option.{Option, some, none, some-injective, none-ne-some}
-use Rattle.rules.specs.Layout.{topKind, lastKey}
+use Rattle.rules.specs.Layout.{top_kind, last_key}
 use Rattle.rules.specs.Test.{mem}
-use Rattle.rules.specs.Page.{Page, isLeaf}
+use Rattle.rules.specs.Page.{Page, is_leaf}
 use Rattle.rules.specs.Table.{read}
-use Rattle.rules.specs.Place.{rootPlace, kids, pick}
+use Rattle.rules.specs.Place.{root_place, kids, pick}
 use Rattle.rules.specs.Enter as entry
 use Rattle.rules.specs.Walk.{Step, numbers, descend, way_of}
 use Rattle.rules.specs.declared.Place.{Place}
-use Rattle.rules.proofs.bytes.PageZero.{rootPlace-same, same0}
-use Rattle.rules.proofs.entries.Tests.{mem-head, mem-tail}
-use Rattle.rules.proofs.entries.Views.{Shaped, shaped-read}
-use Rattle.rules.proofs.entries.Places.{fits-of}
-use Rattle.rules.proofs.entries.Asks.{pick-leaf, kids-same, kids-pick}
-use Rattle.rules.proofs.demand1.WalkSteps.{enter-apart}
+use Rattle.rules.proofs.Bytes.PageZero.{root_place-same, same0}
+use Rattle.rules.proofs.Entries.Tests.{mem-head, mem_tail}
+use Rattle.rules.proofs.Entries.Views.{Shaped, shaped-read}
+use Rattle.rules.proofs.Entries.Places.{fits-of}
+use Rattle.rules.proofs.Entries.Asks.{pick-leaf, kids-same, kids-pick}
+use Rattle.rules.proofs.Demand1.WalkSteps.{enter-apart}
 use Rattle.way.specs.Ways.{rest_of}
 use Rattle.way.proofs.Stood.{Ready, ready-next, stood-here}
 use Rattle.climbs.specs.Ground.{Ground}
@@ -27,12 +27,12 @@ use Rattle.leaves.specs.Kept.{AskedBy, KeptSteps}
 
 -- ── Kept in another table ───────────────────────────────────────────────────────────────────────────────────────
 
-asked-same : (t u : List ℕ) (e : Place) (above : List Step) → rootPlace u ≡ rootPlace t → AskedBy t e above → AskedBy u e above
+asked-same : (t u : List ℕ) (e : Place) (above : List Step) → root_place u ≡ root_place t → AskedBy t e above → AskedBy u e above
 asked-same t u e [] z a = a ∙ sym z
 asked-same t u e (s ∷ above) z a = a
 
 -- where page 0 asks for the same root and the pages kept are read as before
-pub kept_same : (n : ℕ) (t u : List ℕ) (ss : List Step) → rootPlace u ≡ rootPlace t
+pub kept_same : (n : ℕ) (t u : List ℕ) (ss : List Step) → root_place u ≡ root_place t
     → ((j : ℕ) → mem j (numbers ss) ≡ true → read u j ≡ read t j) → KeptSteps n t ss → KeptSteps n u ss
 unfolding numbers
 kept_same n t u [] z f x = tt
@@ -44,7 +44,7 @@ kept_same n t u (s ∷ above) z f x = (
     apart = x.0.apart;
     asked = asked-same t u s.place above z x.0.asked;
   },
-  kept_same n t u above z (λ j i. f j (mem-tail j s.place.child (numbers above) i)) x.1,
+  kept_same n t u above z (λ j i. f j (mem_tail j s.place.child (numbers above) i)) x.1,
 )
 
 -- ── One place entered ───────────────────────────────────────────────────────────────────────────────────────────
@@ -53,18 +53,18 @@ module _ {n c k : ℕ} {t : List ℕ} {e : Place} (r : Ready n c k t e) (above :
   abbrev left : List ℕ
   left = (entry.enter n c (numbers above) t e).table
 
-  root-left : rootPlace left ≡ rootPlace t
-  root-left = rootPlace-same (same0 left t ((enter-stays r (numbers above)).same 0 (mem-head 0 (numbers above))))
+  root-left : root_place left ≡ root_place t
+  root-left = root_place-same (same0 left t ((enter-stays r (numbers above)).same 0 (mem-head 0 (numbers above))))
 
   kept_above : KeptSteps n t above → KeptSteps n left above
   kept_above = kept_same n t left above root-left (stays-read (enter-stays r (numbers above)))
 
   module _ (p : Page) (h : (entry.enter n c (numbers above) t e).page ≡ some p) (b : Place) (q : pick k (kids e p.view) ≡ some b) where
     -- a page that leads on is no leaf
-    inner-here : isLeaf p.view ≡ false
-    inner-here = go (isLeaf p.view) refl
+    inner-here : is_leaf p.view ≡ false
+    inner-here = go (is_leaf p.view) refl
       where
-        go : (l : Bool) → isLeaf p.view ≡ l → isLeaf p.view ≡ false
+        go : (l : Bool) → is_leaf p.view ≡ l → is_leaf p.view ≡ false
         go false f = f
         go true f =
             let s = subst (λ (x : Page). Shaped x.view) (stood-here r (numbers above) p h).here (shaped-read left e.child) in
@@ -115,8 +115,8 @@ descend-keeps (suc level) n c k t steps above e r a x h =
     found none f ih = absurd (none-ne-some steps (rw (descend, f) at h))
     found (some p) f ih = below p f (pick k (kids e p.view)) refl ih
 
-pub way-keeps : {n c : ℕ} {t : List ℕ} → Ground n c t → (k : ℕ) → k ≤ lastKey → (steps : List Step)
+pub way-keeps : {n c : ℕ} {t : List ℕ} → Ground n c t → (k : ℕ) → k ≤ last_key → (steps : List Step)
     → (way_of n c k t).steps ≡ some steps → KeptSteps n (way_of n c k t).table (rest_of steps)
 unfolding way_of
 way-keeps {n} {c} {t} g k h steps q =
-    descend-keeps topKind n c k t steps [] (rootPlace t) (root-ready g k h) refl tt q
+    descend-keeps top_kind n c k t steps [] (root_place t) (root-ready g k h) refl tt q

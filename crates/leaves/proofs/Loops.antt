@@ -5,23 +5,23 @@ use mathlib.Core.Path.{◌≡◌, refl, sym, ap, ◌∙◌, subst}
 use mathlib.Core.Bool.{true}
 use mathlib.Core.List.{List, [], ◌∷◌}
 use mathlib.Core.Option.{Option, some, none}
-use Rattle.rules.specs.Layout.{lastKey}
+use Rattle.rules.specs.Layout.{last_key}
 use Rattle.rules.specs.Test.{mem}
 use Rattle.rules.specs.Entry.{keys}
 use Rattle.rules.specs.Page.{Page, count}
 use Rattle.rules.specs.Table.{read}
-use Rattle.rules.specs.Place.{rootPlace}
+use Rattle.rules.specs.Place.{root_place}
 use Rattle.rules.specs.Walk as rules
 use Rattle.rules.specs.declared.Report.{Report}
-use Rattle.rules.proofs.entries.Places.{Fits}
+use Rattle.rules.proofs.Entries.Places.{Fits}
 use Rattle.entries.specs.Spot.{spot_of}
 use Rattle.enter.specs.declared.Above.{Above}
 use Rattle.way.specs.Ways.{Holds}
 use Rattle.way.proofs.Linked.{way-linked}
 use Rattle.climbs.specs.Ground.{Ground}
-use Rattle.climbs.proofs.Ground.{way-ground, no-way-empty, leaf-stood, leaf-ends, leaf-range}
+use Rattle.climbs.proofs.Ground.{way-ground, no_way-empty, leaf-stood, leaf-ends, leaf-range}
 use Rattle.leaves.specs.Kept.{KeptSteps}
-use Rattle.leaves.specs.Cursors.{noCursor, Kept, Nexting, nexting, leafOf, nextOr, next_of}
+use Rattle.leaves.specs.Cursors.{no_cursor, Kept, Nexting, nexting, leaf_of, next_or, next_of}
 use Rattle.leaves.specs.declared.Leaf.{Leaf}
 use Rattle.leaves.specs.declared.Stepped.{Stepped}
 use Rattle.leaves.proofs.Keeps.{way-keeps, kept_same}
@@ -29,11 +29,11 @@ use Rattle.leaves.proofs.Keeps.{way-keeps, kept_same}
 -- ── The cursor ──────────────────────────────────────────────────────────────────────────────────────────────────
 
 -- the first one
-pub kept-start : (n : ℕ) (t : List ℕ) (x : Above) → x ≡ noCursor → Kept n t x
+pub kept-start : (n : ℕ) (t : List ℕ) (x : Above) → x ≡ no_cursor → Kept n t x
 kept-start n t x h = record { steps = []; are = h; short = omega arith; kept = tt }
 
 -- in a table where page 0 asks for the same root and the pages kept are read as before
-pub kept_on : (n : ℕ) (t u : List ℕ) (x : Above) (K : Kept n t x) → rootPlace u ≡ rootPlace t
+pub kept_on : (n : ℕ) (t u : List ℕ) (x : Above) (K : Kept n t x) → root_place u ≡ root_place t
     → ((j : ℕ) → mem j (rules.numbers K.steps) ≡ true → read u j ≡ read t j) → Kept n u x
 kept_on n t u x K z f = record {
   steps = K.steps;
@@ -53,15 +53,15 @@ pub record Reached (n c k upto : ℕ) (x : Report) (t u : List ℕ) (l : Leaf) :
   pub count : l.count ≡ count leaf.page.view
   pub high : l.high ≡ leaf.place.high
   pub spot : l.spot ≡ spot_of upto (keys leaf.page.view.certs)
-  pub report : l.report ≡ rules.wayReport n c k t x
+  pub report : l.report ≡ rules.way_report n c k t x
   pub here : read u l.child ≡ leaf.page
   pub fits : Fits n leaf.place leaf.page
   pub holds : Holds (read u l.child).view
-  pub child-from : 1 ≤ l.child
-  pub child-below : l.child < n
+  pub child_from : 1 ≤ l.child
+  pub child_below : l.child < n
   pub low : leaf.place.low ≤ k
   pub up : k ≤ leaf.place.high
-  pub last : leaf.place.high ≤ lastKey
+  pub last : leaf.place.high ≤ last_key
   pub kept : Kept n u l.behind
   pub ground : Ground n c u
 
@@ -70,40 +70,40 @@ record Told (n c k upto : ℕ) (x : Report) (t : List ℕ) (l : Leaf) : Type 0 w
   leaf : rules.Step
   above : List rules.Step
   steps : (rules.way_of n c k t).steps ≡ some (leaf ∷ above)
-  are : l ≡ leafOf upto leaf above (rules.wayReport n c k t x)
+  are : l ≡ leaf_of upto leaf above (rules.way_report n c k t x)
 
 way_same : {t u : List ℕ} {o p : Option (List rules.Step)} → t ≡ u → o ≡ p
     → ◌≡◌ {A = rules.Way} (record { table = t; steps = o }) (record { table = u; steps = p })
 way_same f g = cc
 
-module _ {n c k : ℕ} {t u : List ℕ} (g : Ground n c t) (h : k ≤ lastKey) (upto : ℕ) (x : Report) where
-  table_is : (r : Stepped) → nexting u r ≡ next_of upto (rules.way_of n c k t) (rules.wayReport n c k t x) → u ≡ (rules.way_of n c k t).table
+module _ {n c k : ℕ} {t u : List ℕ} (g : Ground n c t) (h : k ≤ last_key) (upto : ℕ) (x : Report) where
+  table_is : (r : Stepped) → nexting u r ≡ next_of upto (rules.way_of n c k t) (rules.way_report n c k t x) → u ≡ (rules.way_of n c k t).table
   unfolding next_of
   table_is r f = ap (λ (y : Nexting). y.table) f
 
-  pub next-damaged : (y : Report) → nexting u (Stepped.Damaged y) ≡ next_of upto (rules.way_of n c k t) (rules.wayReport n c k t x)
-      → (rules.way_of n c k t ≡ rules.noWay u) × (y ≡ rules.wayReport n c k t x)
-  unfolding next_of nextOr
+  pub next-damaged : (y : Report) → nexting u (Stepped.Damaged y) ≡ next_of upto (rules.way_of n c k t) (rules.way_report n c k t x)
+      → (rules.way_of n c k t ≡ rules.no_way u) × (y ≡ rules.way_report n c k t x)
+  unfolding next_of next_or
   next-damaged y f =
       let s = go (rules.way_of n c k t).steps refl (ap (λ (z : Nexting). z.next) f) in
       (way_same (sym (table_is (Stepped.Damaged y) f)) s.0, s.1)
     where
-      go : (o : Option (List rules.Step)) → (rules.way_of n c k t).steps ≡ o → Stepped.Damaged y ≡ nextOr upto o (rules.wayReport n c k t x)
-          → ((rules.way_of n c k t).steps ≡ none) × (y ≡ rules.wayReport n c k t x)
+      go : (o : Option (List rules.Step)) → (rules.way_of n c k t).steps ≡ o → Stepped.Damaged y ≡ next_or upto o (rules.way_report n c k t x)
+          → ((rules.way_of n c k t).steps ≡ none) × (y ≡ rules.way_report n c k t x)
       go none q e = (q, cc)
-      go (some []) q e = absurd (no-way-empty g k h q)
+      go (some []) q e = absurd (no_way-empty g k h q)
       go (some (s ∷ above)) q e = absurd (let z : ◌≡◌ {A = ℕ} 0 1 = cc in omega arith)
 
-  told : (l : Leaf) → nexting u (Stepped.Leaf l) ≡ next_of upto (rules.way_of n c k t) (rules.wayReport n c k t x) → Told n c k upto x t l
-  unfolding next_of nextOr
+  told : (l : Leaf) → nexting u (Stepped.Leaf l) ≡ next_of upto (rules.way_of n c k t) (rules.way_report n c k t x) → Told n c k upto x t l
+  unfolding next_of next_or
   told l f = go (rules.way_of n c k t).steps refl (ap (λ (y : Nexting). y.next) f)
     where
-      go : (o : Option (List rules.Step)) → (rules.way_of n c k t).steps ≡ o → Stepped.Leaf l ≡ nextOr upto o (rules.wayReport n c k t x) → Told n c k upto x t l
+      go : (o : Option (List rules.Step)) → (rules.way_of n c k t).steps ≡ o → Stepped.Leaf l ≡ next_or upto o (rules.way_report n c k t x) → Told n c k upto x t l
       go none q e = absurd (let z : ◌≡◌ {A = ℕ} 0 1 = cc in omega arith)
-      go (some []) q e = absurd (no-way-empty g k h q)
+      go (some []) q e = absurd (no_way-empty g k h q)
       go (some (s ∷ above)) q e = record { leaf = s; above = above; steps = q; are = cc }
 
-  module _ (l : Leaf) (f : nexting u (Stepped.Leaf l) ≡ next_of upto (rules.way_of n c k t) (rules.wayReport n c k t x)) where
+  module _ (l : Leaf) (f : nexting u (Stepped.Leaf l) ≡ next_of upto (rules.way_of n c k t) (rules.way_report n c k t x)) where
     told_here : Told n c k upto x t l
     told_here = told l f
 
@@ -124,8 +124,8 @@ module _ {n c k : ℕ} {t u : List ℕ} (g : Ground n c t) (h : k ≤ lastKey) (
         let s = (leaf-stood g k h told_here.leaf told_here.above told_here.steps).fits.sound in
         let v : Holds told_here.leaf.page.view = record {
           leaf = leaf-ends g k h told_here.leaf told_here.above told_here.steps;
-          room = s.certs-room;
-          rise = s.certs-rise;
+          room = s.certs_room;
+          rise = s.certs_rise;
         } in
         subst (λ (y : Page). Holds y.view) (sym here) v
 
@@ -157,8 +157,8 @@ module _ {n c k : ℕ} {t u : List ℕ} (g : Ground n c t) (h : k ≤ lastKey) (
           here = here;
           fits = s.fits;
           holds = holds-here;
-          child-from = omega (arith, i, s.child-from);
-          child-below = omega (arith, i, s.child-below);
+          child_from = omega (arith, i, s.child_from);
+          child_below = omega (arith, i, s.child_below);
           low = r.0;
           up = r.1;
           last = r.2;

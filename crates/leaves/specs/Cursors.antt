@@ -1,36 +1,36 @@
 -- A cursor as the code hands it on, and what a step to a leaf leaves and answers.
 use Rattle.std.specs.Prelude.{ℕ, ◌+◌, ◌*◌, ◌≤◌, ◌≡◌, true, false, List, [], ◌∷◌, eqb, length}
 use Rattle.std.proofs.Math.Option.{Option, some, none}
-use Rattle.rules.specs.Layout.{pageSize}
+use Rattle.rules.specs.Layout.{page_size}
 use Rattle.rules.specs.Test.{between}
 use Rattle.rules.specs.Entry.{keys}
 use Rattle.rules.specs.Page.{count}
 use Rattle.rules.specs.Table.{read}
-use Rattle.rules.specs.Place.{rootPlace, pick}
+use Rattle.rules.specs.Place.{root_place, pick}
 use Rattle.rules.specs.Walk as rules
 use Rattle.rules.specs.declared.Place.{Place}
 use Rattle.rules.specs.declared.Report.{Report}
 use Rattle.entries.specs.Spot.{spot_of}
 use Rattle.head.proofs.Headers.{head_of}
 use Rattle.enter.specs.declared.Above.{Above}
-use Rattle.way.specs.Ways.{wayFor, aboveIn, placesBelow, Leads}
+use Rattle.way.specs.Ways.{way_for, above_in, places_below, Leads}
 use Rattle.leaves.specs.Kept.{KeptSteps}
 use Rattle.leaves.specs.declared.Leaf.{Leaf}
 use Rattle.leaves.specs.declared.Stepped.{Stepped}
 
 -- ── The pages that a cursor keeps ───────────────────────────────────────────────────────────────────────────────
 
-abbrev pub noCursor : Above
-noCursor = record { parent = 0; top = 0 }
+abbrev pub no_cursor : Above
+no_cursor = record { parent = 0; top = 0 }
 
 -- a cursor has their numbers; the table has the rest
-abbrev pub cursorOf : List rules.Step → Above
-cursorOf ss = aboveIn (wayFor ss)
+abbrev pub cursor_of : List rules.Step → Above
+cursor_of ss = above_in (way_for ss)
 
 -- what a cursor must be for the next step: its pages are kept in the table
 pub record Kept (n : ℕ) (t : List ℕ) (x : Above) : Type 0 where
   pub steps : List rules.Step
-  pub are : x ≡ cursorOf steps
+  pub are : x ≡ cursor_of steps
   pub short : length steps ≤ 2
   pub kept : KeptSteps n t steps
 
@@ -44,30 +44,30 @@ abbrev pub nexting : List ℕ → Stepped → Nexting
 nexting t x = record { table = t; next = x }
 
 -- a leaf with how many of its keys are not above one, the pages above it, and what was reported down to it
-abbrev pub leafOf : ℕ → rules.Step → List rules.Step → Report → Leaf
-leafOf upto s above x = record {
+abbrev pub leaf_of : ℕ → rules.Step → List rules.Step → Report → Leaf
+leaf_of upto s above x = record {
   child = s.place.child;
   count = count s.page.view;
   high = s.place.high;
   spot = spot_of upto (keys s.page.view.certs);
-  behind = cursorOf above;
+  behind = cursor_of above;
   report = x;
 }
 
-unfoldable pub nextOr : ℕ → Option (List rules.Step) → Report → Stepped
-nextOr upto none x = Stepped.Damaged x
-nextOr upto (some []) x = Stepped.Damaged x
-nextOr upto (some (s ∷ above)) x = Stepped.Leaf (leafOf upto s above x)
+unfoldable pub next_or : ℕ → Option (List rules.Step) → Report → Stepped
+next_or upto none x = Stepped.Damaged x
+next_or upto (some []) x = Stepped.Damaged x
+next_or upto (some (s ∷ above)) x = Stepped.Leaf (leaf_of upto s above x)
 
 -- the end of a way, and what is kept of it; the report is handed back with damage too
 unfoldable pub next_of : ℕ → rules.Way → Report → Nexting
-next_of upto w x = nexting w.table (nextOr upto w.steps x)
+next_of upto w x = nexting w.table (next_or upto w.steps x)
 
 -- ── Where a step begins ─────────────────────────────────────────────────────────────────────────────────────────
 
 -- the page above a leaf is passed over if its range misses the key; the one above that is the root, which holds all
-unfoldable pub holdingIn : ℕ → List ℕ → Above → Above
-holdingIn k t x =
+unfoldable pub holding_in : ℕ → List ℕ → Above → Above
+holding_in k t x =
     elim (eqb x.parent 0) [
       | true ↦ x
       | false ↦ elim (between (read t x.parent).low (read t x.parent).high k)
@@ -75,20 +75,20 @@ holdingIn k t x =
     ]
 
 -- how many levels lie below
-unfoldable pub levelsIn : Above → ℕ
-levelsIn x = elim (eqb x.parent 0) [ true ↦ 3 | false ↦ elim (eqb x.top 0) [ true ↦ 2 | false ↦ 1 ] ]
+unfoldable pub levels_in : Above → ℕ
+levels_in x = elim (eqb x.parent 0) [ true ↦ 3 | false ↦ elim (eqb x.top 0) [ true ↦ 2 | false ↦ 1 ] ]
 
 -- the place that a key leads to below the deepest page, or the root's
 unfoldable pub place_in : ℕ → List ℕ → Above → Option Place
 place_in k t x =
     elim (eqb x.parent 0) [
-      | true ↦ some (rootPlace t)
-      | false ↦ pick k (placesBelow (head_of (read t x.parent)) (read t x.parent).view)
+      | true ↦ some (root_place t)
+      | false ↦ pick k (places_below (head_of (read t x.parent)) (read t x.parent).view)
     ]
 
 -- the deepest page lies in the table, and leads on where its range holds the key
 abbrev pub Lies : List ℕ → Above → Type 0
-Lies t x = (x.parent ≡ 0 → ⊥) → (x.parent + 1) * pageSize ≤ length t
+Lies t x = (x.parent ≡ 0 → ⊥) → (x.parent + 1) * page_size ≤ length t
 
 abbrev pub LeadsOn : ℕ → List ℕ → Above → Type 0
 LeadsOn k t x = (x.parent ≡ 0 → ⊥) → Leads k (head_of (read t x.parent)) (read t x.parent).view

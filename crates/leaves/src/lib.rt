@@ -12,13 +12,13 @@
 // Below stand `way`, which goes one page down, and `enter`, which enters one place.
 ghost use Rattle.std.specs.Prelude.{◌≡◌, true, ◌+◌, ◌*◌, ◌≤◌, length};
 ghost use Rattle.std.proofs.Math.Option.{some};
-ghost use Rattle.rules.specs.Layout.{pageSize, leafHeader, certSize, leafRoom};
+ghost use Rattle.rules.specs.Layout.{page_size, leaf_header, cert_size, leaf_room};
 ghost use Rattle.rules.specs.Test.{between};
 ghost use Rattle.rules.specs.Entry.{rising};
-ghost use Rattle.rules.specs.Table.{pageAt, fit0};
-ghost use Rattle.rules.specs.Walk.{way_of, wayReport};
-ghost use Rattle.entries.specs.Spot.{keysIn, spot_of};
-ghost use Rattle.leaves.specs.Cursors.{noCursor, holdingIn, levelsIn, place_in, Lies, LeadsOn, Kept, nexting, next_of};
+ghost use Rattle.rules.specs.Table.{page_at, fit0};
+ghost use Rattle.rules.specs.Walk.{way_of, way_report};
+ghost use Rattle.entries.specs.Spot.{keys_in, spot_of};
+ghost use Rattle.leaves.specs.Cursors.{no_cursor, holding_in, levels_in, place_in, Lies, LeadsOn, Kept, nexting, next_of};
 
 use enter::{Above, Entered};
 use head::Head;
@@ -44,7 +44,7 @@ pub enum Stepped {
 
 // The cursor of a first step: nothing is kept.
 pub fn start() -> Above
-    ensures { result ≡ noCursor }
+    ensures { result ≡ no_cursor }
 {
     Above { parent: 0, top: 0 }
 }
@@ -63,7 +63,7 @@ fn holds(head: Head, key: u64) -> bool
 // holds every key.
 fn holding(t: &[u8], cursor: Above, key: u64) -> Above
     requires { Lies t.now cursor }
-    ensures { result ≡ holdingIn key t.now cursor }
+    ensures { result ≡ holding_in key t.now cursor }
 {
     if cursor.parent == 0 {
         return cursor;
@@ -79,7 +79,7 @@ fn holding(t: &[u8], cursor: Above, key: u64) -> Above
 
 // How many levels lie below.
 fn levels(cursor: Above) -> usize
-    ensures { result ≡ levelsIn cursor }
+    ensures { result ≡ levels_in cursor }
 {
     if cursor.parent == 0 {
         return LEVELS;
@@ -92,7 +92,7 @@ fn levels(cursor: Above) -> usize
 
 // The place that a key leads to below the deepest page, or the root's.
 fn place(t: &[u8], cursor: Above, key: u64) -> Place
-    requires { (pageSize ≤ length t.now) × Lies t.now cursor × LeadsOn key t.now cursor }
+    requires { (page_size ≤ length t.now) × Lies t.now cursor × LeadsOn key t.now cursor }
     ensures { place_in key t.now cursor ≡ some result }
 {
     if cursor.parent == 0 {
@@ -105,9 +105,9 @@ fn place(t: &[u8], cursor: Above, key: u64) -> Place
 
 // How many of a leaf's keys are not above one.
 fn spot_at(t: &[u8], child: u16, count: u16, upto: u64, guess: usize) -> usize
-    requires { ((child + 1) * pageSize ≤ length t.now) × (count ≤ leafRoom)
-        × (rising (keysIn leafHeader certSize count (pageAt t.now child)) ≡ true) }
-    ensures { result ≡ spot_of upto (keysIn leafHeader certSize count (pageAt t.now child)) }
+    requires { ((child + 1) * page_size ≤ length t.now) × (count ≤ leaf_room)
+        × (rising (keys_in leaf_header cert_size count (page_at t.now child)) ≡ true) }
+    ensures { result ≡ spot_of upto (keys_in leaf_header cert_size count (page_at t.now child)) }
 {
     let from = child as usize * PAGE;
     let to = from + PAGE;
@@ -124,9 +124,9 @@ pub fn next(
     cursor: Above,
     mut report: Report,
 ) -> Stepped
-    requires { (length t.old ≡ n * pageSize) × (fit0 n t.old ≡ true) × Kept n t.old cursor }
+    requires { (length t.old ≡ n * page_size) × (fit0 n t.old ≡ true) × Kept n t.old cursor }
     ensures { nexting t.new result
-        ≡ next_of upto (way_of n c key t.old) (wayReport n c key t.old report) }
+        ≡ next_of upto (way_of n c key t.old) (way_report n c key t.old report) }
 {
     let mut above = holding(t, cursor, key);
     let mut e = place(t, above, key);

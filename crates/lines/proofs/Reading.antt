@@ -10,9 +10,9 @@ use borrow.Author.Tests.{eqb-true}
 use Rattle.lines.specs.declared.Line.{Line}
 use Rattle.lines.specs.declared.Reader.{Reader}
 use Rattle.lines.specs.declared.Reader.TheVariants.{Certificate, Model, Serial, Issue, Record, Sync, Crash, Page, Other}
-use Rattle.lines.specs.Line.{space, letterI, letterF, letterS, letterC, most16, most32, lastPage, onto, words, digits, value, number_in, number, end, insertOf, findOf, crashOf, letterOf, asked, line_of}
-use Rattle.lines.specs.Reader.{spaceFed, letterFed, afterIssue, pageNext, start_of, fedOf, ended, lineIn}
-use Rattle.lines.proofs.Told.{told, picked, numberFrom, onward, rested, told-other, number-told}
+use Rattle.lines.specs.Line.{space, letter_i, letter_f, letter_s, letter_c, most16, most32, last_page, onto, words, digits, value, number_in, number, end, insert_of, find_of, crash_of, letter_of, asked, line_of}
+use Rattle.lines.specs.Reader.{space_fed, letter_fed, after_issue, page_next, start_of, fed_of, ended, line_in}
+use Rattle.lines.proofs.Told.{told, picked, number_from, onward, rested, told-other, number-told}
 
 -- ── Words ───────────────────────────────────────────────────────────────────────────────────────────────────────
 
@@ -46,113 +46,113 @@ end-words line bs = end-some line (words bs) (words-some bs)
 
 -- ── A number from its first byte on ─────────────────────────────────────────────────────────────────────────────
 
-picked-elim : (b : Bool) (v : ℕ) → picked b v ≡ elim b [ true ↦ some v | false ↦ none ]
+picked_elim : (b : Bool) (v : ℕ) → picked b v ≡ elim b [ true ↦ some v | false ↦ none ]
 unfolding picked
-picked-elim true v = refl
-picked-elim false v = refl
+picked_elim true v = refl
+picked_elim false v = refl
 
-number-from : (limit : ℕ) (w : List ℕ) → numberFrom false limit 0 w ≡ number_in limit w
-unfolding numberFrom number_in picked
+number-from : (limit : ℕ) (w : List ℕ) → number_from false limit 0 w ≡ number_in limit w
+unfolding number_from number_in picked
 number-from limit [] = refl
-number-from limit (b ∷ w) = picked-elim (digits (b ∷ w) && leb (value 0 (b ∷ w)) limit) (value 0 (b ∷ w))
+number-from limit (b ∷ w) = picked_elim (digits (b ∷ w) && leb (value 0 (b ∷ w)) limit) (value 0 (b ∷ w))
 
-onward-elim : (rest : ℕ → List (List ℕ) → Line) (ws : List (List ℕ)) (x : Option ℕ) → onward rest ws x ≡ elim x [ none ↦ Line.Other | some v ↦ rest v ws ]
+onward_elim : (rest : ℕ → List (List ℕ) → Line) (ws : List (List ℕ)) (x : Option ℕ) → onward rest ws x ≡ elim x [ none ↦ Line.Other | some v ↦ rest v ws ]
 unfolding onward
-onward-elim rest ws none = refl
-onward-elim rest ws (some v) = refl
+onward_elim rest ws none = refl
+onward_elim rest ws (some v) = refl
 
-rested-number : (limit : ℕ) (rest : ℕ → List (List ℕ) → Line) (ws : List (List ℕ)) → rested false limit 0 rest ws ≡ number limit rest ws
+rested_number : (limit : ℕ) (rest : ℕ → List (List ℕ) → Line) (ws : List (List ℕ)) → rested false limit 0 rest ws ≡ number limit rest ws
 unfolding rested number
-rested-number limit rest [] = refl
-rested-number limit rest (w ∷ ws) = ap (onward rest ws) (number-from limit w) ∙ onward-elim rest ws (number_in limit w)
+rested_number limit rest [] = refl
+rested_number limit rest (w ∷ ws) = ap (onward rest ws) (number-from limit w) ∙ onward_elim rest ws (number_in limit w)
 
 -- ── The numbers of a certificate, last one first ────────────────────────────────────────────────────────────────
 
-record-told : (m s i : ℕ) (begun : Bool) (v : ℕ) (bs : List ℕ) → told (Record m s i begun v) bs ≡ rested begun most32 v (λ r. end (Line.Insert m s i r)) (words bs)
-unfolding fedOf lineIn ended words rested numberFrom picked onward end
-record-told m s i true v [] = refl
-record-told m s i false v [] = refl
-record-told m s i begun v (b ∷ bs) =
+record_told : (m s i : ℕ) (begun : Bool) (v : ℕ) (bs : List ℕ) → told (Record m s i begun v) bs ≡ rested begun most32 v (λ r. end (Line.Insert m s i r)) (words bs)
+unfolding fed_of line_in ended words rested number_from picked onward end
+record_told m s i true v [] = refl
+record_told m s i false v [] = refl
+record_told m s i begun v (b ∷ bs) =
     number-told most32 (Record m s i true) (λ r. Other) (λ r. end (Line.Insert m s i r)) bs
-    (λ u. record-told m s i true u bs)
+    (λ u. record_told m s i true u bs)
     (λ r. told-other bs ∙ sym (end-words (Line.Insert m s i r) bs))
     begun v b
 
 -- what follows an issue
-abbrev issueRest : Bool → ℕ → ℕ → ℕ → List (List ℕ) → Line
-issueRest true m s i = number most32 (λ r. end (Line.Insert m s i r))
-issueRest false m s i = end (Line.Find m s i)
+abbrev issue_rest : Bool → ℕ → ℕ → ℕ → List (List ℕ) → Line
+issue_rest true m s i = number most32 (λ r. end (Line.Insert m s i r))
+issue_rest false m s i = end (Line.Find m s i)
 
-issue-behind : (insert : Bool) (m s i : ℕ) (bs : List ℕ) → told (afterIssue insert m s i) bs ≡ issueRest insert m s i (words bs)
-unfolding afterIssue
-issue-behind true m s i bs = record-told m s i false 0 bs ∙ rested-number most32 (λ r. end (Line.Insert m s i r)) (words bs)
+issue-behind : (insert : Bool) (m s i : ℕ) (bs : List ℕ) → told (after_issue insert m s i) bs ≡ issue_rest insert m s i (words bs)
+unfolding after_issue
+issue-behind true m s i bs = record_told m s i false 0 bs ∙ rested_number most32 (λ r. end (Line.Insert m s i r)) (words bs)
 issue-behind false m s i bs = told-other bs ∙ sym (end-words (Line.Find m s i) bs)
 
-issue-told : (insert : Bool) (m s : ℕ) (begun : Bool) (v : ℕ) (bs : List ℕ) → told (Issue insert m s begun v) bs ≡ rested begun most16 v (issueRest insert m s) (words bs)
-unfolding fedOf lineIn ended words rested numberFrom picked onward end number
+issue-told : (insert : Bool) (m s : ℕ) (begun : Bool) (v : ℕ) (bs : List ℕ) → told (Issue insert m s begun v) bs ≡ rested begun most16 v (issue_rest insert m s) (words bs)
+unfolding fed_of line_in ended words rested number_from picked onward end number
 issue-told true m s true v [] = refl
 issue-told true m s false v [] = refl
 issue-told false m s true v [] = refl
 issue-told false m s false v [] = refl
 issue-told insert m s begun v (b ∷ bs) =
-    number-told most16 (Issue insert m s true) (afterIssue insert m s) (issueRest insert m s) bs
+    number-told most16 (Issue insert m s true) (after_issue insert m s) (issue_rest insert m s) bs
     (λ u. issue-told insert m s true u bs)
     (λ i. issue-behind insert m s i bs)
     begun v b
 
-abbrev serialRest : Bool → ℕ → ℕ → List (List ℕ) → Line
-serialRest insert m s = number most16 (issueRest insert m s)
+abbrev serial_rest : Bool → ℕ → ℕ → List (List ℕ) → Line
+serial_rest insert m s = number most16 (issue_rest insert m s)
 
-serial-told : (insert : Bool) (m : ℕ) (begun : Bool) (v : ℕ) (bs : List ℕ) → told (Serial insert m begun v) bs ≡ rested begun most32 v (serialRest insert m) (words bs)
-unfolding fedOf lineIn words rested numberFrom picked onward number
+serial-told : (insert : Bool) (m : ℕ) (begun : Bool) (v : ℕ) (bs : List ℕ) → told (Serial insert m begun v) bs ≡ rested begun most32 v (serial_rest insert m) (words bs)
+unfolding fed_of line_in words rested number_from picked onward number
 serial-told insert m true v [] = refl
 serial-told insert m false v [] = refl
 serial-told insert m begun v (b ∷ bs) =
-    number-told most32 (Serial insert m true) (λ s. Issue insert m s false 0) (serialRest insert m) bs
+    number-told most32 (Serial insert m true) (λ s. Issue insert m s false 0) (serial_rest insert m) bs
     (λ u. serial-told insert m true u bs)
-    (λ s. issue-told insert m s false 0 bs ∙ rested-number most16 (issueRest insert m s) (words bs))
+    (λ s. issue-told insert m s false 0 bs ∙ rested_number most16 (issue_rest insert m s) (words bs))
     begun v b
 
-abbrev modelRest : Bool → ℕ → List (List ℕ) → Line
-modelRest insert m = number most32 (serialRest insert m)
+abbrev model_rest : Bool → ℕ → List (List ℕ) → Line
+model_rest insert m = number most32 (serial_rest insert m)
 
-model-told : (insert begun : Bool) (v : ℕ) (bs : List ℕ) → told (Model insert begun v) bs ≡ rested begun most16 v (modelRest insert) (words bs)
-unfolding fedOf lineIn words rested numberFrom picked onward number
+model-told : (insert begun : Bool) (v : ℕ) (bs : List ℕ) → told (Model insert begun v) bs ≡ rested begun most16 v (model_rest insert) (words bs)
+unfolding fed_of line_in words rested number_from picked onward number
 model-told insert true v [] = refl
 model-told insert false v [] = refl
 model-told insert begun v (b ∷ bs) =
-    number-told most16 (Model insert true) (λ m. Serial insert m false 0) (modelRest insert) bs
+    number-told most16 (Model insert true) (λ m. Serial insert m false 0) (model_rest insert) bs
     (λ u. model-told insert true u bs)
-    (λ m. serial-told insert m false 0 bs ∙ rested-number most32 (serialRest insert m) (words bs))
+    (λ m. serial-told insert m false 0 bs ∙ rested_number most32 (serial_rest insert m) (words bs))
     begun v b
 
 -- ── The pages of a crash ────────────────────────────────────────────────────────────────────────────────────────
 
 -- what follows a page's number
-abbrev pageRest : Bool → Bool → Bool → Bool → Bool → ℕ → List (List ℕ) → Line
-pageRest p q r s t n = crashOf (p || eqb n 0) (q || eqb n 1) (r || eqb n 2) (s || eqb n 3) (t || eqb n 4)
+abbrev page_rest : Bool → Bool → Bool → Bool → Bool → ℕ → List (List ℕ) → Line
+page_rest p q r s t n = crash_of (p || eqb n 0) (q || eqb n 1) (r || eqb n 2) (s || eqb n 3) (t || eqb n 4)
 
-rested-crash : (p q r s t : Bool) (ws : List (List ℕ)) → some_word ws ≡ true → rested false lastPage 0 (pageRest p q r s t) ws ≡ crashOf p q r s t ws
-unfolding some_word rested crashOf
-rested-crash p q r s t [] h = cc
-rested-crash p q r s t (w ∷ ws) h = ap (onward (pageRest p q r s t) ws) (number-from lastPage w) ∙ onward-elim (pageRest p q r s t) ws (number_in lastPage w)
+rested_crash : (p q r s t : Bool) (ws : List (List ℕ)) → some_word ws ≡ true → rested false last_page 0 (page_rest p q r s t) ws ≡ crash_of p q r s t ws
+unfolding some_word rested crash_of
+rested_crash p q r s t [] h = cc
+rested_crash p q r s t (w ∷ ws) h = ap (onward (page_rest p q r s t) ws) (number-from last_page w) ∙ onward_elim (page_rest p q r s t) ws (number_in last_page w)
 
-page-told : (p q r s t begun : Bool) (v : ℕ) (bs : List ℕ) → told (Page p q r s t begun v) bs ≡ rested begun lastPage v (pageRest p q r s t) (words bs)
-unfolding fedOf lineIn ended words rested numberFrom picked onward crashOf
+page-told : (p q r s t begun : Bool) (v : ℕ) (bs : List ℕ) → told (Page p q r s t begun v) bs ≡ rested begun last_page v (page_rest p q r s t) (words bs)
+unfolding fed_of line_in ended words rested number_from picked onward crash_of
 page-told p q r s t true v [] = refl
 page-told p q r s t false v [] = refl
 page-told p q r s t begun v (b ∷ bs) =
-    number-told lastPage (Page p q r s t true) (pageNext p q r s t) (pageRest p q r s t) bs
+    number-told last_page (Page p q r s t true) (page_next p q r s t) (page_rest p q r s t) bs
     (λ u. page-told p q r s t true u bs)
     (λ n. page-told (p || eqb n 0) (q || eqb n 1) (r || eqb n 2) (s || eqb n 3) (t || eqb n 4) false 0 bs
-    ∙ rested-crash (p || eqb n 0) (q || eqb n 1) (r || eqb n 2) (s || eqb n 3) (t || eqb n 4) (words bs) (words-some bs))
+    ∙ rested_crash (p || eqb n 0) (q || eqb n 1) (r || eqb n 2) (s || eqb n 3) (t || eqb n 4) (words bs) (words-some bs))
     begun v b
 
 -- ── The letter ──────────────────────────────────────────────────────────────────────────────────────────────────
 
 -- what a letter makes of a new line, by the four tests
-abbrev fedBy : Bool → Bool → Bool → Bool → Reader
-fedBy i f s c =
+abbrev fed_by : Bool → Bool → Bool → Bool → Reader
+fed_by i f s c =
     elim i [
       | true ↦ Certificate true
       | false ↦ elim f [
@@ -162,25 +162,25 @@ fedBy i f s c =
     ]
 
 -- what it asks for with the words behind it
-abbrev askedBy : Bool → Bool → Bool → Bool → List (List ℕ) → Line
-askedBy i f s c ws =
+abbrev asked_by : Bool → Bool → Bool → Bool → List (List ℕ) → Line
+asked_by i f s c ws =
     elim i [
-      | true ↦ insertOf ws
+      | true ↦ insert_of ws
       | false ↦ elim f [
-        | true ↦ findOf ws
+        | true ↦ find_of ws
         | false ↦ elim s [
           | true ↦ end Line.Sync ws
-          | false ↦ elim c [ true ↦ crashOf false false false false false ws | false ↦ Line.Other ]
+          | false ↦ elim c [ true ↦ crash_of false false false false false ws | false ↦ Line.Other ]
         ]
       ]
     ]
 
 -- the letter is all
-letter-alone : (b : ℕ) → lineIn (letterFed b) ≡ letterOf b []
-unfolding letterFed letterOf lineIn insertOf findOf crashOf number end
-letter-alone b = go (eqb b letterI) (eqb b letterF) (eqb b letterS) (eqb b letterC)
+letter_alone : (b : ℕ) → line_in (letter_fed b) ≡ letter_of b []
+unfolding letter_fed letter_of line_in insert_of find_of crash_of number end
+letter_alone b = go (eqb b letter_i) (eqb b letter_f) (eqb b letter_s) (eqb b letter_c)
   where
-    go : (i f s c : Bool) → lineIn (fedBy i f s c) ≡ askedBy i f s c []
+    go : (i f s c : Bool) → line_in (fed_by i f s c) ≡ asked_by i f s c []
     go true f s c = refl
     go false true s c = refl
     go false false true c = refl
@@ -188,29 +188,29 @@ letter-alone b = go (eqb b letterI) (eqb b letterF) (eqb b letterS) (eqb b lette
     go false false false false = refl
 
 -- a space follows
-letter-fields : (b : ℕ) (bs : List ℕ) → told (letterFed b) (space ∷ bs) ≡ letterOf b (words bs)
-unfolding letterFed letterOf fedOf spaceFed insertOf findOf
-letter-fields b bs = go (eqb b letterI) (eqb b letterF) (eqb b letterS) (eqb b letterC)
+letter_fields : (b : ℕ) (bs : List ℕ) → told (letter_fed b) (space ∷ bs) ≡ letter_of b (words bs)
+unfolding letter_fed letter_of fed_of space_fed insert_of find_of
+letter_fields b bs = go (eqb b letter_i) (eqb b letter_f) (eqb b letter_s) (eqb b letter_c)
   where
-    go : (i f s c : Bool) → told (fedBy i f s c) (space ∷ bs) ≡ askedBy i f s c (words bs)
-    go true f s c = model-told true false 0 bs ∙ rested-number most16 (modelRest true) (words bs)
-    go false true s c = model-told false false 0 bs ∙ rested-number most16 (modelRest false) (words bs)
+    go : (i f s c : Bool) → told (fed_by i f s c) (space ∷ bs) ≡ asked_by i f s c (words bs)
+    go true f s c = model-told true false 0 bs ∙ rested_number most16 (model_rest true) (words bs)
+    go false true s c = model-told false false 0 bs ∙ rested_number most16 (model_rest false) (words bs)
     go false false true c = told-other bs ∙ sym (end-words Line.Sync bs)
     go false false false true =
         page-told false false false false false false 0 bs
-        ∙ rested-crash false false false false false (words bs) (words-some bs)
+        ∙ rested_crash false false false false false (words bs) (words-some bs)
     go false false false false = told-other bs
 
 -- another byte follows
-letter-more : (b a : ℕ) (bs : List ℕ) → eqb a space ≡ false → told (letterFed b) (a ∷ bs) ≡ Line.Other
-unfolding letterFed fedOf spaceFed
-letter-more b a bs n = go (eqb b letterI) (eqb b letterF) (eqb b letterS) (eqb b letterC)
+letter_more : (b a : ℕ) (bs : List ℕ) → eqb a space ≡ false → told (letter_fed b) (a ∷ bs) ≡ Line.Other
+unfolding letter_fed fed_of space_fed
+letter_more b a bs n = go (eqb b letter_i) (eqb b letter_f) (eqb b letter_s) (eqb b letter_c)
   where
-    go : (i f s c : Bool) → told (fedBy i f s c) (a ∷ bs) ≡ Line.Other
-    go true f s c = rw (n, spaceFed) (told-other bs)
-    go false true s c = rw (n, spaceFed) (told-other bs)
+    go : (i f s c : Bool) → told (fed_by i f s c) (a ∷ bs) ≡ Line.Other
+    go true f s c = rw (n, space_fed) (told-other bs)
+    go false true s c = rw (n, space_fed) (told-other bs)
     go false false true c = told-other bs
-    go false false false true = rw (n, spaceFed) (told-other bs)
+    go false false false true = rw (n, space_fed) (told-other bs)
     go false false false false = told-other bs
 
 -- a first word of two bytes or more
@@ -219,22 +219,22 @@ unfolding asked onto
 asked-long b a [] = refl
 asked-long b a (w ∷ ws) = refl
 
-letter-told : (b : ℕ) (bs : List ℕ) → told (letterFed b) bs ≡ asked (onto b (words bs))
+letter_told : (b : ℕ) (bs : List ℕ) → told (letter_fed b) bs ≡ asked (onto b (words bs))
 unfolding words onto asked
-letter-told b [] = letter-alone b
-letter-told b (a ∷ bs) = go (eqb a space) refl
+letter_told b [] = letter_alone b
+letter_told b (a ∷ bs) = go (eqb a space) refl
   where
-    go : (t : Bool) → eqb a space ≡ t → told (letterFed b) (a ∷ bs) ≡ asked (onto b (elim t [ true ↦ [] ∷ words bs | false ↦ onto a (words bs) ]))
-    go true e = rw (eqb-true a space e) (letter-fields b bs)
-    go false e = letter-more b a bs e ∙ sym (asked-long b a (words bs))
+    go : (t : Bool) → eqb a space ≡ t → told (letter_fed b) (a ∷ bs) ≡ asked (onto b (elim t [ true ↦ [] ∷ words bs | false ↦ onto a (words bs) ]))
+    go true e = rw (eqb-true a space e) (letter_fields b bs)
+    go false e = letter_more b a bs e ∙ sym (asked-long b a (words bs))
 
 -- ── The theorem ─────────────────────────────────────────────────────────────────────────────────────────────────
 
-pub reader-reads : (bs : List ℕ) → lineIn (foldl fedOf start_of bs) ≡ line_of bs
-unfolding fedOf lineIn line_of words asked letterFed
-reader-reads [] = refl
-reader-reads (b ∷ bs) = go (eqb b space) refl
+pub reader_reads : (bs : List ℕ) → line_in (foldl fed_of start_of bs) ≡ line_of bs
+unfolding fed_of line_in line_of words asked letter_fed
+reader_reads [] = refl
+reader_reads (b ∷ bs) = go (eqb b space) refl
   where
-    go : (t : Bool) → eqb b space ≡ t → told (letterFed b) bs ≡ asked (elim t [ true ↦ [] ∷ words bs | false ↦ onto b (words bs) ])
+    go : (t : Bool) → eqb b space ≡ t → told (letter_fed b) bs ≡ asked (elim t [ true ↦ [] ∷ words bs | false ↦ onto b (words bs) ])
     go true e = rw (eqb-true b space e) (told-other bs)
-    go false e = letter-told b bs
+    go false e = letter_told b bs

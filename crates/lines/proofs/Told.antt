@@ -12,12 +12,12 @@ use Rattle.lines.specs.declared.Line.{Line}
 use Rattle.lines.specs.declared.Grown.{Grown}
 use Rattle.lines.specs.declared.Reader.{Reader}
 use Rattle.lines.specs.declared.Reader.TheVariants.{Other}
-use Rattle.lines.specs.Line.{space, onto, words, isDigit, digits, grown, value}
-use Rattle.lines.specs.Reader.{grownOf, grownTo, numberFed, fedOf, lineIn}
+use Rattle.lines.specs.Line.{space, onto, words, is_digit, digits, grown, value}
+use Rattle.lines.specs.Reader.{grown_of, grown_to, number_fed, fed_of, line_in}
 
 -- what the reader tells at the end of the bytes
 abbrev pub told : Reader → List ℕ → Line
-told r bs = lineIn (foldl fedOf r bs)
+told r bs = line_in (foldl fed_of r bs)
 
 -- ── Numbers, as far as they are read ────────────────────────────────────────────────────────────────────────────
 
@@ -26,9 +26,9 @@ picked true v = some v
 picked false v = none
 
 -- what a word makes of a number v that has begun or not
-unfoldable pub numberFrom : Bool → ℕ → ℕ → List ℕ → Option ℕ
-numberFrom begun limit v [] = picked begun v
-numberFrom begun limit v (b ∷ bs) = picked (digits (b ∷ bs) && leb (value v (b ∷ bs)) limit) (value v (b ∷ bs))
+unfoldable pub number_from : Bool → ℕ → ℕ → List ℕ → Option ℕ
+number_from begun limit v [] = picked begun v
+number_from begun limit v (b ∷ bs) = picked (digits (b ∷ bs) && leb (value v (b ∷ bs)) limit) (value v (b ∷ bs))
 
 unfoldable pub onward : (ℕ → List (List ℕ) → Line) → List (List ℕ) → Option ℕ → Line
 onward rest ws none = Line.Other
@@ -36,7 +36,7 @@ onward rest ws (some v) = rest v ws
 
 unfoldable pub rested : Bool → ℕ → ℕ → (ℕ → List (List ℕ) → Line) → List (List ℕ) → Line
 rested begun limit v rest [] = Line.Other
-rested begun limit v rest (w ∷ ws) = onward rest ws (numberFrom begun limit v w)
+rested begun limit v rest (w ∷ ws) = onward rest ws (number_from begun limit v w)
 
 value_grows : (v : ℕ) (w : List ℕ) → v ≤ value v w
 unfolding value
@@ -48,39 +48,39 @@ value-over : (limit v : ℕ) (w : List ℕ) → limit < v → leb (value v w) li
 value-over limit v w h = lt-leb (value v w) limit (omega (arith, value_grows v w))
 
 -- a digit more
-number-digit : (begun : Bool) (limit v b : ℕ) (w : List ℕ) → isDigit b ≡ true → grown v b ≤ limit → numberFrom begun limit v (b ∷ w) ≡ numberFrom true limit (grown v b) w
-unfolding numberFrom digits value
-number-digit begun limit v b [] d h = rw (d, numberFrom, le-leb (grown v b) limit h, numberFrom)
-number-digit begun limit v b (a ∷ w) d h = rw (d, numberFrom)
+number-digit : (begun : Bool) (limit v b : ℕ) (w : List ℕ) → is_digit b ≡ true → grown v b ≤ limit → number_from begun limit v (b ∷ w) ≡ number_from true limit (grown v b) w
+unfolding number_from digits value
+number-digit begun limit v b [] d h = rw (d, number_from, le-leb (grown v b) limit h, number_from)
+number-digit begun limit v b (a ∷ w) d h = rw (d, number_from)
 
-number-over : (begun : Bool) (limit v b : ℕ) (w : List ℕ) → limit < grown v b → numberFrom begun limit v (b ∷ w) ≡ none
-unfolding numberFrom value picked
+number-over : (begun : Bool) (limit v b : ℕ) (w : List ℕ) → limit < grown v b → number_from begun limit v (b ∷ w) ≡ none
+unfolding number_from value picked
 number-over begun limit v b w h = go (digits (b ∷ w))
   where
     go : (d : Bool) → picked (d && leb (value (grown v b) w) limit) (value (grown v b) w) ≡ none
     go true = rw (value-over limit (grown v b) w h)
     go false = refl
 
-number-not : (begun : Bool) (limit v b : ℕ) (w : List ℕ) → isDigit b ≡ false → numberFrom begun limit v (b ∷ w) ≡ none
-unfolding numberFrom digits picked
-number-not begun limit v b w d = rw (d, numberFrom)
+number_not : (begun : Bool) (limit v b : ℕ) (w : List ℕ) → is_digit b ≡ false → number_from begun limit v (b ∷ w) ≡ none
+unfolding number_from digits picked
+number_not begun limit v b w d = rw (d, number_from)
 
 -- ── Where nothing more counts ───────────────────────────────────────────────────────────────────────────────────
 
 pub told-other : (bs : List ℕ) → told Other bs ≡ Line.Other
-unfolding fedOf lineIn
+unfolding fed_of line_in
 told-other [] = refl
 told-other (b ∷ bs) = told-other bs
 
 -- ── One byte of a number ────────────────────────────────────────────────────────────────────────────────────────
 
 -- what the line's rest makes of a word that goes on with b
-onto-none : (begun : Bool) (limit v b : ℕ) (rest : ℕ → List (List ℕ) → Line) (ws : List (List ℕ)) → ((w : List ℕ) → numberFrom begun limit v (b ∷ w) ≡ none) → rested begun limit v rest (onto b ws) ≡ Line.Other
+onto-none : (begun : Bool) (limit v b : ℕ) (rest : ℕ → List (List ℕ) → Line) (ws : List (List ℕ)) → ((w : List ℕ) → number_from begun limit v (b ∷ w) ≡ none) → rested begun limit v rest (onto b ws) ≡ Line.Other
 unfolding rested onto onward
 onto-none begun limit v b rest [] h = refl
 onto-none begun limit v b rest (w ∷ ws) h = rw (h w)
 
-onto-digit : (begun : Bool) (limit v b : ℕ) (rest : ℕ → List (List ℕ) → Line) (ws : List (List ℕ)) → isDigit b ≡ true → grown v b ≤ limit → rested begun limit v rest (onto b ws) ≡ rested true limit (grown v b) rest ws
+onto-digit : (begun : Bool) (limit v b : ℕ) (rest : ℕ → List (List ℕ) → Line) (ws : List (List ℕ)) → is_digit b ≡ true → grown v b ≤ limit → rested begun limit v rest (onto b ws) ≡ rested true limit (grown v b) rest ws
 unfolding rested onto
 onto-digit begun limit v b rest [] d h = refl
 onto-digit begun limit v b rest (w ∷ ws) d h = rw (number-digit begun limit v b w d h)
@@ -90,23 +90,23 @@ module _ (limit : ℕ) (here next : ℕ → Reader) (rest : ℕ → List (List �
     (on : (v : ℕ) → told (here v) bs ≡ rested true limit v rest (words bs))
     (behind : (v : ℕ) → told (next v) bs ≡ rest v (words bs)) where
   told-space : (begun : Bool) (v : ℕ) → told (elim begun [ true ↦ next v | false ↦ Other ]) bs ≡ rested begun limit v rest ([] ∷ words bs)
-  unfolding rested numberFrom picked onward
+  unfolding rested number_from picked onward
   told-space true v = behind v
   told-space false v = told-other bs
 
-  told-digit : (begun : Bool) (v b : ℕ) → told (grownTo here (grownOf limit v b)) bs ≡ rested begun limit v rest (onto b (words bs))
-  unfolding grownTo grownOf
-  told-digit begun v b = go (isDigit b) refl (leb (grown v b) limit) refl
+  told-digit : (begun : Bool) (v b : ℕ) → told (grown_to here (grown_of limit v b)) bs ≡ rested begun limit v rest (onto b (words bs))
+  unfolding grown_to grown_of
+  told-digit begun v b = go (is_digit b) refl (leb (grown v b) limit) refl
     where
-      go : (d : Bool) → isDigit b ≡ d → (t : Bool) → leb (grown v b) limit ≡ t → told (grownTo here (elim (d && t) [ true ↦ Grown.To (grown v b) | false ↦ Grown.Not ])) bs ≡ rested begun limit v rest (onto b (words bs))
+      go : (d : Bool) → is_digit b ≡ d → (t : Bool) → leb (grown v b) limit ≡ t → told (grown_to here (elim (d && t) [ true ↦ Grown.To (grown v b) | false ↦ Grown.Not ])) bs ≡ rested begun limit v rest (onto b (words bs))
       go true d true t = on (grown v b) ∙ sym (onto-digit begun limit v b rest (words bs) d (leb-true (grown v b) limit t))
       go true d false t = told-other bs ∙ sym (onto-none begun limit v b rest (words bs) (λ w. number-over begun limit v b w (leb-false (grown v b) limit t)))
-      go false d t e = told-other bs ∙ sym (onto-none begun limit v b rest (words bs) (λ w. number-not begun limit v b w d))
+      go false d t e = told-other bs ∙ sym (onto-none begun limit v b rest (words bs) (λ w. number_not begun limit v b w d))
 
-  pub number-told : (begun : Bool) (v b : ℕ) → told (numberFed limit here next begun v b) bs ≡ rested begun limit v rest (words (b ∷ bs))
-  unfolding numberFed words
+  pub number-told : (begun : Bool) (v b : ℕ) → told (number_fed limit here next begun v b) bs ≡ rested begun limit v rest (words (b ∷ bs))
+  unfolding number_fed words
   number-told begun v b = go (eqb b space)
     where
-      go : (t : Bool) → told (elim t [ true ↦ elim begun [ true ↦ next v | false ↦ Other ] | false ↦ grownTo here (grownOf limit v b) ]) bs ≡ rested begun limit v rest (elim t [ true ↦ [] ∷ words bs | false ↦ onto b (words bs) ])
+      go : (t : Bool) → told (elim t [ true ↦ elim begun [ true ↦ next v | false ↦ Other ] | false ↦ grown_to here (grown_of limit v b) ]) bs ≡ rested begun limit v rest (elim t [ true ↦ [] ∷ words bs | false ↦ onto b (words bs) ])
       go true = told-space begun v
       go false = told-digit begun v b

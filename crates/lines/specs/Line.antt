@@ -9,17 +9,17 @@ use Rattle.lines.specs.declared.Line.{Line}
 abbrev pub space : ℕ
 space = 32
 
-abbrev pub letterI : ℕ
-letterI = 105
+abbrev pub letter_i : ℕ
+letter_i = 105
 
-abbrev pub letterF : ℕ
-letterF = 102
+abbrev pub letter_f : ℕ
+letter_f = 102
 
-abbrev pub letterS : ℕ
-letterS = 115
+abbrev pub letter_s : ℕ
+letter_s = 115
 
-abbrev pub letterC : ℕ
-letterC = 99
+abbrev pub letter_c : ℕ
+letter_c = 99
 
 -- a model or an issue has 16 bits
 abbrev pub most16 : ℕ
@@ -30,8 +30,8 @@ abbrev pub most32 : ℕ
 most32 = 4294967295
 
 -- the bench's store has pages 0 to 4
-abbrev pub lastPage : ℕ
-lastPage = 4
+abbrev pub last_page : ℕ
+last_page = 4
 
 -- ── Words, parted by one space ──────────────────────────────────────────────────────────────────────────────────
 
@@ -46,12 +46,12 @@ words (b ∷ bs) = elim (eqb b space) [ true ↦ [] ∷ words bs | false ↦ ont
 
 -- ── Numbers ─────────────────────────────────────────────────────────────────────────────────────────────────────
 
-unfoldable pub isDigit : ℕ → Bool
-isDigit b = leb 48 b && leb b 57
+unfoldable pub is_digit : ℕ → Bool
+is_digit b = leb 48 b && leb b 57
 
 unfoldable pub digits : List ℕ → Bool
 digits [] = true
-digits (b ∷ bs) = isDigit b && digits bs
+digits (b ∷ bs) = is_digit b && digits bs
 
 -- a number with one digit more
 abbrev pub grown : ℕ → ℕ → ℕ
@@ -81,32 +81,32 @@ end line [] = line
 end line (w ∷ ws) = Line.Other
 
 -- i model serial issue record
-unfoldable pub insertOf : List (List ℕ) → Line
-insertOf =
+unfoldable pub insert_of : List (List ℕ) → Line
+insert_of =
     number most16 (λ m. number most32 (λ s. number most16 (λ i. number most32 (λ r. end (Line.Insert m s i r)))))
 
 -- f model serial issue
-unfoldable pub findOf : List (List ℕ) → Line
-findOf = number most16 (λ m. number most32 (λ s. number most16 (λ i. end (Line.Find m s i))))
+unfoldable pub find_of : List (List ℕ) → Line
+find_of = number most16 (λ m. number most32 (λ s. number most16 (λ i. end (Line.Find m s i))))
 
 -- c pages.., none or more, as a set
-unfoldable pub crashOf : Bool → Bool → Bool → Bool → Bool → List (List ℕ) → Line
-crashOf p q r s t [] = Line.Crash p q r s t
-crashOf p q r s t (w ∷ ws) =
-    elim (number_in lastPage w) [
+unfoldable pub crash_of : Bool → Bool → Bool → Bool → Bool → List (List ℕ) → Line
+crash_of p q r s t [] = Line.Crash p q r s t
+crash_of p q r s t (w ∷ ws) =
+    elim (number_in last_page w) [
       | none ↦ Line.Other
-      | some n ↦ crashOf (p || eqb n 0) (q || eqb n 1) (r || eqb n 2) (s || eqb n 3) (t || eqb n 4) ws
+      | some n ↦ crash_of (p || eqb n 0) (q || eqb n 1) (r || eqb n 2) (s || eqb n 3) (t || eqb n 4) ws
     ]
 
-unfoldable pub letterOf : ℕ → List (List ℕ) → Line
-letterOf b ws =
-    elim (eqb b letterI) [
-      | true ↦ insertOf ws
-      | false ↦ elim (eqb b letterF) [
-        | true ↦ findOf ws
-        | false ↦ elim (eqb b letterS) [
+unfoldable pub letter_of : ℕ → List (List ℕ) → Line
+letter_of b ws =
+    elim (eqb b letter_i) [
+      | true ↦ insert_of ws
+      | false ↦ elim (eqb b letter_f) [
+        | true ↦ find_of ws
+        | false ↦ elim (eqb b letter_s) [
           | true ↦ end Line.Sync ws
-          | false ↦ elim (eqb b letterC) [ true ↦ crashOf false false false false false ws | false ↦ Line.Other ]
+          | false ↦ elim (eqb b letter_c) [ true ↦ crash_of false false false false false ws | false ↦ Line.Other ]
         ]
       ]
     ]
@@ -115,7 +115,7 @@ letterOf b ws =
 unfoldable pub asked : List (List ℕ) → Line
 asked [] = Line.Other
 asked ([] ∷ ws) = Line.Other
-asked ((b ∷ []) ∷ ws) = letterOf b ws
+asked ((b ∷ []) ∷ ws) = letter_of b ws
 asked ((b ∷ a ∷ w) ∷ ws) = Line.Other
 
 unfoldable pub line_of : List ℕ → Line

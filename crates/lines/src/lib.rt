@@ -3,11 +3,11 @@
 // A line is read byte by byte and may be of any length: the reader keeps the numbers read so far and the place where
 // it is, nothing else. specs/Line.antt says what document 01 reads in a line, specs/Reader.antt what a byte makes of
 // a reader, and each contract is one equation with the latter. That both say the same of every line is the theorem
-// `reader-reads` of proofs/Reading.antt.
+// `reader_reads` of proofs/Reading.antt.
 //
 // Nothing stands below.
 ghost use Rattle.std.specs.Prelude.{◌≡◌};
-ghost use Rattle.lines.specs.Reader.{grownOf, afterIssue, letterFed, spaceFed, start_of, fedOf, lineIn};
+ghost use Rattle.lines.specs.Reader.{grown_of, after_issue, letter_fed, space_fed, start_of, fed_of, line_in};
 
 const SPACE: u8 = 32;
 
@@ -46,7 +46,7 @@ enum Grown {
 }
 
 fn grow(limit: u32, v: u32, b: u8) -> Grown
-    ensures { result ≡ grownOf limit v b }
+    ensures { result ≡ grown_of limit v b }
 {
     if b < 48 {
         return Grown::Not;
@@ -62,7 +62,7 @@ fn grow(limit: u32, v: u32, b: u8) -> Grown
 }
 
 fn feed_letter(b: u8) -> Reader
-    ensures { result ≡ letterFed b }
+    ensures { result ≡ letter_fed b }
 {
     match b {
         105 => Reader::Certificate(true),
@@ -74,7 +74,7 @@ fn feed_letter(b: u8) -> Reader
 }
 
 fn feed_model(insert: bool, begun: bool, v: u16, b: u8) -> Reader
-    ensures { result ≡ fedOf (Reader.Model insert begun v) b }
+    ensures { result ≡ fed_of (Reader.Model insert begun v) b }
 {
     if b == SPACE {
         if begun {
@@ -89,7 +89,7 @@ fn feed_model(insert: bool, begun: bool, v: u16, b: u8) -> Reader
 }
 
 fn feed_serial(insert: bool, model: u16, begun: bool, v: u32, b: u8) -> Reader
-    ensures { result ≡ fedOf (Reader.Serial insert model begun v) b }
+    ensures { result ≡ fed_of (Reader.Serial insert model begun v) b }
 {
     if b == SPACE {
         if begun {
@@ -104,7 +104,7 @@ fn feed_serial(insert: bool, model: u16, begun: bool, v: u32, b: u8) -> Reader
 }
 
 fn after_issue(insert: bool, model: u16, serial: u32, issue: u16) -> Reader
-    ensures { result ≡ afterIssue insert model serial issue }
+    ensures { result ≡ after_issue insert model serial issue }
 {
     if insert {
         return Reader::Record(model, serial, issue, false, 0);
@@ -113,7 +113,7 @@ fn after_issue(insert: bool, model: u16, serial: u32, issue: u16) -> Reader
 }
 
 fn feed_issue(insert: bool, model: u16, serial: u32, begun: bool, v: u16, b: u8) -> Reader
-    ensures { result ≡ fedOf (Reader.Issue insert model serial begun v) b }
+    ensures { result ≡ fed_of (Reader.Issue insert model serial begun v) b }
 {
     if b == SPACE {
         if begun {
@@ -128,7 +128,7 @@ fn feed_issue(insert: bool, model: u16, serial: u32, begun: bool, v: u16, b: u8)
 }
 
 fn feed_record(model: u16, serial: u32, issue: u16, begun: bool, v: u32, b: u8) -> Reader
-    ensures { result ≡ fedOf (Reader.Record model serial issue begun v) b }
+    ensures { result ≡ fed_of (Reader.Record model serial issue begun v) b }
 {
     if b == SPACE {
         return Reader::Other;
@@ -140,7 +140,7 @@ fn feed_record(model: u16, serial: u32, issue: u16, begun: bool, v: u32, b: u8) 
 }
 
 fn feed_page(p: bool, q: bool, r: bool, s: bool, t: bool, begun: bool, v: u8, b: u8) -> Reader
-    ensures { result ≡ fedOf (Reader.Page p q r s t begun v) b }
+    ensures { result ≡ fed_of (Reader.Page p q r s t begun v) b }
 {
     if b == SPACE {
         if begun {
@@ -163,7 +163,7 @@ fn feed_page(p: bool, q: bool, r: bool, s: bool, t: bool, begun: bool, v: u8, b:
 }
 
 fn feed_space(next: Reader, b: u8) -> Reader
-    ensures { result ≡ spaceFed next b }
+    ensures { result ≡ space_fed next b }
 {
     if b == SPACE {
         return next;
@@ -172,7 +172,7 @@ fn feed_space(next: Reader, b: u8) -> Reader
 }
 
 fn line_page(p: bool, q: bool, r: bool, s: bool, t: bool, begun: bool, v: u8) -> Line
-    ensures { result ≡ lineIn (Reader.Page p q r s t begun v) }
+    ensures { result ≡ line_in (Reader.Page p q r s t begun v) }
 {
     if begun {
         return Line::Crash(
@@ -187,7 +187,7 @@ fn line_page(p: bool, q: bool, r: bool, s: bool, t: bool, begun: bool, v: u8) ->
 }
 
 fn line_issue(insert: bool, model: u16, serial: u32, begun: bool, v: u16) -> Line
-    ensures { result ≡ lineIn (Reader.Issue insert model serial begun v) }
+    ensures { result ≡ line_in (Reader.Issue insert model serial begun v) }
 {
     if insert {
         return Line::Other;
@@ -199,7 +199,7 @@ fn line_issue(insert: bool, model: u16, serial: u32, begun: bool, v: u16) -> Lin
 }
 
 fn line_record(model: u16, serial: u32, issue: u16, begun: bool, v: u32) -> Line
-    ensures { result ≡ lineIn (Reader.Record model serial issue begun v) }
+    ensures { result ≡ line_in (Reader.Record model serial issue begun v) }
 {
     if begun {
         return Line::Insert(model, serial, issue, v);
@@ -215,7 +215,7 @@ impl Reader {
     }
 
     pub fn feed(self, b: u8) -> Self
-        ensures { result ≡ fedOf self b }
+        ensures { result ≡ fed_of self b }
     {
         match self {
             Reader::Start => feed_letter(b),
@@ -234,7 +234,7 @@ impl Reader {
     }
 
     pub fn line(self) -> Line
-        ensures { result ≡ lineIn self }
+        ensures { result ≡ line_in self }
     {
         match self {
             Reader::Issue(insert, m, s, begun, v) => line_issue(insert, m, s, begun, v),

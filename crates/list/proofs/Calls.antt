@@ -6,18 +6,18 @@ use Prim.Native.Nat.{ℕ, min}
 use native.Mathlib.Nat.{min-le_left, min-le_right}
 use native.Mathlib.Omega.{arith}
 use lib.ListN.{length}
-use Rattle.rules.specs.Layout.{lastKey}
+use Rattle.rules.specs.Layout.{last_key}
 use Rattle.rules.specs.Table.{fit0}
 use Rattle.rules.specs.Report.{Reported, nothing}
-use Rattle.rules.specs.Reports.{onceTested, listReported}
+use Rattle.rules.specs.Reports.{once_tested, list_reported}
 use Rattle.rules.specs.Walk.{walk_of}
-use Rattle.rules.specs.Call.{lengthsFor}
+use Rattle.rules.specs.Call.{lengths_for}
 use Rattle.rules.specs.List as rules
 use Rattle.rules.specs.declared.Session.{Session}
 use Rattle.rules.specs.declared.Listed.{Listed}
 use Rattle.rules.specs.declared.Asked.{Asked}
 use Rattle.rules.specs.declared.Report.{Report}
-use Rattle.rules.proofs.demand1.Tested.{tested-length, tested-zero, tested-done}
+use Rattle.rules.proofs.Demand1.Tested.{tested-length, tested-zero, tested-done}
 use Rattle.fill.specs.Fills.{Roomy}
 use Rattle.list.specs.Lists.{Told, telling, sought, told}
 use Rattle.list.specs.declared.Sought.{Sought}
@@ -49,25 +49,25 @@ module _ (w t : List ℕ) (s : Session) {n c : ℕ} (same-n : s.n ≡ n) (same-c
   along : Report
   along = (walk_of s.n s.c (rules.up_from start ks xs) w).report
 
-  hands : (x : Told) → left s t x ≡ rules.list w t s start ks xs → x.report ≡ onceTested s w t true along
-      → handed s t x ≡ listReported w t s start ks xs
-  unfolding listReported along
+  hands : (x : Told) → left s t x ≡ rules.list w t s start ks xs → x.report ≡ once_tested s w t true along
+      → handed s t x ≡ list_reported w t s start ks xs
+  unfolding list_reported along
   hands x p q = cc
 
-  pub bad-length : (y : Report) → y ≡ nothing → lengthsFor s w t ≡ false
-      → handed s t (telling w (sought Listed.Length y) ks xs) ≡ listReported w t s start ks xs
-  unfolding rules.list rules.listRefused
-  bad-length y q h =
+  pub bad_length_lem : (y : Report) → y ≡ nothing → lengths_for s w t ≡ false
+      → handed s t (telling w (sought Listed.Length y) ks xs) ≡ list_reported w t s start ks xs
+  unfolding rules.list rules.list_refused
+  bad_length_lem y q h =
       hands (telling w (sought Listed.Length y) ks xs) (rw (rules.list, h)) (q ∙ sym (tested-length s w t true along h))
 
-  module _ (h : lengthsFor s w t ≡ true) where
+  module _ (h : lengths_for s w t ≡ true) where
     fit0-same : {b : Bool} → fit0 n w ≡ b → fit0 s.n w ≡ b
     fit0-same z = ap (λ (m : ℕ). fit0 m w) same-n ∙ z
 
-    pub bad-zero : (y : Report) → y ≡ nothing → fit0 n w ≡ false
-        → handed s t (telling w (sought Listed.Damaged y) ks xs) ≡ listReported w t s start ks xs
-    unfolding rules.list rules.listRefused
-    bad-zero y q z' =
+    pub bad_zero : (y : Report) → y ≡ nothing → fit0 n w ≡ false
+        → handed s t (telling w (sought Listed.Damaged y) ks xs) ≡ list_reported w t s start ks xs
+    unfolding rules.list rules.list_refused
+    bad_zero y q z' =
         let z = fit0-same z' in
         hands (telling w (sought Listed.Damaged y) ks xs) (rw (rules.list, h, z)) (q ∙ sym (tested-zero s w t true along h refl z))
 
@@ -80,7 +80,7 @@ module _ (w t : List ℕ) (s : Session) {n c : ℕ} (same-n : s.n ≡ n) (same-c
       goes = rw (rules.list, h, z)
 
       walks : left s t (told ks xs (walk_of s.n s.c (rules.up_from start ks xs) w)) ≡ rules.list_from s w t start ks xs
-      unfolding rules.list_from rules.listRefused rules.listDone told
+      unfolding rules.list_from rules.list_refused rules.list_done told
       walks = go (walk_of s.n s.c (rules.up_from start ks xs) w).whole refl
         where
           go : (b : Bool) → (walk_of s.n s.c (rules.up_from start ks xs) w).whole ≡ b
@@ -88,7 +88,7 @@ module _ (w t : List ℕ) (s : Session) {n c : ℕ} (same-n : s.n ≡ n) (same-c
           go true q = rw (q, told, rules.list_from)
           go false q = rw (q, told, rules.list_from)
 
-      reports : (told ks xs (walk_of s.n s.c (rules.up_from start ks xs) w)).report ≡ onceTested s w t true along
+      reports : (told ks xs (walk_of s.n s.c (rules.up_from start ks xs) w)).report ≡ once_tested s w t true along
       unfolding told along
       reports = go (walk_of s.n s.c (rules.up_from start ks xs) w).whole refl ∙ sym (tested-done s w t true along h refl z)
         where
@@ -97,9 +97,9 @@ module _ (w t : List ℕ) (s : Session) {n c : ℕ} (same-n : s.n ≡ n) (same-c
           go true q = rw (q, told)
           go false q = rw (q, told)
 
-      pub answers : (a : Asked) → a ≡ record { low = start; high = lastKey; room = min (length ks) (length xs) }
+      pub answers : (a : Asked) → a ≡ record { low = start; high = last_key; room = min (length ks) (length xs) }
           → (u : List ℕ) (r : Sought) (us vs : List ℕ) → telling u r us vs ≡ told ks xs (walk_of n c a w)
-          → handed s t (telling u r us vs) ≡ listReported w t s start ks xs
+          → handed s t (telling u r us vs) ≡ list_reported w t s start ks xs
       unfolding rules.up_from
       answers a g u r us vs f =
           let same : told ks xs (walk_of n c a w) ≡ told ks xs (walk_of s.n s.c a w) = sym (λ i. told ks xs (walk_of (same-n i) (same-c i) a w)) in

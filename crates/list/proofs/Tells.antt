@@ -7,20 +7,20 @@ use native.Mathlib.Nat.{min-eq_left, min-eq_right}
 use native.Mathlib.Omega.{arith}
 use lib.ListN.{length}
 use Rattle.fields.specs.Field.{Bytes}
-use Rattle.rules.specs.Layout.{pageSize, mostPages, lastKey}
+use Rattle.rules.specs.Layout.{page_size, most_pages, last_key}
 use Rattle.rules.specs.Entry.{Cert, keys}
 use Rattle.rules.specs.Page.{over}
 use Rattle.rules.specs.Table.{fit0}
 use Rattle.rules.specs.Report.{Reported, nothing}
 use Rattle.rules.specs.Walk.{Walked, walk_of}
-use Rattle.rules.specs.List.{recordsOf}
+use Rattle.rules.specs.List.{records_of}
 use Rattle.rules.specs.declared.Asked.{Asked}
 use Rattle.rules.specs.declared.Listed.{Listed}
 use Rattle.rules.specs.declared.Report.{Report}
-use Rattle.dry.specs.Walk.{noneMarked, dryOver, dryOf}
+use Rattle.dry.specs.Walk.{none_marked, dry_over, dry_of}
 use Rattle.dry.specs.declared.Dry.{Dry}
 use Rattle.dry.proofs.Answers.{told-whole, told-still, dry-whole, dry-found, dry-still, dry-quiet}
-use Rattle.fill.specs.Fills.{Lists, listing, lists_of, Fill, filling, filledIn, mending, mendedIn, Calm}
+use Rattle.fill.specs.Fills.{Lists, listing, lists_of, Fill, filling, filled_in, mending, mended_in, Calm}
 use Rattle.fill.specs.declared.Filled.{Filled}
 use Rattle.list.specs.Lists.{telling, sought, told}
 
@@ -32,23 +32,23 @@ same-walk p q r s = cc
 
 module _ (start keys records : ℕ) where
   abbrev up_to : ℕ → Asked
-  up_to room = record { low = start; high = lastKey; room = room }
+  up_to room = record { low = start; high = last_key; room = room }
 
-  pub keys-shorter : keys < records → up_to keys ≡ up_to (min keys records)
-  keys-shorter h = let l : keys ≤ records = omega arith in ap up_to (sym (min-eq_left l))
+  pub keys_shorter : keys < records → up_to keys ≡ up_to (min keys records)
+  keys_shorter h = let l : keys ≤ records = omega arith in ap up_to (sym (min-eq_left l))
 
-  pub records-shorter : records ≤ keys → up_to records ≡ up_to (min keys records)
-  records-shorter h = ap up_to (sym (min-eq_right h))
+  pub records_shorter : records ≤ keys → up_to records ≡ up_to (min keys records)
+  records_shorter h = ap up_to (sym (min-eq_right h))
 
 -- ── The walks ───────────────────────────────────────────────────────────────────────────────────────────────────
 
-module _ (n : ℕ) (a : Asked) (t : List ℕ) (fit : fit0 n t ≡ true) (long : length t ≡ n * pageSize) (most : n ≤ mostPages) (d : Dry) (e : d ≡ dryOf n a t) where
+module _ (n : ℕ) (a : Asked) (t : List ℕ) (fit : fit0 n t ≡ true) (long : length t ≡ n * page_size) (most : n ≤ most_pages) (d : Dry) (e : d ≡ dry_of n a t) where
   -- the dry walk is whole exactly where the walk is
-  pub known-ahead : (c : ℕ) → Bytes t → c < 256 ^ 4 → d.whole ≡ (walk_of n c a t).whole
-  known-ahead c bytes narrow = ap (λ (x : Dry). x.whole) e ∙ dry-whole n t fit long c a most bytes narrow
+  pub known_ahead : (c : ℕ) → Bytes t → c < 256 ^ 4 → d.whole ≡ (walk_of n c a t).whole
+  known_ahead c bytes narrow = ap (λ (x : Dry). x.whole) e ∙ dry-whole n t fit long c a most bytes narrow
 
   -- and where it would mend nothing, the table stays and every place ahead fits
-  module _ (h : d.whole ≡ true) (k : noneMarked d.mended ≡ true) where
+  module _ (h : d.whole ≡ true) (k : none_marked d.mended ≡ true) where
     pub calm-ahead : Calm n a t
     calm-ahead = record {
       long = long;
@@ -59,32 +59,32 @@ module _ (n : ℕ) (a : Asked) (t : List ℕ) (fit : fit0 n t ≡ true) (long : 
     }
 
     module _ (c : ℕ) (bytes : Bytes t) (narrow : c < 256 ^ 4) (ks xs : List ℕ) where
-      calm_walk : walk_of n c a t ≡ record { table = t; whole = true; found = (dryOver n a t).found; report = nothing }
+      calm_walk : walk_of n c a t ≡ record { table = t; whole = true; found = (dry_over n a t).found; report = nothing }
       calm_walk =
-          same-walk (dry-still n t fit long c a most bytes narrow (told-still n a t d e k)) (sym (known-ahead c bytes narrow) ∙ h)
+          same-walk (dry-still n t fit long c a most bytes narrow (told-still n a t d e k)) (sym (known_ahead c bytes narrow) ∙ h)
           (sym (dry-found n t fit long c a most bytes narrow))
           (dry-quiet n t fit long c a most bytes narrow (told-still n a t d e k))
 
-      pub tell-calm : (r : ℕ) (us vs : List ℕ) → listing r us vs ≡ lists_of ks xs (dryOver n a t).found → (y : Report) → y ≡ nothing
+      pub tell_calm : (r : ℕ) (us vs : List ℕ) → listing r us vs ≡ lists_of ks xs (dry_over n a t).found → (y : Report) → y ≡ nothing
           → telling t (sought (Listed.Filled r) y) us vs ≡ told ks xs (walk_of n c a t)
       unfolding told lists_of
-      tell-calm r us vs q y z =
+      tell_calm r us vs q y z =
           ap (λ (x : Lists). telling t (sought (Listed.Filled x.filled) y) x.keys x.records) q
-          ∙ (ap (λ (x : Report). telling t (sought (Listed.Filled (length (dryOver n a t).found)) x) (over (keys (dryOver n a t).found) ks) (over (recordsOf (dryOver n a t).found) xs)) z
+          ∙ (ap (λ (x : Report). telling t (sought (Listed.Filled (length (dry_over n a t).found)) x) (over (keys (dry_over n a t).found) ks) (over (records_of (dry_over n a t).found) xs)) z
           ∙ ap (told ks xs) (sym calm_walk))
 
 module _ (ks xs : List ℕ) (w : Walked) where
   -- where damage lies ahead, the walk that only mends leaves the lists alone
-  pub tell-damaged : w.whole ≡ false → (u : List ℕ) (y : Report) → mending u y ≡ mendedIn w
+  pub tell_damaged : w.whole ≡ false → (u : List ℕ) (y : Report) → mending u y ≡ mended_in w
       → telling u (sought Listed.Damaged y) ks xs ≡ told ks xs w
   unfolding told
-  tell-damaged h u y q =
+  tell_damaged h u y q =
       rw (told, h) (ap (λ (x : Reported (List ℕ)). telling x.left (sought Listed.Damaged x.report) ks xs) q)
 
   -- where none does, the filling walk has filled them
-  pub tell-filled : w.whole ≡ true → (u : List ℕ) (r : Filled) (us vs : List ℕ) → filling u r us vs ≡ filledIn ks xs w
+  pub tell_filled : w.whole ≡ true → (u : List ℕ) (r : Filled) (us vs : List ℕ) → filling u r us vs ≡ filled_in ks xs w
       → telling u (sought (Listed.Filled r.count) r.report) us vs ≡ told ks xs w
-  unfolding told filledIn lists_of
-  tell-filled h u r us vs q =
+  unfolding told filled_in lists_of
+  tell_filled h u r us vs q =
       rw (told, h)
       (ap (λ (x : Fill). telling x.table (sought (Listed.Filled x.lists.filled) x.report) x.lists.keys x.lists.records) q)

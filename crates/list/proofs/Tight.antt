@@ -6,15 +6,15 @@ use Rattle.rules.specs.declared.Session.{Session}
 use Rattle.tight.specs.Tight.{Tight}
 use Rattle.list.proofs as this
 
-pub list-tight : Tight this.list.Kinds.ps this.list.Kinds.r this.list.Reads.Pre this.list.Reads.Post
-list-tight κs a pre z z' l l' p q =
+pub list_tight : Tight this.list.Kinds.ps this.list.Kinds.r this.list.Reads.Pre this.list.Reads.Post
+list_tight κs a pre z z' l l' p q =
     let e = p ∙ sym q in (
       (λ i. record { answer = (e i).left.answer; report = (e i).report; session = (e i).left.session }),
       (λ i. ((e i).left.working, (tt, (tt, (tt, ((e i).left.keys, ((e i).left.records, tt))))))),
     )
 
-pub lean-tight : Tight this.lean.Kinds.ps this.lean.Kinds.r this.lean.Reads.Pre this.lean.Reads.Post
-lean-tight κs a pre z z' l l' p q =
+pub lean_tight : Tight this.lean.Kinds.ps this.lean.Kinds.r this.lean.Reads.Pre this.lean.Reads.Post
+lean_tight κs a pre z z' l l' p q =
     let s : Session = begun a.1.1.0 a.1.1.1.0 0 [] [] in
     let e = p s refl refl ∙ sym (q s refl refl) in
     let rest = l.1.1.1.1.1.1.1 in (

@@ -4,7 +4,7 @@ use Rattle.rules.specs.Entry.{keys}
 use Rattle.rules.specs.Page.{over}
 use Rattle.rules.specs.Report.{Reported}
 use Rattle.rules.specs.Walk.{Walked}
-use Rattle.rules.specs.List.{ListLeft, recordsOf}
+use Rattle.rules.specs.List.{ListLeft, records_of}
 use Rattle.rules.specs.declared.Session.{Session}
 use Rattle.rules.specs.declared.Listed.{Listed}
 use Rattle.rules.specs.declared.Listing.{Listing}
@@ -48,5 +48,5 @@ unfoldable pub told : List ℕ → List ℕ → Walked → Told
 told ks xs w =
     elim w.whole [
       | false ↦ telling w.table (sought Listed.Damaged w.report) ks xs
-      | true ↦ telling w.table (sought (Listed.Filled (length w.found)) w.report) (over (keys w.found) ks) (over (recordsOf w.found) xs)
+      | true ↦ telling w.table (sought (Listed.Filled (length w.found)) w.report) (over (keys w.found) ks) (over (records_of w.found) xs)
     ]

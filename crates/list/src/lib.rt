@@ -11,10 +11,10 @@
 //
 // Below stand `tables`, which tests lengths, `dry`, the dry walk, and `fill`, which fills and mends.
 ghost use Rattle.std.specs.Prelude.{◌≡◌, true, min, ◌*◌, ◌≤◌, length};
-ghost use Rattle.rules.specs.Layout.{pageSize, mostPages, lastKey};
+ghost use Rattle.rules.specs.Layout.{page_size, most_pages, last_key};
 ghost use Rattle.rules.specs.Table.{fit0};
 ghost use Rattle.rules.specs.Walk.{walk_of};
-ghost use Rattle.rules.specs.Reports.{listReported};
+ghost use Rattle.rules.specs.Reports.{list_reported};
 ghost use Rattle.rules.specs.declared.Session.{Session};
 ghost use Rattle.fill.specs.Fills.{Roomy};
 ghost use Rattle.list.specs.Lists.{beside, leaving, telling, told};
@@ -30,7 +30,7 @@ pub struct Sought {
 
 // The asked range: from the start upwards, while the shorter list has room.
 fn up_from(start: u64, keys: usize, records: usize) -> Asked
-    ensures { result ≡ record { low = start; high = lastKey; room = min keys records } }
+    ensures { result ≡ record { low = start; high = last_key; room = min keys records } }
 {
     if keys < records {
         return Asked {
@@ -48,7 +48,7 @@ fn up_from(start: u64, keys: usize, records: usize) -> Asked
 
 // The certificates of a range. What lies ahead is known before a byte is written.
 fn look(t: &mut [u8], n: usize, c: u32, a: Asked, keys: &mut [u64], records: &mut [u32]) -> Sought
-    requires { (length t.old ≡ n * pageSize) × (n ≤ mostPages) × (fit0 n t.old ≡ true) × (a.low ≤ a.high) × (a.high ≤ lastKey)
+    requires { (length t.old ≡ n * page_size) × (n ≤ most_pages) × (fit0 n t.old ≡ true) × (a.low ≤ a.high) × (a.high ≤ last_key)
         × Roomy a keys.old records.old }
     ensures { telling t.new result keys.new records.new
         ≡ told keys.old records.old (walk_of n c a t.old) }
@@ -88,7 +88,7 @@ pub fn lean(
 ) -> Sought
     ensures { (s : Session) → s.n ≡ n → s.c ≡ c
         → leaving (beside s result) working.new stable.now keys.new records.new
-        ≡ listReported working.old stable.now s start keys.old records.old }
+        ≡ list_reported working.old stable.now s start keys.old records.old }
 {
     if !tables::lengths_for(n, working, stable) {
         return Sought {
@@ -116,7 +116,7 @@ pub fn list(
     records: &mut [u32],
 ) -> Listing
     ensures { leaving result working.new stable.now keys.new records.new
-        ≡ listReported working.old stable.now session start keys.old records.old }
+        ≡ list_reported working.old stable.now session start keys.old records.old }
 {
     let sought = lean(working, stable, session.n, session.c, start, keys, records);
     let answer = sought.answer;

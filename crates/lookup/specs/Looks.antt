@@ -4,11 +4,11 @@ use Rattle.std.proofs.Math.Option.{Option, some, none}
 use Rattle.rules.specs.Walk.{Step, Way}
 use Rattle.rules.specs.Report.{Reported}
 use Rattle.rules.specs.Call.{Left}
-use Rattle.rules.specs.Lookup.{foundIn}
+use Rattle.rules.specs.Lookup.{found_in}
 use Rattle.rules.specs.declared.Session.{Session}
 use Rattle.rules.specs.declared.Looked.{Looked}
 use Rattle.rules.specs.declared.Looking.{Looking}
-use Rattle.head.specs.Head.{certAt}
+use Rattle.head.specs.Head.{cert_at}
 use Rattle.lookup.specs.declared.Sought.{Sought}
 
 -- with a session beside it
@@ -23,14 +23,14 @@ leaving r w t = record {
 }
 
 -- what was found in a leaf
-unfoldable pub lookedIn : Option ℕ → Looked
-lookedIn none = Looked.Missing
-lookedIn (some x) = Looked.Found x
+unfoldable pub looked_in : Option ℕ → Looked
+looked_in none = Looked.Missing
+looked_in (some x) = Looked.Found x
 
 -- what the entry before a spot of a leaf holds under a key
-unfoldable pub foundBefore : ℕ → ℕ → List ℕ → Looked
-foundBefore k zero b = Looked.Missing
-foundBefore k (suc j) b = elim (eqb (certAt b j).key k) [ true ↦ Looked.Found (certAt b j).value | false ↦ Looked.Missing ]
+unfoldable pub found_before : ℕ → ℕ → List ℕ → Looked
+found_before k zero b = Looked.Missing
+found_before k (suc j) b = elim (eqb (cert_at b j).key k) [ true ↦ Looked.Found (cert_at b j).value | false ↦ Looked.Missing ]
 
 -- the table left and the answer, before the session is handed back
 pub record Look : Type 0 where
@@ -44,9 +44,9 @@ looked t r = record { table = t; answer = r }
 abbrev pub looking : List ℕ → Sought → Reported Look
 looking t r = record { left = looked t r.answer; report = r.report }
 
-unfoldable pub answerOn : ℕ → Option (List Step) → Looked
-answerOn k none = Looked.Damaged
-answerOn k (some steps) = foundIn k steps
+unfoldable pub answer_on : ℕ → Option (List Step) → Looked
+answer_on k none = Looked.Damaged
+answer_on k (some steps) = found_in k steps
 
-unfoldable pub lookedAlong : ℕ → Way → Look
-lookedAlong k w = record { table = w.table; answer = answerOn k w.steps }
+unfoldable pub looked_along : ℕ → Way → Look
+looked_along k w = record { table = w.table; answer = answer_on k w.steps }

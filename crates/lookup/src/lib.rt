@@ -1,7 +1,7 @@
 // Lookup: the record of a certificate.
 //
 // `lookup` asks nothing and tests everything, in document 01's order: lengths, the key's parts, page 0, then the way of
-// the key. Answer, report, session and every byte lent are those of the rules' `lookupReported`; what the walk mended
+// the key. Answer, report, session and every byte lent are those of the rules' `lookup_reported`; what the walk mended
 // stays mended, also behind a refusal. The record is that of an entry with the whole key: where the last key not above
 // it is another one, the certificate is missing.
 //
@@ -13,25 +13,25 @@
 //
 // Below stand `tables`, which tests lengths, `keys`, `way`, which walks, and `seek`, which finds a key on a page.
 ghost use Rattle.std.specs.Prelude.{◌≡◌, true, ◌+◌, ◌*◌, ◌≤◌, length, drop};
-ghost use Rattle.rules.specs.Layout.{pageSize, leafHeader, certSize, leafRoom};
+ghost use Rattle.rules.specs.Layout.{page_size, leaf_header, cert_size, leaf_room};
 ghost use Rattle.rules.specs.Entry.{keys, find, rising};
-ghost use Rattle.rules.specs.Page.{readEach, certIn};
-ghost use Rattle.rules.specs.Table.{pageAt, read, fit0};
+ghost use Rattle.rules.specs.Page.{read_each, cert_in};
+ghost use Rattle.rules.specs.Table.{page_at, read, fit0};
 ghost use Rattle.rules.specs.Report.{nothing};
-ghost use Rattle.rules.specs.Walk.{way_of, wayReport};
-ghost use Rattle.rules.specs.Reports.{lookupReported};
+ghost use Rattle.rules.specs.Walk.{way_of, way_report};
+ghost use Rattle.rules.specs.Reports.{lookup_reported};
 ghost use Rattle.rules.specs.declared.Session.{Session};
 ghost use Rattle.head.proofs.Headers.{head_of};
 ghost use Rattle.way.specs.Ways.{Holds, reported};
-ghost use Rattle.lookup.specs.Looks.{foundBefore, lookedIn, beside, leaving, looking, lookedAlong};
+ghost use Rattle.lookup.specs.Looks.{found_before, looked_in, beside, leaving, looking, looked_along};
 
 use rules::{Looked, Looking, PAGE, Report, Session};
 use way::Step;
 
 // What stands under a key in a leaf, by the key's spot: the entry before it has the key, or none has.
 fn find_in(page: &[u8], spot: usize, key: u64) -> Looked
-    requires { leafHeader + certSize * spot ≤ length page.now }
-    ensures { result ≡ foundBefore key spot page.now }
+    requires { leaf_header + cert_size * spot ≤ length page.now }
+    ensures { result ≡ found_before key spot page.now }
 {
     if spot == 0 {
         return Looked::Missing;
@@ -44,8 +44,8 @@ fn find_in(page: &[u8], spot: usize, key: u64) -> Looked
 
 // The same on page i of a table.
 pub fn find_on(table: &[u8], i: u16, spot: usize, key: u64) -> Looked
-    requires { ((i + 1) * pageSize ≤ length table.now) × (spot ≤ leafRoom) }
-    ensures { result ≡ foundBefore key spot (pageAt table.now i) }
+    requires { ((i + 1) * page_size ≤ length table.now) × (spot ≤ leaf_room) }
+    ensures { result ≡ found_before key spot (page_at table.now i) }
 {
     let from = i as usize * PAGE;
     let to = from + PAGE;
@@ -54,9 +54,9 @@ pub fn find_on(table: &[u8], i: u16, spot: usize, key: u64) -> Looked
 
 // What stands under a key in a leaf whose keys rise.
 fn seek_in(page: &[u8], count: usize, key: u64) -> Looked
-    requires { (leafHeader + certSize * count ≤ length page.now) × (length page.now ≤ pageSize)
-        × (rising (keys (readEach certIn certSize count (drop leafHeader page.now))) ≡ true) }
-    ensures { result ≡ lookedIn (find key (readEach certIn certSize count (drop leafHeader page.now))) }
+    requires { (leaf_header + cert_size * count ≤ length page.now) × (length page.now ≤ page_size)
+        × (rising (keys (read_each cert_in cert_size count (drop leaf_header page.now))) ≡ true) }
+    ensures { result ≡ looked_in (find key (read_each cert_in cert_size count (drop leaf_header page.now))) }
 {
     let spot = seek::seek(page, rules::LEAF_HEADER, rules::CERT, count, key);
     find_in(page, spot, key)
@@ -64,9 +64,9 @@ fn seek_in(page: &[u8], count: usize, key: u64) -> Looked
 
 // The same in the leaf at the end of a way.
 pub fn find_at(table: &[u8], leaf: Step, key: u64) -> Looked
-    requires { ((leaf.place.child + 1) * pageSize ≤ length table.now)
+    requires { ((leaf.place.child + 1) * page_size ≤ length table.now)
         × (leaf.head ≡ head_of (read table.now leaf.place.child)) × (Holds (read table.now leaf.place.child).view) }
-    ensures { result ≡ lookedIn (find key (read table.now leaf.place.child).view.certs) }
+    ensures { result ≡ looked_in (find key (read table.now leaf.place.child).view.certs) }
 {
     let from = leaf.place.child as usize * PAGE;
     let to = from + PAGE;
@@ -82,9 +82,9 @@ pub struct Sought {
 
 // A key looked for along its way.
 fn look(t: &mut [u8], n: usize, c: u32, key: u64) -> Sought
-    requires { (length t.old ≡ n * pageSize) × (fit0 n t.old ≡ true) }
+    requires { (length t.old ≡ n * page_size) × (fit0 n t.old ≡ true) }
     ensures { looking t.new result
-        ≡ reported (lookedAlong key (way_of n c key t.old)) (wayReport n c key t.old nothing) }
+        ≡ reported (looked_along key (way_of n c key t.old)) (way_report n c key t.old nothing) }
 {
     let ended = way::leaf_of(t, n, c, key);
     let report = ended.report;
@@ -111,7 +111,7 @@ pub fn lean(
     issue: u16,
 ) -> Sought
     ensures { (s : Session) → s.n ≡ n → s.c ≡ c → leaving (beside s result) working.new stable.now
-        ≡ lookupReported working.old stable.now s model serial issue }
+        ≡ lookup_reported working.old stable.now s model serial issue }
 {
     if !tables::lengths_for(n, working, stable) {
         return Sought {
@@ -144,7 +144,7 @@ pub fn lookup(
     issue: u16,
 ) -> Looking
     ensures { leaving result working.new stable.now
-        ≡ lookupReported working.old stable.now session model serial issue }
+        ≡ lookup_reported working.old stable.now session model serial issue }
 {
     let sought = lean(working, stable, session.n, session.c, model, serial, issue);
     let answer = sought.answer;

@@ -9,13 +9,13 @@ use lib.Dec.{ltb}
 use lib.ListN.{length, get_or, take, drop, replicate, length-take, get_or-replicate, get_or-append, get_or-eq_default}
 use lib.Seq.{take_all, length-take-le, get_or-take, get_or-drop, get_or-append-add}
 use Rattle.rules.specs.Page.{over}
-use Rattle.marks.specs.Lowest.{lowestOf}
+use Rattle.marks.specs.Lowest.{lowest_of}
 
 module _ (need : ℕ) (free : List ℕ) where
   -- fewer were chosen than are needed exactly when fewer are free
-  pub lowest-fewer : ltb (lowestOf need free).count need ≡ ltb (length free) need
-  unfolding lowestOf
-  lowest-fewer = go (ltb (length free) need) refl
+  pub lowest_fewer : ltb (lowest_of need free).count need ≡ ltb (length free) need
+  unfolding lowest_of
+  lowest_fewer = go (ltb (length free) need) refl
     where
       go : (b : Bool) → ltb (length free) need ≡ b → ltb (length (take need free)) need ≡ b
       go true e =
@@ -26,8 +26,8 @@ module _ (need : ℕ) (free : List ℕ) where
           le-ltb (length (take need free)) need (omega (arith, length-take-le need free l))
 
   -- each chosen number is the free number of its place; where there is none, both are 0
-  pub lowest-at : (j : ℕ) → j < need → need ≤ 7 → get_or (lowestOf need free).pages j 0 ≡ get_or free j 0
-  unfolding lowestOf over
+  pub lowest-at : (j : ℕ) → j < need → need ≤ 7 → get_or (lowest_of need free).pages j 0 ≡ get_or free j 0
+  unfolding lowest_of over
   lowest-at j h m = go (ltb j (length free)) refl
     where
       go : (b : Bool) → ltb j (length free) ≡ b → get_or (take need free ++ drop (length (take need free)) (replicate 7 0)) j 0 ≡ get_or free j 0

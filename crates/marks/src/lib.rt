@@ -6,16 +6,16 @@
 //
 // Below stands `rules`: the session and its moves.
 ghost use Rattle.std.specs.Prelude.{◌≡◌, ◌<◌, ◌≤◌};
-ghost use Rattle.rules.specs.Layout.{mostPages};
+ghost use Rattle.rules.specs.Layout.{most_pages};
 ghost use Rattle.rules.specs.Test.{mem};
-ghost use Rattle.rules.specs.Marks.{turned, isPage, freePages};
-ghost use Rattle.marks.specs.Opened.{openedBy};
-ghost use Rattle.marks.specs.Lowest.{enteredBy, countsFree, freeFrom, first_of, lowestOf};
+ghost use Rattle.rules.specs.Marks.{turned, is_page, free_pages};
+ghost use Rattle.marks.specs.Opened.{opened_by};
+ghost use Rattle.marks.specs.Lowest.{entered_by, counts_free, free_from, first_of, lowest_of};
 
 use rules::{MOST, Session};
 
 fn is_page(n: u16, i: usize) -> bool
-    ensures { result ≡ isPage n i }
+    ensures { result ≡ is_page n i }
 {
     if i < 1 {
         return false;
@@ -57,7 +57,7 @@ pub fn nobody() -> Session
 // What an opening hands out, from the number of certificates and the marks of the numbers that its tree names: as child,
 // and as the previous page of a lost entry.
 pub fn opened(n: u16, c: u32, total: u32, children: [bool; MOST], spared: [bool; MOST]) -> Session
-    ensures { result ≡ openedBy n c total children spared }
+    ensures { result ≡ opened_by n c total children spared }
 {
     let mut free = [false; MOST];
     let mut i = 0;
@@ -83,7 +83,7 @@ pub struct Entered {
 
 fn is_entered(e: Entered, i: u16) -> bool
     requires { e.count ≤ 3 }
-    ensures { result ≡ mem i (enteredBy e) }
+    ensures { result ≡ mem i (entered_by e) }
 {
     let mut j = 0;
     while j < e.count {
@@ -97,8 +97,8 @@ fn is_entered(e: Entered, i: u16) -> bool
 
 // Whether a page counts as free.
 fn counts(s: Session, e: Entered, i: u16) -> bool
-    requires { (i < mostPages) × (e.count ≤ 3) }
-    ensures { result ≡ countsFree s (enteredBy e) i }
+    requires { (i < most_pages) × (e.count ≤ 3) }
+    ensures { result ≡ counts_free s (entered_by e) i }
 {
     let at = i as usize;
     if s.free[at] {
@@ -116,8 +116,8 @@ pub enum Free {
 
 // The lowest free page at or above a number.
 pub fn first_free(s: Session, e: Entered, from: u16) -> Free
-    requires { (s.n ≤ mostPages) × (e.count ≤ 3) }
-    ensures { result ≡ first_of (freeFrom s (enteredBy e) from) }
+    requires { (s.n ≤ most_pages) × (e.count ≤ 3) }
+    ensures { result ≡ first_of (free_from s (entered_by e) from) }
 {
     let n = s.n;
     let mut i = from;
@@ -139,8 +139,8 @@ pub struct Chosen {
 }
 
 pub fn lowest(s: Session, e: Entered, need: usize) -> Chosen
-    requires { (s.n ≤ mostPages) × ((e.count ≤ 3) × (need ≤ 7)) }
-    ensures { result ≡ lowestOf need (freePages s (enteredBy e)) }
+    requires { (s.n ≤ most_pages) × ((e.count ≤ 3) × (need ≤ 7)) }
+    ensures { result ≡ lowest_of need (free_pages s (entered_by e)) }
 {
     let mut pages = [0u16; 7];
     let mut count = 0;

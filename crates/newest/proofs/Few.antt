@@ -7,16 +7,16 @@ use mathlib.Core.List.{List, [], ◌∷◌}
 use lib.ListN.{length}
 use Rattle.rules.specs.Test.{between, all, mem}
 use Rattle.rules.specs.Entry.{Cert, keys, cut, rising}
-use Rattle.rules.proofs.entries.Tests.{between-low, between-high, all-mem, mem-head, mem-tail}
-use Rattle.rules.proofs.entries.Rises.{rises-mem, rising-from, rising-tail, length-keys}
-use Rattle.rules.proofs.entries.Entries.{cut-within, cut-rising, mem-cut}
+use Rattle.rules.proofs.Entries.Tests.{between-low, between-high, all-mem, mem-head, mem_tail}
+use Rattle.rules.proofs.Entries.Rises.{rises-mem, rising-from, rising_tail, length-keys}
+use Rattle.rules.proofs.Entries.Entries.{cut-within, cut-rising, mem-cut}
 
 few : (low high : ℕ) (ks : List ℕ) → rising ks ≡ true → ((k : ℕ) → mem k ks ≡ true → (low ≤ k) × (k ≤ high)) → length ks ≤ high + 1 - low
 few low high [] r h = omega arith
 few low high (k ∷ ks) r h =
     let x = h k (mem-head k ks) in
-    let y = few (suc k) high ks (rising-tail k ks r)
-    (λ j m. (rises-mem k j ks (rising-from k ks r) m, (h j (mem-tail j k ks m)).1)) in
+    let y = few (suc k) high ks (rising_tail k ks r)
+    (λ j m. (rises-mem k j ks (rising-from k ks r) m, (h j (mem_tail j k ks m)).1)) in
     omega (arith, x.0, x.1, y)
 
 module _ (low high : ℕ) (xs : List Cert) (r : rising (keys xs) ≡ true) where

@@ -5,56 +5,56 @@ use mathlib.Core.Path.{◌≡◌, refl, sym, ap, ◌∙◌}
 use mathlib.Core.List.{List}
 use lib.ListN.{length, get_or, drop}
 use lib.Seq.{drop-drop}
-use Rattle.rules.specs.Layout.{leafHeader, certSize}
-use Rattle.rules.specs.Key.{issueOf}
+use Rattle.rules.specs.Layout.{leaf_header, cert_size}
+use Rattle.rules.specs.Key.{issue_of}
 use Rattle.rules.specs.Entry.{Cert}
-use Rattle.rules.specs.Page.{certIn, pageIn}
-use Rattle.rules.specs.Table.{pageAt, read}
+use Rattle.rules.specs.Page.{cert_in, page_in}
+use Rattle.rules.specs.Table.{page_at, read}
 use Rattle.rules.specs.declared.Newest.{Newest}
-use Rattle.rules.proofs.bytes.Each.{readEach-at, length-readEach}
-use Rattle.head.specs.Head.{certAt}
+use Rattle.rules.proofs.Bytes.Each.{read_each-at, length-read_each}
+use Rattle.head.specs.Head.{cert_at}
 use Rattle.head.proofs.Headers.{head_of}
 use Rattle.way.specs.Ways.{Holds}
-use Rattle.way.proofs.Leaf.{certsIn, certs-are}
-use Rattle.newest.specs.Newests.{orThis, lastIn}
-use Rattle.newest.proofs.Last.{this-in, this-below, lastBefore}
+use Rattle.way.proofs.Leaf.{certs_in, certs-are}
+use Rattle.newest.specs.Newests.{or_this, last_in}
+use Rattle.newest.proofs.Last.{this_in, this_below, last_before}
 
 module _ (low : ℕ) (b : List ℕ) (before : Newest) where
-  pub last_none : (s : ℕ) → s ≡ 0 → before ≡ lastIn low s b before
-  unfolding lastIn
+  pub last_none : (s : ℕ) → s ≡ 0 → before ≡ last_in low s b before
+  unfolding last_in
   last_none s z = rw z
 
-  last-this : (s : ℕ) → (s ≡ 0 → ⊥) → lastIn low s b before ≡ orThis low (certAt b (s - 1)) before
-  unfolding lastIn
-  last-this zero o = absurd (o refl)
-  last-this (suc j) o = let e : j ≡ suc j - 1 = omega arith in ap (λ (i : ℕ). orThis low (certAt b i) before) e
+  last_this : (s : ℕ) → (s ≡ 0 → ⊥) → last_in low s b before ≡ or_this low (cert_at b (s - 1)) before
+  unfolding last_in
+  last_this zero o = absurd (o refl)
+  last_this (suc j) o = let e : j ≡ suc j - 1 = omega arith in ap (λ (i : ℕ). or_this low (cert_at b i) before) e
 
-  module _ (s k : ℕ) (o : s ≡ 0 → ⊥) (f : k ≡ (certAt b (s - 1)).key) where
-    pub last-below : k < low → before ≡ lastIn low s b before
-    last-below h = sym (last-this s o ∙ this-below low (certAt b (s - 1)) before (omega (arith, f)))
+  module _ (s k : ℕ) (o : s ≡ 0 → ⊥) (f : k ≡ (cert_at b (s - 1)).key) where
+    pub last-below : k < low → before ≡ last_in low s b before
+    last-below h = sym (last_this s o ∙ this_below low (cert_at b (s - 1)) before (omega (arith, f)))
 
-    pub last-here : low ≤ k → (v : ℕ) → v ≡ (certAt b (s - 1)).value → Newest.Found (k % 65536) v ≡ lastIn low s b before
-    unfolding issueOf
-    last-here h v g = rw (f, g) (sym (last-this s o ∙ this-in low (certAt b (s - 1)) before (omega (arith, f))))
+    pub last-here : low ≤ k → (v : ℕ) → v ≡ (cert_at b (s - 1)).value → Newest.Found (k % 65536) v ≡ last_in low s b before
+    unfolding issue_of
+    last-here h v g = rw (f, g) (sym (last_this s o ∙ this_in low (cert_at b (s - 1)) before (omega (arith, f))))
 
 -- ── In a leaf that was entered ──────────────────────────────────────────────────────────────────────────────────
 
-cert-at : (count j : ℕ) (b : List ℕ) (d : Cert) → j < count → get_or (certsIn count b) j d ≡ certAt b j
-unfolding certAt
-cert-at count j b d h = rw (readEach-at certIn certSize count (drop leafHeader b) j d h, drop-drop)
+cert_at_lem : (count j : ℕ) (b : List ℕ) (d : Cert) → j < count → get_or (certs_in count b) j d ≡ cert_at b j
+unfolding cert_at
+cert_at_lem count j b d h = rw (read_each-at cert_in cert_size count (drop leaf_header b) j d h, drop-drop)
 
 last-certs : (low s count : ℕ) (b : List ℕ) (d : Cert) (before : Newest) → s ≤ count
-    → lastIn low s b before ≡ lastBefore low s (certsIn count b) d before
-unfolding lastIn lastBefore
+    → last_in low s b before ≡ last_before low s (certs_in count b) d before
+unfolding last_in last_before
 last-certs low zero count b d before h = refl
-last-certs low (suc j) count b d before h = ap (λ (x : Cert). orThis low x before) (sym (cert-at count j b d (omega arith)))
+last-certs low (suc j) count b d before h = ap (λ (x : Cert). or_this low x before) (sym (cert_at_lem count j b d (omega arith)))
 
 pub last-read : (low s : ℕ) (t : List ℕ) (i : ℕ) (d : Cert) (before : Newest) → Holds (read t i).view → s ≤ length (read t i).view.certs
-    → lastIn low s (pageAt t i) before ≡ lastBefore low s (read t i).view.certs d before
-unfolding read pageIn
+    → last_in low s (page_at t i) before ≡ last_before low s (read t i).view.certs d before
+unfolding read page_in
 last-read low s t i d before l h =
-    let b = pageAt t i in
-    let n = (head_of (pageIn b)).count in
-    let q = certs-are b (head_of (pageIn b)) refl l in
-    last-certs low s n b d before (omega (arith, ap length q, length-readEach certIn certSize n (drop leafHeader b)))
-    ∙ ap (λ (xs : List Cert). lastBefore low s xs d before) (sym q)
+    let b = page_at t i in
+    let n = (head_of (page_in b)).count in
+    let q = certs-are b (head_of (page_in b)) refl l in
+    last-certs low s n b d before (omega (arith, ap length q, length-read_each cert_in cert_size n (drop leaf_header b)))
+    ∙ ap (λ (xs : List Cert). last_before low s xs d before) (sym q)

@@ -2,7 +2,7 @@
 //
 // `newest` asks nothing and tests everything, in document 01's order: lengths, model and serial, page 0, then every
 // leaf that can hold a certificate of the meter. Answer, report, session and every byte lent are those of the rules'
-// `newestReported`; what was mended on the way stays mended and is reported, also behind a refusal. A damaged page is
+// `newest_reported`; what was mended on the way stays mended and is reported, also behind a refusal. A damaged page is
 // never passed over: the newest certificate might stand there.
 //
 // `lean` is the same for callers who keep the session where it is: it takes the session's two numbers alone, and for
@@ -13,12 +13,12 @@
 //
 // Below stand `tables`, which tests lengths, `keys`, and `leaves`, which steps from leaf to leaf.
 ghost use Rattle.std.specs.Prelude.{◌≡◌, true, ◌+◌, ◌*◌, ◌≤◌, ◌<◌, length};
-ghost use Rattle.rules.specs.Layout.{pageSize, leafHeader, certSize, leafRoom, lastKey};
-ghost use Rattle.rules.specs.Table.{pageAt, fit0};
+ghost use Rattle.rules.specs.Layout.{page_size, leaf_header, cert_size, leaf_room, last_key};
+ghost use Rattle.rules.specs.Table.{page_at, fit0};
 ghost use Rattle.rules.specs.Walk.{walk_of};
-ghost use Rattle.rules.specs.Reports.{newestReported};
+ghost use Rattle.rules.specs.Reports.{newest_reported};
 ghost use Rattle.rules.specs.declared.Session.{Session};
-ghost use Rattle.newest.specs.Newests.{beside, leaving, range, lastIn, seeing, seen};
+ghost use Rattle.newest.specs.Newests.{beside, leaving, range, last_in, seeing, seen};
 
 use leaves::Stepped;
 use rules::{LAST_FINAL, Newest, NewestOf, PAGE, Report, Session};
@@ -28,8 +28,8 @@ const ISSUES: u64 = 65536;
 
 // The last certificate before a spot of a leaf, if it is not below the range; else what was found before.
 fn last_in(page: &[u8], spot: usize, low: u64, newest: Newest) -> Newest
-    requires { leafHeader + certSize * spot ≤ length page.now }
-    ensures { result ≡ lastIn low spot page.now newest }
+    requires { leaf_header + cert_size * spot ≤ length page.now }
+    ensures { result ≡ last_in low spot page.now newest }
 {
     if spot == 0 {
         return newest;
@@ -44,8 +44,8 @@ fn last_in(page: &[u8], spot: usize, low: u64, newest: Newest) -> Newest
 
 // The same on page i of a table.
 fn last_on(table: &[u8], i: u16, spot: usize, low: u64, newest: Newest) -> Newest
-    requires { ((i + 1) * pageSize ≤ length table.now) × (spot ≤ leafRoom) }
-    ensures { result ≡ lastIn low spot (pageAt table.now i) newest }
+    requires { ((i + 1) * page_size ≤ length table.now) × (spot ≤ leaf_room) }
+    ensures { result ≡ last_in low spot (page_at table.now i) newest }
 {
     let from = i as usize * PAGE;
     let to = from + PAGE;
@@ -61,7 +61,7 @@ pub struct Sought {
 
 // The newest certificate of a range, leaf after leaf. A leaf without one leaves what an earlier one gave.
 fn look(t: &mut [u8], n: usize, c: u32, low: u64, high: u64) -> Sought
-    requires { (length t.old ≡ n * pageSize) × (fit0 n t.old ≡ true) × (low ≤ high) × (high < low + lastKey) }
+    requires { (length t.old ≡ n * page_size) × (fit0 n t.old ≡ true) × (low ≤ high) × (high < low + last_key) }
     ensures { seeing t.new result ≡ seen (walk_of n c (range low high) t.old) }
 {
     let mut newest = Newest::Missing;
@@ -99,7 +99,7 @@ fn look(t: &mut [u8], n: usize, c: u32, low: u64, high: u64) -> Sought
 // Newest by a session's numbers.
 pub fn lean(working: &mut [u8], stable: &[u8], n: u16, c: u32, model: u16, serial: u32) -> Sought
     ensures { (s : Session) → s.n ≡ n → s.c ≡ c → leaving (beside s result) working.new stable.now
-        ≡ newestReported working.old stable.now s model serial }
+        ≡ newest_reported working.old stable.now s model serial }
 {
     if !tables::lengths_for(n, working, stable) {
         return Sought {
@@ -139,7 +139,7 @@ pub fn newest(
     serial: u32,
 ) -> NewestOf
     ensures { leaving result working.new stable.now
-        ≡ newestReported working.old stable.now session model serial }
+        ≡ newest_reported working.old stable.now session model serial }
 {
     let sought = lean(working, stable, session.n, session.c, model, serial);
     let answer = sought.answer;

@@ -4,16 +4,16 @@
 //
 // Below stands `rules`.
 ghost use Rattle.std.specs.Prelude.{◌≡◌};
-ghost use Rattle.rules.specs.Report.{reasonNo};
-ghost use Rattle.rules.specs.Batch.{batchedNo};
-ghost use Rattle.rules.specs.Call.{formattedNo, openedNo, insertedNo, withdrawnNo, lookedNo, lookedRecord, newestNo, newestIssue, newestRecord, anyNo, anyYes, listedNo, listedCount, syncedNo};
+ghost use Rattle.rules.specs.Report.{reason_no};
+ghost use Rattle.rules.specs.Batch.{batched_no};
+ghost use Rattle.rules.specs.Call.{formatted_no, opened_no, inserted_no, withdrawn_no, looked_no, looked_record, newest_no, newest_issue, newest_record, any_no, any_yes, listed_no, listed_count, synced_no};
 
 use rules::{
     Any, Batched, Formatted, Inserted, Listed, Looked, Newest, Opened, Reason, Synced, Withdrawn,
 };
 
 pub fn formatted(answer: Formatted) -> u32
-    ensures { result ≡ formattedNo answer }
+    ensures { result ≡ formatted_no answer }
 {
     match answer {
         Formatted::Done => 0,
@@ -22,7 +22,7 @@ pub fn formatted(answer: Formatted) -> u32
 }
 
 pub fn opened(answer: Opened) -> u32
-    ensures { result ≡ openedNo answer }
+    ensures { result ≡ opened_no answer }
 {
     match answer {
         Opened::Done => 0,
@@ -33,7 +33,7 @@ pub fn opened(answer: Opened) -> u32
 }
 
 pub fn inserted(answer: Inserted) -> u32
-    ensures { result ≡ insertedNo answer }
+    ensures { result ≡ inserted_no answer }
 {
     match answer {
         Inserted::Done => 0,
@@ -47,7 +47,7 @@ pub fn inserted(answer: Inserted) -> u32
 }
 
 pub fn withdrawn(answer: Withdrawn) -> u32
-    ensures { result ≡ withdrawnNo answer }
+    ensures { result ≡ withdrawn_no answer }
 {
     match answer {
         Withdrawn::Done => 0,
@@ -59,7 +59,7 @@ pub fn withdrawn(answer: Withdrawn) -> u32
 }
 
 pub fn batched(answer: Batched) -> u32
-    ensures { result ≡ batchedNo answer }
+    ensures { result ≡ batched_no answer }
 {
     match answer {
         Batched::Done => 0,
@@ -68,7 +68,7 @@ pub fn batched(answer: Batched) -> u32
 }
 
 pub fn looked(answer: Looked) -> u32
-    ensures { result ≡ lookedNo answer }
+    ensures { result ≡ looked_no answer }
 {
     match answer {
         Looked::Found(_) => 0,
@@ -80,7 +80,7 @@ pub fn looked(answer: Looked) -> u32
 }
 
 pub fn looked_record(answer: Looked) -> u32
-    ensures { result ≡ lookedRecord answer }
+    ensures { result ≡ looked_record answer }
 {
     match answer {
         Looked::Found(record) => record,
@@ -92,7 +92,7 @@ pub fn looked_record(answer: Looked) -> u32
 }
 
 pub fn newest(answer: Newest) -> u32
-    ensures { result ≡ newestNo answer }
+    ensures { result ≡ newest_no answer }
 {
     match answer {
         Newest::Found(_, _) => 0,
@@ -104,7 +104,7 @@ pub fn newest(answer: Newest) -> u32
 }
 
 pub fn newest_issue(answer: Newest) -> u32
-    ensures { result ≡ newestIssue answer }
+    ensures { result ≡ newest_issue answer }
 {
     match answer {
         Newest::Found(issue, _) => issue as u32,
@@ -116,7 +116,7 @@ pub fn newest_issue(answer: Newest) -> u32
 }
 
 pub fn newest_record(answer: Newest) -> u32
-    ensures { result ≡ newestRecord answer }
+    ensures { result ≡ newest_record answer }
 {
     match answer {
         Newest::Found(_, record) => record,
@@ -128,7 +128,7 @@ pub fn newest_record(answer: Newest) -> u32
 }
 
 pub fn any(answer: Any) -> u32
-    ensures { result ≡ anyNo answer }
+    ensures { result ≡ any_no answer }
 {
     match answer {
         Any::Yes => 0,
@@ -140,7 +140,7 @@ pub fn any(answer: Any) -> u32
 }
 
 pub fn any_yes(answer: Any) -> u32
-    ensures { result ≡ anyYes answer }
+    ensures { result ≡ any_yes answer }
 {
     match answer {
         Any::Yes => 1,
@@ -152,7 +152,7 @@ pub fn any_yes(answer: Any) -> u32
 }
 
 pub fn listed(answer: Listed) -> u32
-    ensures { result ≡ listedNo answer }
+    ensures { result ≡ listed_no answer }
 {
     match answer {
         Listed::Filled(_) => 0,
@@ -162,7 +162,7 @@ pub fn listed(answer: Listed) -> u32
 }
 
 pub fn listed_count(answer: Listed) -> u64
-    ensures { result ≡ listedCount answer }
+    ensures { result ≡ listed_count answer }
 {
     match answer {
         Listed::Filled(count) => count as u64,
@@ -172,7 +172,7 @@ pub fn listed_count(answer: Listed) -> u64
 }
 
 pub fn synced(answer: Synced) -> u32
-    ensures { result ≡ syncedNo answer }
+    ensures { result ≡ synced_no answer }
 {
     match answer {
         Synced::Done => 0,
@@ -182,7 +182,7 @@ pub fn synced(answer: Synced) -> u32
 }
 
 pub fn reason(reason: Reason) -> u32
-    ensures { result ≡ reasonNo reason }
+    ensures { result ≡ reason_no reason }
 {
     match reason {
         Reason::None => 0,

@@ -6,8 +6,8 @@ use Rattle.rules.specs.declared.Opened.{Opened}
 use Rattle.rules.specs.declared.Opening.{Opening}
 
 -- what a refused opening hands back
-abbrev pub refusedWith : Opened → Opening
-refusedWith answer = record { answer = answer; session = nobody }
+abbrev pub refused_with : Opened → Opening
+refused_with answer = record { answer = answer; session = nobody }
 
 abbrev pub left : Opening → List ℕ → List ℕ → Left Opened
 left r working stable = record { answer = r.answer; session = r.session; working = working; stable = stable }

@@ -6,17 +6,17 @@
 //
 // Below stand `tables`, `head`, `seen`, which walks the tree, `marks`, which makes the session, and `rules`.
 ghost use Rattle.std.specs.Prelude.{◌≡◌, ◌≤◌};
-ghost use Rattle.rules.specs.Layout.{mostPages};
+ghost use Rattle.rules.specs.Layout.{most_pages};
 ghost use Rattle.rules.specs.Open.{opening};
-ghost use Rattle.marks.specs.Opened.{openedBy};
-ghost use Rattle.opening.specs.Opens.{left, refusedWith};
+ghost use Rattle.marks.specs.Opened.{opened_by};
+ghost use Rattle.opening.specs.Opens.{left, refused_with};
 
 use rules::{LAST_NUMBER, Opened, Opening, PAGE, Session};
 use seen::Seen;
 
 // What a refused opening hands back.
 fn refused(answer: Opened) -> Opening
-    ensures { result ≡ refusedWith answer }
+    ensures { result ≡ refused_with answer }
 {
     Opening {
         answer,
@@ -26,8 +26,8 @@ fn refused(answer: Opened) -> Opening
 
 // The session of an opening, from what the walk has noted.
 fn session_of(n: usize, number: u32, notes: Seen) -> Session
-    requires { n ≤ mostPages }
-    ensures { result ≡ openedBy n number notes.total notes.children notes.spared }
+    requires { n ≤ most_pages }
+    ensures { result ≡ opened_by n number notes.total notes.children notes.spared }
 {
     let children = notes.children;
     let spared = notes.spared;

@@ -9,28 +9,28 @@ use lib.Dec.{leb, eqb}
 use lib.ListN.{length, take, drop, get_or, drop_of_length-le}
 use lib.Seq.{drop-cons, get_or-take, length-take-le}
 use borrow.Author.Tests.{eq-eqb, ne_eqb}
-use Rattle.rules.specs.Layout.{leafKind, leafRoom, innerRoom}
+use Rattle.rules.specs.Layout.{leaf_kind, leaf_room, inner_room}
 use Rattle.head.specs.declared.Head.{Head}
 use Rattle.way.specs.declared.Way.{Way}
-use Rattle.plan.specs.Plan.{headsOf, fullBy, splitsBy, lateBy, tooSoonBy}
+use Rattle.plan.specs.Plan.{heads_of, full_by, splits_by, late_by, too_soon_by}
 
 -- ── One page ────────────────────────────────────────────────────────────────────────────────────────────────────
 
-pub full-leaf : (h : Head) → h.kind ≡ leafKind → leb leafRoom h.count ≡ fullBy h
-unfolding fullBy
-full-leaf h e = rw (eq-eqb h.kind leafKind e, fullBy)
+pub full-leaf : (h : Head) → h.kind ≡ leaf_kind → leb leaf_room h.count ≡ full_by h
+unfolding full_by
+full-leaf h e = rw (eq-eqb h.kind leaf_kind e, full_by)
 
-pub full-inner : (h : Head) → (h.kind ≡ leafKind → ⊥) → leb innerRoom h.count ≡ fullBy h
-unfolding fullBy
-full-inner h e = rw (ne_eqb h.kind leafKind e, fullBy)
+pub full-inner : (h : Head) → (h.kind ≡ leaf_kind → ⊥) → leb inner_room h.count ≡ full_by h
+unfolding full_by
+full-inner h e = rw (ne_eqb h.kind leaf_kind e, full_by)
 
-pub late-leaf : (c : ℕ) (h : Head) → h.kind ≡ leafKind → false ≡ lateBy c h
-unfolding lateBy
-late-leaf c h e = rw (eq-eqb h.kind leafKind e)
+pub late-leaf : (c : ℕ) (h : Head) → h.kind ≡ leaf_kind → false ≡ late_by c h
+unfolding late_by
+late-leaf c h e = rw (eq-eqb h.kind leaf_kind e)
 
-pub late-inner : (c : ℕ) (h : Head) → (h.kind ≡ leafKind → ⊥) → eqb h.touched c ≡ lateBy c h
-unfolding lateBy
-late-inner c h e = rw (ne_eqb h.kind leafKind e)
+pub late-inner : (c : ℕ) (h : Head) → (h.kind ≡ leaf_kind → ⊥) → eqb h.touched c ≡ late_by c h
+unfolding late_by
+late-inner c h e = rw (ne_eqb h.kind leaf_kind e)
 
 -- ── At an index of the way ──────────────────────────────────────────────────────────────────────────────────────
 
@@ -53,66 +53,66 @@ module _ (a b t d : Head) (len : ℕ) where
 -- ── One page after the other ────────────────────────────────────────────────────────────────────────────────────
 
 module _ (hs : List Head) (i : ℕ) (d : Head) where
-  pub splits-here : i < length hs → fullBy (get_or hs i d) ≡ false → splitsBy (drop i hs) ≡ 0
-  unfolding splitsBy
-  splits-here l f = rw (drop-cons hs i d l, f, splitsBy)
+  pub splits-here : i < length hs → full_by (get_or hs i d) ≡ false → splits_by (drop i hs) ≡ 0
+  unfolding splits_by
+  splits-here l f = rw (drop-cons hs i d l, f, splits_by)
 
-  pub splits-more : i < length hs → fullBy (get_or hs i d) ≡ true → i + splitsBy (drop i hs) ≡ (i + 1) + splitsBy (drop (i + 1) hs)
-  unfolding splitsBy
-  splits-more l f = rw (drop-cons hs i d l, splitsBy, f, add-one) (omega arith)
+  pub splits-more : i < length hs → full_by (get_or hs i d) ≡ true → i + splits_by (drop i hs) ≡ (i + 1) + splits_by (drop (i + 1) hs)
+  unfolding splits_by
+  splits-more l f = rw (drop-cons hs i d l, splits_by, f, add-one) (omega arith)
 
-  pub splits-end : length hs ≤ i → splitsBy (drop i hs) ≡ 0
-  unfolding splitsBy
+  pub splits-end : length hs ≤ i → splits_by (drop i hs) ≡ 0
+  unfolding splits_by
   splits-end l = rw (drop_of_length-le hs l)
 
-  pub soon-here : (c : ℕ) → i < length hs → lateBy c (get_or hs i d) ≡ true → true ≡ tooSoonBy c (drop i hs)
-  unfolding tooSoonBy
-  soon-here c l f = rw (drop-cons hs i d l, f)
+  pub soon_here : (c : ℕ) → i < length hs → late_by c (get_or hs i d) ≡ true → true ≡ too_soon_by c (drop i hs)
+  unfolding too_soon_by
+  soon_here c l f = rw (drop-cons hs i d l, f)
 
-  pub soon-later : (c : ℕ) → i < length hs → lateBy c (get_or hs i d) ≡ false → tooSoonBy c (drop i hs) ≡ tooSoonBy c (drop (i + 1) hs)
-  unfolding tooSoonBy
-  soon-later c l f = rw (drop-cons hs i d l, f, add-one)
+  pub soon_later : (c : ℕ) → i < length hs → late_by c (get_or hs i d) ≡ false → too_soon_by c (drop i hs) ≡ too_soon_by c (drop (i + 1) hs)
+  unfolding too_soon_by
+  soon_later c l f = rw (drop-cons hs i d l, f, add-one)
 
-  pub soon-end : (c : ℕ) → length hs ≤ i → false ≡ tooSoonBy c (drop i hs)
-  unfolding tooSoonBy
-  soon-end c l = rw (drop_of_length-le hs l)
+  pub soon_end : (c : ℕ) → length hs ≤ i → false ≡ too_soon_by c (drop i hs)
+  unfolding too_soon_by
+  soon_end c l = rw (drop_of_length-le hs l)
 
 -- ── Along a way ─────────────────────────────────────────────────────────────────────────────────────────────────
 
-pub length-heads : (w : Way) → w.len ≤ 3 → length (headsOf w) ≡ w.len
+pub length-heads : (w : Way) → w.len ≤ 3 → length (heads_of w) ≡ w.len
 length-heads w l = length-take-le w.len (w.leaf.head ∷ (w.parent.head ∷ (w.top.head ∷ []))) l
 
-module _ (w : Way) (l : w.len ≤ 3) (i : ℕ) (inv : splitsBy (headsOf w) ≡ i + splitsBy (drop i (headsOf w))) where
-  pub splits-stop : (h : Head) → i < w.len → h ≡ get_or (headsOf w) i h → fullBy h ≡ false → i ≡ splitsBy (headsOf w)
-  splits-stop h b e f =
-      let z = splits-here (headsOf w) i h (omega (arith, length-heads w l)) (ap fullBy (sym e) ∙ f) in
+module _ (w : Way) (l : w.len ≤ 3) (i : ℕ) (inv : splits_by (heads_of w) ≡ i + splits_by (drop i (heads_of w))) where
+  pub splits_stop : (h : Head) → i < w.len → h ≡ get_or (heads_of w) i h → full_by h ≡ false → i ≡ splits_by (heads_of w)
+  splits_stop h b e f =
+      let z = splits-here (heads_of w) i h (omega (arith, length-heads w l)) (ap full_by (sym e) ∙ f) in
       omega (arith, inv, z)
 
-  pub splits-next : (h : Head) → i < w.len → h ≡ get_or (headsOf w) i h → fullBy h ≡ true
-      → splitsBy (headsOf w) ≡ (i + 1) + splitsBy (drop (i + 1) (headsOf w))
-  splits-next h b e f = inv ∙ splits-more (headsOf w) i h (omega (arith, length-heads w l)) (ap fullBy (sym e) ∙ f)
+  pub splits-next : (h : Head) → i < w.len → h ≡ get_or (heads_of w) i h → full_by h ≡ true
+      → splits_by (heads_of w) ≡ (i + 1) + splits_by (drop (i + 1) (heads_of w))
+  splits-next h b e f = inv ∙ splits-more (heads_of w) i h (omega (arith, length-heads w l)) (ap full_by (sym e) ∙ f)
 
-  pub splits-done : (h : Head) → w.len ≤ i → i ≡ splitsBy (headsOf w)
+  pub splits-done : (h : Head) → w.len ≤ i → i ≡ splits_by (heads_of w)
   splits-done h b =
-      let z = splits-end (headsOf w) i h (omega (arith, length-heads w l)) in
+      let z = splits-end (heads_of w) i h (omega (arith, length-heads w l)) in
       omega (arith, inv, z)
 
 -- the first so many of the way
 module _ (w : Way) (l : w.len ≤ 3) (k : ℕ) (m : k ≤ w.len) (c i : ℕ)
-    (inv : tooSoonBy c (take k (headsOf w)) ≡ tooSoonBy c (drop i (take k (headsOf w)))) where
-  length-first : length (take k (headsOf w)) ≡ k
-  length-first = length-take-le k (headsOf w) (omega (arith, length-heads w l))
+    (inv : too_soon_by c (take k (heads_of w)) ≡ too_soon_by c (drop i (take k (heads_of w)))) where
+  length-first : length (take k (heads_of w)) ≡ k
+  length-first = length-take-le k (heads_of w) (omega (arith, length-heads w l))
 
-  pub soon-stop : (h : Head) → i < k → h ≡ get_or (headsOf w) i h → lateBy c h ≡ true → true ≡ tooSoonBy c (take k (headsOf w))
-  soon-stop h b e f =
-      soon-here (take k (headsOf w)) i h c (omega (arith, length-first))
-      (ap (lateBy c) (get_or-take k (headsOf w) i h b ∙ sym e) ∙ f) ∙ sym inv
+  pub soon_stop : (h : Head) → i < k → h ≡ get_or (heads_of w) i h → late_by c h ≡ true → true ≡ too_soon_by c (take k (heads_of w))
+  soon_stop h b e f =
+      soon_here (take k (heads_of w)) i h c (omega (arith, length-first))
+      (ap (late_by c) (get_or-take k (heads_of w) i h b ∙ sym e) ∙ f) ∙ sym inv
 
-  pub soon-next : (h : Head) → i < k → h ≡ get_or (headsOf w) i h → lateBy c h ≡ false
-      → tooSoonBy c (take k (headsOf w)) ≡ tooSoonBy c (drop (i + 1) (take k (headsOf w)))
-  soon-next h b e f =
-      inv ∙ soon-later (take k (headsOf w)) i h c (omega (arith, length-first))
-      (ap (lateBy c) (get_or-take k (headsOf w) i h b ∙ sym e) ∙ f)
+  pub soon_next : (h : Head) → i < k → h ≡ get_or (heads_of w) i h → late_by c h ≡ false
+      → too_soon_by c (take k (heads_of w)) ≡ too_soon_by c (drop (i + 1) (take k (heads_of w)))
+  soon_next h b e f =
+      inv ∙ soon_later (take k (heads_of w)) i h c (omega (arith, length-first))
+      (ap (late_by c) (get_or-take k (heads_of w) i h b ∙ sym e) ∙ f)
 
-  pub soon-done : (h : Head) → k ≤ i → false ≡ tooSoonBy c (take k (headsOf w))
-  soon-done h b = soon-end (take k (headsOf w)) i h c (omega (arith, length-first)) ∙ sym inv
+  pub soon_done : (h : Head) → k ≤ i → false ≡ too_soon_by c (take k (heads_of w))
+  soon_done h b = soon_end (take k (heads_of w)) i h c (omega (arith, length-first)) ∙ sym inv

@@ -7,67 +7,67 @@ use mathlib.Core.List.{List, [], ◌∷◌}
 use lib.Dec.{ltb, eqb}
 use lib.ListN.{length, take, get_or}
 use borrow.Author.Tests.{eq-eqb, ne_eqb, lt-ltb, le-ltb}
-use Rattle.rules.specs.Layout.{mostPages, topKind}
-use Rattle.rules.specs.Marks.{freePages}
+use Rattle.rules.specs.Layout.{most_pages, top_kind}
+use Rattle.rules.specs.Marks.{free_pages}
 use Rattle.rules.specs.declared.Session.{Session}
 use Rattle.head.specs.declared.Head.{Head}
-use Rattle.marks.specs.Lowest.{enteredBy, lowestOf}
+use Rattle.marks.specs.Lowest.{entered_by, lowest_of}
 use Rattle.marks.specs.declared.Entered.{Entered}
 use Rattle.marks.specs.declared.Chosen.{Chosen}
-use Rattle.marks.proofs.Needed.{lowest-fewer}
+use Rattle.marks.proofs.Needed.{lowest_fewer}
 use Rattle.way.specs.declared.Way.{Way}
 use Rattle.plan.specs.declared.Planned.{Planned}
-use Rattle.plan.specs.Plan.{headsOf, fullBy, splitsBy, tooSoonBy, lastKind, tooHighBy, numbersOf, entered_of, needBy, stuckBy, noRoomBy, chosenBy, planBy}
+use Rattle.plan.specs.Plan.{heads_of, full_by, splits_by, too_soon_by, last_kind, too_high_by, numbers_of, entered_of, need_by, stuck_by, no_room_by, chosen_by, plan_by}
 use Rattle.plan.proofs.Heads.{length-heads}
 
 -- the last of some headers
-last-kind : (kind : ℕ) (h : Head) (hs : List Head) (d : Head) → lastKind kind (h ∷ hs) ≡ (get_or (h ∷ hs) (length hs) d).kind
-unfolding lastKind
-last-kind kind h [] d = refl
-last-kind kind h (g ∷ hs) d = last-kind h.kind g hs d
+last_kind_lem : (kind : ℕ) (h : Head) (hs : List Head) (d : Head) → last_kind kind (h ∷ hs) ≡ (get_or (h ∷ hs) (length hs) d).kind
+unfolding last_kind
+last_kind_lem kind h [] d = refl
+last_kind_lem kind h (g ∷ hs) d = last_kind_lem h.kind g hs d
 
-pub high-last : (hs : List Head) (d : Head) → 1 ≤ length hs → tooHighBy hs ≡ eqb (get_or hs (length hs - 1) d).kind topKind
-unfolding tooHighBy
+pub high-last : (hs : List Head) (d : Head) → 1 ≤ length hs → too_high_by hs ≡ eqb (get_or hs (length hs - 1) d).kind top_kind
+unfolding too_high_by
 high-last [] d l = absurd (omega arith)
 high-last (h ∷ hs) d l =
     let e : length hs ≡ suc (length hs) - 1 = omega arith in
-    ap (λ (k : ℕ). eqb k topKind) (last-kind 0 h hs d) ∙ ap (λ (j : ℕ). eqb (get_or (h ∷ hs) j d).kind topKind) e
+    ap (λ (k : ℕ). eqb k top_kind) (last_kind_lem 0 h hs d) ∙ ap (λ (j : ℕ). eqb (get_or (h ∷ hs) j d).kind top_kind) e
 
-pub splits-few : (hs : List Head) → splitsBy hs ≤ length hs
-unfolding splitsBy
+pub splits-few : (hs : List Head) → splits_by hs ≤ length hs
+unfolding splits_by
 splits-few [] = omega arith
-splits-few (h ∷ hs) = go (fullBy h) refl (splits-few hs)
+splits-few (h ∷ hs) = go (full_by h) refl (splits-few hs)
   where
-    go : (b : Bool) → fullBy h ≡ b → splitsBy hs ≤ length hs → splitsBy (h ∷ hs) ≤ suc (length hs)
-    go true e ih = rw (e, splitsBy) (omega arith)
-    go false e ih = rw (e, splitsBy) (omega arith)
+    go : (b : Bool) → full_by h ≡ b → splits_by hs ≤ length hs → splits_by (h ∷ hs) ≤ suc (length hs)
+    go true e ih = rw (e, splits_by) (omega arith)
+    go false e ih = rw (e, splits_by) (omega arith)
 
-pub splits-within : (w : Way) → w.len ≤ 3 → (k : ℕ) → k ≡ splitsBy (headsOf w) → k ≤ w.len
-splits-within w l k e = omega (arith, e, splits-few (headsOf w), length-heads w l)
+pub splits-within : (w : Way) → w.len ≤ 3 → (k : ℕ) → k ≡ splits_by (heads_of w) → k ≤ w.len
+splits-within w l k e = omega (arith, e, splits-few (heads_of w), length-heads w l)
 
 module _ (w : Way) (k : ℕ) where
-  pub stuck-root : (h : Head) → 1 ≤ w.len → w.len ≤ 3 → k ≡ w.len → h ≡ get_or (headsOf w) (w.len - 1) h → eqb h.kind topKind ≡ stuckBy w k
-  unfolding stuckBy
-  stuck-root h a b e q =
+  pub stuck_root : (h : Head) → 1 ≤ w.len → w.len ≤ 3 → k ≡ w.len → h ≡ get_or (heads_of w) (w.len - 1) h → eqb h.kind top_kind ≡ stuck_by w k
+  unfolding stuck_by
+  stuck_root h a b e q =
       let l = length-heads w b in
-      let z : tooHighBy (headsOf w) ≡ eqb (get_or (headsOf w) (length (headsOf w) - 1) h).kind topKind = high-last (headsOf w) h (omega (arith, l)) in
-      let y : get_or (headsOf w) (length (headsOf w) - 1) h ≡ h = ap (λ (m : ℕ). get_or (headsOf w) (m - 1) h) l ∙ sym q in
-      rw (eq-eqb k w.len e) (sym (z ∙ ap (λ (x : Head). eqb x.kind topKind) y))
+      let z : too_high_by (heads_of w) ≡ eqb (get_or (heads_of w) (length (heads_of w) - 1) h).kind top_kind = high-last (heads_of w) h (omega (arith, l)) in
+      let y : get_or (heads_of w) (length (heads_of w) - 1) h ≡ h = ap (λ (m : ℕ). get_or (heads_of w) (m - 1) h) l ∙ sym q in
+      rw (eq-eqb k w.len e) (sym (z ∙ ap (λ (x : Head). eqb x.kind top_kind) y))
 
-  pub stuck-never : (k ≡ w.len → ⊥) → false ≡ stuckBy w k
-  unfolding stuckBy
-  stuck-never e = rw (ne_eqb k w.len e)
+  pub stuck_never : (k ≡ w.len → ⊥) → false ≡ stuck_by w k
+  unfolding stuck_by
+  stuck_never e = rw (ne_eqb k w.len e)
 
-pub need-root : (len k : ℕ) → k ≡ len → 2 * k + 1 ≡ needBy len k
-unfolding needBy
+pub need-root : (len k : ℕ) → k ≡ len → 2 * k + 1 ≡ need_by len k
+unfolding need_by
 need-root len k e = rw (eq-eqb k len e)
 
-pub need-none : (len k : ℕ) → (k ≡ len → ⊥) → 2 * k ≡ needBy len k
-unfolding needBy
+pub need-none : (len k : ℕ) → (k ≡ len → ⊥) → 2 * k ≡ need_by len k
+unfolding need_by
 need-none len k e = rw (ne_eqb k len e) (omega arith)
 
-pub need-few : (len k : ℕ) → k ≤ 3 → needBy len k ≤ 7
-unfolding needBy
+pub need-few : (len k : ℕ) → k ≤ 3 → need_by len k ≤ 7
+unfolding need_by
 need-few len k l = go (eqb k len) refl
   where
     go : (b : Bool) → eqb k len ≡ b → 2 * k + elim (eqb k len) [ true ↦ 1 | false ↦ 0 ] ≤ 7
@@ -76,70 +76,70 @@ need-few len k l = go (eqb k len) refl
 
 -- ── The answers ─────────────────────────────────────────────────────────────────────────────────────────────────
 
-or-true : (b : Bool) → (b || true) ≡ true
-or-true true = refl
-or-true false = refl
+or_true : (b : Bool) → (b || true) ≡ true
+or_true true = refl
+or_true false = refl
 
 module _ (s : Session) (w : Way) where
   abbrev many : ℕ
-  many = splitsBy (headsOf w)
+  many = splits_by (heads_of w)
 
   abbrev free : List ℕ
-  free = freePages s (numbersOf w)
+  free = free_pages s (numbers_of w)
 
-  stuck-full : true ≡ stuckBy w many → noRoomBy w many free ≡ true
-  unfolding noRoomBy
-  stuck-full h = rw (← h) (or-true (ltb (length free) (needBy w.len many)))
+  stuck_full : true ≡ stuck_by w many → no_room_by w many free ≡ true
+  unfolding no_room_by
+  stuck_full h = rw (← h) (or_true (ltb (length free) (need_by w.len many)))
 
-  few-full : ltb (length free) (needBy w.len many) ≡ true → noRoomBy w many free ≡ true
-  unfolding noRoomBy
+  few-full : ltb (length free) (need_by w.len many) ≡ true → no_room_by w many free ≡ true
+  unfolding no_room_by
   few-full h = rw h refl
 
-  room-left : ltb (length free) (needBy w.len many) ≡ false → false ≡ stuckBy w many → noRoomBy w many free ≡ false
-  unfolding noRoomBy
+  room-left : ltb (length free) (need_by w.len many) ≡ false → false ≡ stuck_by w many → no_room_by w many free ≡ false
+  unfolding no_room_by
   room-left h q = rw h (sym q)
 
-  fewer : (x : Chosen) → x ≡ chosenBy s w → ltb x.count (needBy w.len many) ≡ ltb (length free) (needBy w.len many)
-  unfolding chosenBy
-  fewer x f = ap (λ (y : Chosen). ltb y.count (needBy w.len many)) f ∙ lowest-fewer (needBy w.len many) free
+  fewer : (x : Chosen) → x ≡ chosen_by s w → ltb x.count (need_by w.len many) ≡ ltb (length free) (need_by w.len many)
+  unfolding chosen_by
+  fewer x f = ap (λ (y : Chosen). ltb y.count (need_by w.len many)) f ∙ lowest_fewer (need_by w.len many) free
 
-  pub plan-present : Planned.Present ≡ planBy s true w
-  unfolding planBy
+  pub plan-present : Planned.Present ≡ plan_by s true w
+  unfolding plan_by
   plan-present = refl
 
-  pub plan-soon : true ≡ tooSoonBy s.c (take many (headsOf w)) → Planned.SyncFirst ≡ planBy s false w
-  unfolding planBy
-  plan-soon q = rw (← q, planBy)
+  pub plan_soon : true ≡ too_soon_by s.c (take many (heads_of w)) → Planned.SyncFirst ≡ plan_by s false w
+  unfolding plan_by
+  plan_soon q = rw (← q, plan_by)
 
-  module _ (q : false ≡ tooSoonBy s.c (take many (headsOf w))) where
-    plan-full : noRoomBy w many free ≡ true → Planned.Full ≡ planBy s false w
-    unfolding planBy
-    plan-full n = rw (← q, n, planBy)
+  module _ (q : false ≡ too_soon_by s.c (take many (heads_of w))) where
+    plan-full : no_room_by w many free ≡ true → Planned.Full ≡ plan_by s false w
+    unfolding plan_by
+    plan-full n = rw (← q, n, plan_by)
 
-    plan-room : noRoomBy w many free ≡ false → Planned.Go ≡ planBy s false w
-    unfolding planBy
-    plan-room n = rw (← q, n, planBy)
+    plan-room : no_room_by w many free ≡ false → Planned.Go ≡ plan_by s false w
+    unfolding plan_by
+    plan-room n = rw (← q, n, plan_by)
 
-    pub plan-stuck : true ≡ stuckBy w many → Planned.Full ≡ planBy s false w
-    plan-stuck h = plan-full (stuck-full h)
+    pub plan_stuck : true ≡ stuck_by w many → Planned.Full ≡ plan_by s false w
+    plan_stuck h = plan-full (stuck_full h)
 
-    module _ (x : Chosen) (f : x ≡ chosenBy s w) where
-      pub plan-few : x.count < needBy w.len many → Planned.Full ≡ planBy s false w
-      plan-few l = plan-full (few-full (sym (fewer x f) ∙ lt-ltb x.count (needBy w.len many) l))
+    module _ (x : Chosen) (f : x ≡ chosen_by s w) where
+      pub plan-few : x.count < need_by w.len many → Planned.Full ≡ plan_by s false w
+      plan-few l = plan-full (few-full (sym (fewer x f) ∙ lt-ltb x.count (need_by w.len many) l))
 
-      pub plan-go : false ≡ stuckBy w many → needBy w.len many ≤ x.count → Planned.Go ≡ planBy s false w
-      plan-go h l = plan-room (room-left (sym (fewer x f) ∙ le-ltb x.count (needBy w.len many) l) h)
+      pub plan_go : false ≡ stuck_by w many → need_by w.len many ≤ x.count → Planned.Go ≡ plan_by s false w
+      plan_go h l = plan-room (room-left (sym (fewer x f) ∙ le-ltb x.count (need_by w.len many) l) h)
 
 -- ── The numbers ─────────────────────────────────────────────────────────────────────────────────────────────────
 
 module _ (s : Session) (w : Way) where
-  pub chosen-asks : s.n ≤ mostPages → w.len ≤ 3 → (k : ℕ) → k ≡ splitsBy (headsOf w) → (x : Entered) → x ≡ entered_of w → (need : ℕ)
-      → need ≡ needBy w.len k → (s.n ≤ mostPages) × ((x.count ≤ 3) × (need ≤ 7))
+  pub chosen-asks : s.n ≤ most_pages → w.len ≤ 3 → (k : ℕ) → k ≡ splits_by (heads_of w) → (x : Entered) → x ≡ entered_of w → (need : ℕ)
+      → need ≡ need_by w.len k → (s.n ≤ most_pages) × ((x.count ≤ 3) × (need ≤ 7))
   chosen-asks a b k e x f need g =
       let z = splits-within w b k e in
       (a, (omega (arith, ap (λ (y : Entered). y.count) f), omega (arith, g, need-few w.len k (omega arith))))
 
-  pub chosen_of : (k : ℕ) → k ≡ splitsBy (headsOf w) → (x : Entered) → x ≡ entered_of w → (need : ℕ) → need ≡ needBy w.len k
-      → lowestOf need (freePages s (enteredBy x)) ≡ chosenBy s w
-  unfolding chosenBy
+  pub chosen_of : (k : ℕ) → k ≡ splits_by (heads_of w) → (x : Entered) → x ≡ entered_of w → (need : ℕ) → need ≡ need_by w.len k
+      → lowest_of need (free_pages s (entered_by x)) ≡ chosen_by s w
+  unfolding chosen_by
   chosen_of k e x f need g = rw (g, e, f)

@@ -6,8 +6,8 @@
 //
 // Below stand `way`, the pages entered, and `marks`, which chooses the lowest free numbers.
 ghost use Rattle.std.specs.Prelude.{◌≡◌, ◌≤◌, ◌<◌, take, get_or};
-ghost use Rattle.rules.specs.Layout.{mostPages};
-ghost use Rattle.plan.specs.Plan.{headsOf, fullBy, splitsBy, lateBy, tooSoonBy, entered_of, needBy, stuckBy, chosenBy, Planning, plan_of};
+ghost use Rattle.rules.specs.Layout.{most_pages};
+ghost use Rattle.plan.specs.Plan.{heads_of, full_by, splits_by, late_by, too_soon_by, entered_of, need_by, stuck_by, chosen_by, Planning, plan_of};
 
 use head::Head;
 use marks::{Chosen, Entered};
@@ -24,7 +24,7 @@ pub enum Planned {
 
 // A page that has no room for one entry more.
 pub fn is_full(head: Head) -> bool
-    ensures { result ≡ fullBy head }
+    ensures { result ≡ full_by head }
 {
     if head.kind == LEAF {
         return head.count >= LEAF_ROOM;
@@ -35,7 +35,7 @@ pub fn is_full(head: Head) -> bool
 // The header of a page on the way, the leaf's first.
 fn head_on(way: Way, i: usize) -> Head
     requires { (i < way.len) × (way.len ≤ 3) }
-    ensures { (d : Head) → result ≡ get_or (headsOf way) i d }
+    ensures { (d : Head) → result ≡ get_or (heads_of way) i d }
 {
     if i == 0 {
         return way.leaf.head;
@@ -49,7 +49,7 @@ fn head_on(way: Way, i: usize) -> Head
 // How many pages split.
 pub fn splits(way: Way) -> usize
     requires { way.len ≤ 3 }
-    ensures { result ≡ splitsBy (headsOf way) }
+    ensures { result ≡ splits_by (heads_of way) }
 {
     let mut i = 0;
     while i < way.len {
@@ -63,7 +63,7 @@ pub fn splits(way: Way) -> usize
 
 // An inner page that must not split before the next sync.
 fn is_late(c: u32, head: Head) -> bool
-    ensures { result ≡ lateBy c head }
+    ensures { result ≡ late_by c head }
 {
     if head.kind == LEAF {
         return false;
@@ -74,7 +74,7 @@ fn is_late(c: u32, head: Head) -> bool
 // One of the first pages of the way must not split yet.
 fn too_soon(c: u32, way: Way, splits: usize) -> bool
     requires { (splits ≤ way.len) × (way.len ≤ 3) }
-    ensures { result ≡ tooSoonBy c (take splits (headsOf way)) }
+    ensures { result ≡ too_soon_by c (take splits (heads_of way)) }
 {
     let mut i = 0;
     while i < splits {
@@ -89,7 +89,7 @@ fn too_soon(c: u32, way: Way, splits: usize) -> bool
 // Every page of the way splits, and the root has the highest kind.
 fn is_stuck(way: Way, splits: usize) -> bool
     requires { (1 ≤ way.len) × (way.len ≤ 3) }
-    ensures { result ≡ stuckBy way splits }
+    ensures { result ≡ stuck_by way splits }
 {
     if splits == way.len {
         let root = head_on(way, way.len - 1);
@@ -101,7 +101,7 @@ fn is_stuck(way: Way, splits: usize) -> bool
 // How many new pages there will be: two for each that splits, and a new root.
 fn need(way: Way, splits: usize) -> usize
     requires { splits ≤ 3 }
-    ensures { result ≡ needBy way.len splits }
+    ensures { result ≡ need_by way.len splits }
 {
     if splits == way.len {
         return 2 * splits + 1;
@@ -124,8 +124,8 @@ fn entered(way: Way) -> Entered
 
 // The numbers of the new pages, lowest first; fewer than are needed where fewer are free.
 pub fn choose(session: Session, way: Way) -> Chosen
-    requires { (session.n ≤ mostPages) × (way.len ≤ 3) }
-    ensures { result ≡ chosenBy session way }
+    requires { (session.n ≤ most_pages) × (way.len ≤ 3) }
+    ensures { result ≡ chosen_by session way }
 {
     let many = splits(way);
     marks::lowest(session, entered(way), need(way, many))

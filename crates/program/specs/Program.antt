@@ -6,9 +6,9 @@ use Rattle.rules.specs.Open.{opening}
 use Rattle.rules.specs.declared.Session.{Session}
 use Rattle.rules.specs.declared.Opened.{Opened}
 use Rattle.lines.specs.Line.{line_of}
-use Rattle.words.specs.Words.{newline, answerLine}
+use Rattle.words.specs.Words.{newline, answer_line}
 use Rattle.driver.specs.declared.Bench.{Bench}
-use Rattle.driver.specs.Acts.{benchBytes, acted, stepped, finished}
+use Rattle.driver.specs.Acts.{bench_bytes, acted, stepped, finished}
 
 -- ── Lines ───────────────────────────────────────────────────────────────────────────────────────────────────────
 
@@ -31,11 +31,11 @@ unfoldable pub printed : List (List ℕ) → Session → List ℕ → List ℕ �
 printed [] session w s = []
 printed (line ∷ more) session w s =
     let r = acted (line_of line) session w s in
-    answerLine r.answer ++ printed more r.session r.working r.stable
+    answer_line r.answer ++ printed more r.session r.working r.stable
 
 -- five pages, formatted and opened
 unfoldable pub started : Left Opened
-started = opening (replicate benchBytes 0) (format (replicate benchBytes 0) (replicate benchBytes 0)).stable
+started = opening (replicate bench_bytes 0) (format (replicate bench_bytes 0) (replicate bench_bytes 0)).stable
 
 unfoldable pub program : List ℕ → List ℕ
 program input = printed (lines_of input) started.session started.working started.stable
@@ -43,7 +43,7 @@ program input = printed (lines_of input) started.session started.working started
 -- ── The same, byte by byte ──────────────────────────────────────────────────────────────────────────────────────
 
 unfoldable pub shown : List ℕ → Bench → List ℕ → List ℕ → List ℕ
-shown [] m w s = answerLine (finished m w s).reply
+shown [] m w s = answer_line (finished m w s).reply
 shown (b ∷ bs) m w s =
     let r = stepped m b w s in
-    answerLine r.reply ++ shown bs r.bench r.working r.stable
+    answer_line r.reply ++ shown bs r.bench r.working r.stable

@@ -2,7 +2,7 @@
 use Rattle.std.specs.Prelude.{ℕ, ◌+◌, true, false, List, [], ◌∷◌, eqb}
 use Rattle.rules.specs.Report.{Reported, nothing}
 use Rattle.rules.specs.Call.{Left}
-use Rattle.rules.specs.Batch.{Between, between, itemNo, afterItem}
+use Rattle.rules.specs.Batch.{Between, between, item_no, after_item}
 use Rattle.rules.specs.declared.Session.{Session}
 use Rattle.rules.specs.declared.Item.{Item}
 use Rattle.exchange.specs.declared.Read.{Read}
@@ -28,16 +28,16 @@ abbrev pub beginning : List ℕ → Session → Running
 beginning w s = record { done = 0; stands = between w s nothing }
 
 -- one more, if it answered 0
-unfoldable pub oneDone : ℕ → ℕ → ℕ
-oneDone done answer = elim (eqb answer 0) [ true ↦ done + 1 | false ↦ done ]
+unfoldable pub one_done : ℕ → ℕ → ℕ
+one_done done answer = elim (eqb answer 0) [ true ↦ done + 1 | false ↦ done ]
 
 -- an item is inserted
-unfoldable pub oneMore : List ℕ → Running → Item → Running
-oneMore t m x = record { done = oneDone m.done (itemNo t m.stands x); stands = afterItem t m.stands x }
+unfoldable pub one_more : List ℕ → Running → Item → Running
+one_more t m x = record { done = one_done m.done (item_no t m.stands x); stands = after_item t m.stands x }
 
 unfoldable pub goes : List ℕ → Running → List Item → Running
 goes t m [] = m
-goes t m (x ∷ xs) = goes t (oneMore t m x) xs
+goes t m (x ∷ xs) = goes t (one_more t m x) xs
 
 -- what is handed back after all of them
 abbrev pub entered_of : Made → Reading

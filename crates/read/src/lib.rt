@@ -2,7 +2,7 @@
 //
 // `read_file` asks nothing. It tests lengths, then the whole file, before anything is entered; then each certificate,
 // in the file's order, is inserted into what those before it left, also after one that was refused, and those that are
-// done are counted. Answer, session, report and every byte lent are those of the rule `readFile`.
+// done are counted. Answer, session, report and every byte lent are those of the rule `read_file`.
 //
 // The file is read where it lies: no list is made of it, and the loop is bounded by its certificates.
 //
@@ -10,10 +10,10 @@
 // `numbers`.
 ghost use Rattle.std.specs.Prelude.{◌≡◌, ◌+◌, ◌<◌};
 ghost use Rattle.exchange.specs.Judged.{checked};
-ghost use Rattle.exchange.specs.Told.{certsIn};
-ghost use Rattle.exchange.specs.ReadFile.{asItem, asItems, readFile, readNo, readCount, read_place};
+ghost use Rattle.exchange.specs.Told.{certs_in};
+ghost use Rattle.exchange.specs.ReadFile.{as_item, as_items, read_file, read_no, read_count, read_place};
 ghost use Rattle.exchange.specs.declared.Checked.{Checked};
-ghost use Rattle.read.specs.Readings.{leaving, running, beginning, oneDone, oneMore, goes, entered_of};
+ghost use Rattle.read.specs.Readings.{leaving, running, beginning, one_done, one_more, goes, entered_of};
 
 use exchange::{Certificate, Checked, Read, Reading};
 use rules::{Report, Session};
@@ -29,7 +29,7 @@ pub struct Made {
 // One more is done, if it answered 0.
 fn counted(done: u32, answer: u32) -> u32
     requires { done + 1 < 4294967296 }
-    ensures { result ≡ oneDone done answer }
+    ensures { result ≡ one_done done answer }
 {
     if answer == 0 {
         return done + 1;
@@ -41,7 +41,7 @@ fn counted(done: u32, answer: u32) -> u32
 fn enter(working: &mut [u8], stable: &[u8], made: Made, certificate: Certificate) -> Made
     requires { made.done + 1 < 4294967296 }
     ensures { running result working.new
-        ≡ oneMore stable.now (running made working.old) (asItem certificate) }
+        ≡ one_more stable.now (running made working.old) (as_item certificate) }
 {
     let session = made.session;
     let before = made.report;
@@ -68,7 +68,7 @@ fn enter(working: &mut [u8], stable: &[u8], made: Made, certificate: Certificate
 fn enter_all(working: &mut [u8], stable: &[u8], session: Session, file: &[u8], count: u32) -> Made
     requires { checked file.now ≡ Checked.Good count }
     ensures { running result working.new
-        ≡ goes stable.now (beginning working.old session) (asItems (certsIn file.now)) }
+        ≡ goes stable.now (beginning working.old session) (as_items (certs_in file.now)) }
 {
     let mut made = Made {
         done: 0,
@@ -99,7 +99,7 @@ fn entered(made: Made) -> Reading
 
 pub fn read_file(working: &mut [u8], stable: &[u8], session: Session, file: &[u8]) -> Reading
     ensures { leaving result working.new stable.now
-        ≡ readFile working.old stable.now session file.now }
+        ≡ read_file working.old stable.now session file.now }
 {
     if !tables::lengths_for(session.n, working, stable) {
         return Reading {
@@ -122,7 +122,7 @@ pub fn read_file(working: &mut [u8], stable: &[u8], session: Session, file: &[u8
 // other answer.
 
 pub fn number(answer: Read) -> u32
-    ensures { result ≡ readNo answer }
+    ensures { result ≡ read_no answer }
 {
     match answer {
         Read::Done(_) => 0,
@@ -132,7 +132,7 @@ pub fn number(answer: Read) -> u32
 }
 
 pub fn done(answer: Read) -> u32
-    ensures { result ≡ readCount answer }
+    ensures { result ≡ read_count answer }
 {
     match answer {
         Read::Done(count) => count,

@@ -8,73 +8,73 @@ use mathlib.Core.Bool.{Bool, true, false}
 use mathlib.Core.List.{List, [], ◌∷◌, ◌++◌}
 use mathlib.Core.Option.{Option, some, none, none-ne-some}
 use borrow.Author.Tests.{eq-eqb, ne_eqb}
-use Rattle.rules.specs.Layout.{lastKey}
-use Rattle.rules.specs.Key.{key_of, goodParts}
+use Rattle.rules.specs.Layout.{last_key}
+use Rattle.rules.specs.Key.{key_of, good_parts}
 use Rattle.rules.specs.Entry.{find}
 use Rattle.rules.specs.Table.{fit0}
-use Rattle.rules.specs.Walk.{Step, certsAt, way_of}
+use Rattle.rules.specs.Walk.{Step, certs_at, way_of}
 use Rattle.rules.specs.Marks.{counted}
-use Rattle.rules.specs.Call.{Left, lengthsFor, lookedNo}
-use Rattle.rules.specs.Lookup.{foundIn, lookupLeft, lookupKey, lookup}
-use Rattle.rules.specs.History.{Event, inserts, State, latest, recordIn, content, gains, afterInsert, step, run, start, Proper, AllProper}
-use Rattle.rules.specs.Demand.{lookupNow, Serves, Demand3, OpenedTold}
+use Rattle.rules.specs.Call.{Left, lengths_for, looked_no}
+use Rattle.rules.specs.Lookup.{found_in, lookup_left, lookup_key, lookup}
+use Rattle.rules.specs.History.{Event, inserts, State, latest, record_in, content, gains, after_insert, step, run, start, Proper, AllProper}
+use Rattle.rules.specs.Demand.{lookup_now, Serves, Demand3, OpenedTold}
 use Rattle.rules.specs.declared.Session.{Session}
 use Rattle.rules.specs.declared.Inserted.{Inserted}
 use Rattle.rules.specs.declared.Looked.{Looked}
-use Rattle.rules.proofs.bytes.Keys.{modelOf-keyOf, serialOf-keyOf, issueOf-keyOf, keyOf-bound}
-use Rattle.rules.proofs.demand3.histories.Histories.{demand3, session-tells}
+use Rattle.rules.proofs.Bytes.Keys.{model_of-key_of, serial_of-key_of, issue_of-key_of, key_of-bound}
+use Rattle.rules.proofs.Demand3.Histories.Histories.{demand3, session-tells}
 use Rattle.reading.specs.Inserting.{inserted, Adds, InsertAdds}
-use Rattle.reading.specs.Agreeing.{answerFor}
+use Rattle.reading.specs.Agreeing.{answer_for}
 use Rattle.reading.proofs.Marking.{done-n}
-use Rattle.reading.proofs.Changes.{insert-done}
+use Rattle.reading.proofs.Changes.{insert_done_lem}
 
 -- ── What a lookup answers, by what it found ─────────────────────────────────────────────────────────────────────
 
-found-for : (k : ℕ) (steps : List Step) → foundIn k steps ≡ answerFor (recordIn (foundIn k steps))
-unfolding foundIn recordIn answerFor
-found-for k steps = go (find k (certsAt steps)) refl
+found_for : (k : ℕ) (steps : List Step) → found_in k steps ≡ answer_for (record_in (found_in k steps))
+unfolding found_in record_in answer_for
+found_for k steps = go (find k (certs_at steps)) refl
   where
-    go : (o : Option ℕ) → find k (certsAt steps) ≡ o → foundIn k steps ≡ answerFor (recordIn (foundIn k steps))
-    go none o = rw (foundIn, o)
-    go (some y) o = rw (foundIn, o)
+    go : (o : Option ℕ) → find k (certs_at steps) ≡ o → found_in k steps ≡ answer_for (record_in (found_in k steps))
+    go none o = rw (found_in, o)
+    go (some y) o = rw (found_in, o)
 
-key-for : (k : ℕ) (s : Session) (w t : List ℕ) → ((lookupKey k s w t).answer ≡ Looked.Damaged → ⊥)
-    → (lookupKey k s w t).answer ≡ answerFor (recordIn (lookupKey k s w t).answer)
-unfolding lookupKey lookupLeft
-key-for k s w t h = go (way_of s.n s.c k w).steps refl
+key_for : (k : ℕ) (s : Session) (w t : List ℕ) → ((lookup_key k s w t).answer ≡ Looked.Damaged → ⊥)
+    → (lookup_key k s w t).answer ≡ answer_for (record_in (lookup_key k s w t).answer)
+unfolding lookup_key lookup_left
+key_for k s w t h = go (way_of s.n s.c k w).steps refl
   where
     go : (o : Option (List Step)) → (way_of s.n s.c k w).steps ≡ o
-        → (lookupKey k s w t).answer ≡ answerFor (recordIn (lookupKey k s w t).answer)
-    go none o = absurd (h (rw (lookupKey, o)))
-    go (some steps) o = rw (lookupKey, o) (found-for k steps)
+        → (lookup_key k s w t).answer ≡ answer_for (record_in (lookup_key k s w t).answer)
+    go none o = absurd (h (rw (lookup_key, o)))
+    go (some steps) o = rw (lookup_key, o) (found_for k steps)
 
-module _ (w t : List ℕ) (s : Session) (model serial issue : ℕ) (l : lengthsFor s w t ≡ true) where
-  pub lookup-for : goodParts model serial issue ≡ true → ((lookup w t s model serial issue).answer ≡ Looked.Damaged → ⊥)
-      → (lookup w t s model serial issue).answer ≡ answerFor (recordIn (lookup w t s model serial issue).answer)
-  unfolding lookup lookupLeft
-  lookup-for g h = go (fit0 s.n w) refl
+module _ (w t : List ℕ) (s : Session) (model serial issue : ℕ) (l : lengths_for s w t ≡ true) where
+  pub lookup_for : good_parts model serial issue ≡ true → ((lookup w t s model serial issue).answer ≡ Looked.Damaged → ⊥)
+      → (lookup w t s model serial issue).answer ≡ answer_for (record_in (lookup w t s model serial issue).answer)
+  unfolding lookup lookup_left
+  lookup_for g h = go (fit0 s.n w) refl
     where
       go : (b : Bool) → fit0 s.n w ≡ b
-          → (lookup w t s model serial issue).answer ≡ answerFor (recordIn (lookup w t s model serial issue).answer)
+          → (lookup w t s model serial issue).answer ≡ answer_for (record_in (lookup w t s model serial issue).answer)
       go false o = absurd (h (rw (lookup, l, g, o)))
-      go true o = rw (lookup, l, g, o) (key-for (key_of model serial issue) s w t (λ e. h (rw (lookup, l, g, o) e)))
+      go true o = rw (lookup, l, g, o) (key_for (key_of model serial issue) s w t (λ e. h (rw (lookup, l, g, o) e)))
 
-  lookup-bad : goodParts model serial issue ≡ false → (lookup w t s model serial issue).answer ≡ Looked.BadKey
-  unfolding lookup lookupLeft
-  lookup-bad g = rw (lookup, l, g)
+  lookup_bad : good_parts model serial issue ≡ false → (lookup w t s model serial issue).answer ≡ Looked.BadKey
+  unfolding lookup lookup_left
+  lookup_bad g = rw (lookup, l, g)
 
 -- a lookup that finds something had tables of the right length
 found-lengths : (w t : List ℕ) (s : Session) (model serial issue x : ℕ) → (lookup w t s model serial issue).answer ≡ Looked.Found x
-    → lengthsFor s w t ≡ true
-unfolding lookup lookupLeft lookedNo
-found-lengths w t s model serial issue x h = go (lengthsFor s w t) refl
+    → lengths_for s w t ≡ true
+unfolding lookup lookup_left looked_no
+found-lengths w t s model serial issue x h = go (lengths_for s w t) refl
   where
-    go : (b : Bool) → lengthsFor s w t ≡ b → lengthsFor s w t ≡ true
+    go : (b : Bool) → lengths_for s w t ≡ b → lengths_for s w t ≡ true
     go true l = l
-    go false l = absurd (omega (arith, ap lookedNo (rw (lookup, l) at h)))
+    go false l = absurd (omega (arith, ap looked_no (rw (lookup, l) at h)))
 
-some-found : (a : Looked) (x : ℕ) → recordIn a ≡ some x → a ≡ Looked.Found x
-unfolding recordIn
+some-found : (a : Looked) (x : ℕ) → record_in a ≡ some x → a ≡ Looked.Found x
+unfolding record_in
 some-found (Looked.Found y) x h = cc
 some-found Looked.Length x h = absurd (none-ne-some x h)
 some-found Looked.BadKey x h = absurd (none-ne-some x h)
@@ -83,12 +83,12 @@ some-found Looked.Missing x h = absurd (none-ne-some x h)
 
 -- what a lookup of a key finds, by its parts
 pub content-of : (s : Session) (w t : List ℕ) (model serial issue : ℕ) → serial < 2 ^ 32 → issue < 2 ^ 16
-    → content s w t (key_of model serial issue) ≡ recordIn (lookup w t s model serial issue).answer
+    → content s w t (key_of model serial issue) ≡ record_in (lookup w t s model serial issue).answer
 unfolding content
-content-of s w t model serial issue a b = rw (modelOf-keyOf model serial issue a b, serialOf-keyOf model serial issue a b, issueOf-keyOf model serial issue a b)
+content-of s w t model serial issue a b = rw (model_of-key_of model serial issue a b, serial_of-key_of model serial issue a b, issue_of-key_of model serial issue a b)
 
-pub key-within : (model serial issue : ℕ) → model < 65536 → serial < 4294967296 → issue < 65536 → key_of model serial issue ≤ lastKey
-key-within model serial issue a b c = omega (arith, keyOf-bound model serial issue (omega arith) (omega arith) (omega arith))
+pub key-within : (model serial issue : ℕ) → model < 65536 → serial < 4294967296 → issue < 65536 → key_of model serial issue ≤ last_key
+key-within model serial issue a b c = omega (arith, key_of-bound model serial issue (omega arith) (omega arith) (omega arith))
 
 -- ── One event more ──────────────────────────────────────────────────────────────────────────────────────────────
 
@@ -97,14 +97,14 @@ unfolding run
 run-then [] e m = refl
 run-then (x ∷ h) e m = run-then h e (step x m)
 
-pub proper-then : (n : ℕ) (h : List Event) (e : Event) → AllProper n h → Proper n e → AllProper n (h ++ (e ∷ []))
+pub proper_then : (n : ℕ) (h : List Event) (e : Event) → AllProper n h → Proper n e → AllProper n (h ++ (e ∷ []))
 unfolding AllProper
-proper-then n [] e t y = (y, tt)
-proper-then n (x ∷ h) e t y = (t.0, proper-then n h e t.1 y)
+proper_then n [] e t y = (y, tt)
+proper_then n (x ∷ h) e t y = (t.0, proper_then n h e t.1 y)
 
-past-done : (k x : ℕ) (m : State) (r : Left Inserted) → r.answer ≡ Inserted.Done → (afterInsert k x m r).past ≡ gains k (some x) m.past
-unfolding afterInsert
-past-done k x m r h = rw (h, afterInsert)
+past-done : (k x : ℕ) (m : State) (r : Left Inserted) → r.answer ≡ Inserted.Done → (after_insert k x m r).past ≡ gains k (some x) m.past
+unfolding after_insert
+past-done k x m r h = rw (h, after_insert)
 
 pub gains-own : (k : ℕ) (state : Option ℕ) (past : ℕ → List (Option ℕ)) → latest (gains k state past k) ≡ state
 unfolding gains latest
@@ -115,40 +115,40 @@ unfolding gains latest
 gains-other k state j past d = rw (ne_eqb j k d, gains)
 
 -- a key whose last state is the same answers the same
-module _ (m r : State) (before : Serves m) (after : Serves r) (lengths : lengthsFor m.session m.working m.stable ≡ true)
-    (lengths' : lengthsFor r.session r.working r.stable ≡ true) (model serial issue : ℕ)
-    (wide-model : model < 65536) (wide-serial : serial < 4294967296) (wide-issue : issue < 65536)
+module _ (m r : State) (before : Serves m) (after : Serves r) (lengths : lengths_for m.session m.working m.stable ≡ true)
+    (lengths' : lengths_for r.session r.working r.stable ≡ true) (model serial issue : ℕ)
+    (wide_model : model < 65536) (wide_serial : serial < 4294967296) (wide_issue : issue < 65536)
     (same : latest (r.past (key_of model serial issue)) ≡ latest (m.past (key_of model serial issue))) where
   abbrev here : Looked
-  here = (lookupNow m model serial issue).answer
+  here = (lookup_now m model serial issue).answer
 
   abbrev there : Looked
-  there = (lookupNow r model serial issue).answer
+  there = (lookup_now r model serial issue).answer
 
-  same-record : recordIn there ≡ recordIn here
-  same-record =
-      let j-bound = key-within model serial issue wide-model wide-serial wide-issue in
+  same_record : record_in there ≡ record_in here
+  same_record =
+      let j-bound = key-within model serial issue wide_model wide_serial wide_issue in
       sym (content-of r.session r.working r.stable model serial issue (omega arith) (omega arith))
-      ∙ (after.looks-up (key_of model serial issue) j-bound
+      ∙ (after.looks_up (key_of model serial issue) j-bound
       ∙ (same
-      ∙ (sym (before.looks-up (key_of model serial issue) j-bound)
+      ∙ (sym (before.looks_up (key_of model serial issue) j-bound)
       ∙ content-of m.session m.working m.stable model serial issue (omega arith) (omega arith))))
 
   pub answer-stays : there ≡ here
-  answer-stays = go (goodParts model serial issue) refl
+  answer-stays = go (good_parts model serial issue) refl
     where
-      go : (g : Bool) → goodParts model serial issue ≡ g → there ≡ here
+      go : (g : Bool) → good_parts model serial issue ≡ g → there ≡ here
       go true g =
-          lookup-for r.working r.stable r.session model serial issue lengths' g (after.lookup-whole model serial issue)
-          ∙ (ap answerFor same-record
-          ∙ sym (lookup-for m.working m.stable m.session model serial issue lengths g (before.lookup-whole model serial issue)))
+          lookup_for r.working r.stable r.session model serial issue lengths' g (after.lookup_whole model serial issue)
+          ∙ (ap answer_for same_record
+          ∙ sym (lookup_for m.working m.stable m.session model serial issue lengths g (before.lookup_whole model serial issue)))
       go false g =
-          lookup-bad r.working r.stable r.session model serial issue lengths' g
-          ∙ sym (lookup-bad m.working m.stable m.session model serial issue lengths g)
+          lookup_bad r.working r.stable r.session model serial issue lengths' g
+          ∙ sym (lookup_bad m.working m.stable m.session model serial issue lengths g)
 
 -- ── The theorem ─────────────────────────────────────────────────────────────────────────────────────────────────
 
-module _ (m : State) (model serial issue x : ℕ) (wide-model : model < 65536) (wide-serial : serial < 4294967296) (wide-issue : issue < 65536)
+module _ (m : State) (model serial issue x : ℕ) (wide_model : model < 65536) (wide_serial : serial < 4294967296) (wide_issue : issue < 65536)
     (before : Serves m) (after : Serves (step (inserts model serial issue x) m)) (done : (inserted m model serial issue x).answer ≡ Inserted.Done) where
   abbrev k : ℕ
   k = key_of model serial issue
@@ -164,18 +164,18 @@ module _ (m : State) (model serial issue x : ℕ) (wide-model : model < 65536) (
   past-now j = ap (λ (p : ℕ → List (Option ℕ)). latest (p j)) (past-done k x m r done)
 
   own : (lookup r.working r.stable r.session model serial issue).answer ≡ Looked.Found x
-  unfolding step afterInsert
+  unfolding step after_insert
   own =
       some-found (lookup r.working r.stable r.session model serial issue).answer x
       (sym (content-of r.session r.working r.stable model serial issue (omega arith) (omega arith))
-      ∙ (after.looks-up k (key-within model serial issue wide-model wide-serial wide-issue) ∙ (past-now k ∙ gains-own k (some x) m.past)))
+      ∙ (after.looks_up k (key-within model serial issue wide_model wide_serial wide_issue) ∙ (past-now k ∙ gains-own k (some x) m.past)))
 
   others : (model' serial' issue' : ℕ) → model' < 65536 → serial' < 4294967296 → issue' < 65536 → key_of model' serial' issue' ≢ k
       → (lookup r.working r.stable r.session model' serial' issue').answer
       ≡ (lookup m.working m.stable m.session model' serial' issue').answer
-  unfolding step afterInsert
+  unfolding step after_insert
   others model' serial' issue' a b c d =
-      answer-stays m next before after (insert-done m.working m.stable m.session model serial issue x done).lengths
+      answer-stays m next before after (insert_done_lem m.working m.stable m.session model serial issue x done).lengths
       (found-lengths r.working r.stable r.session model serial issue x own) model' serial' issue' a b c
       (past-now (key_of model' serial' issue') ∙ gains-other k (some x) (key_of model' serial' issue') m.past d)
 
@@ -185,10 +185,10 @@ module _ (m : State) (model serial issue x : ℕ) (wide-model : model < 65536) (
 -- an insert that is done leaves the session's number of pages
 pub done-pages : (w s : List ℕ) (h : List Event) (model serial issue x : ℕ) → (inserted (run h (start w s)) model serial issue x).answer ≡ Inserted.Done
     → (run (h ++ (inserts model serial issue x ∷ [])) (start w s)).session.n ≡ (run h (start w s)).session.n
-unfolding step afterInsert
+unfolding step after_insert
 done-pages w s h model serial issue x done =
     let m = run h (start w s) in
-    let y = insert-done m.working m.stable m.session model serial issue x done in
+    let y = insert_done_lem m.working m.stable m.session model serial issue x done in
     ap (λ (q : State). q.session.n) (run-then h (inserts model serial issue x) (start w s))
     ∙ (ap (λ (q : Left Inserted). q.session.n) y.is
     ∙ done-n (key_of model serial issue) x (counted m.session) y.steps
@@ -205,4 +205,4 @@ insert-adds n w s l h t z model serial issue x a b c d done =
     e = inserts model serial issue x
 
     more : AllProper n (h ++ (e ∷ []))
-    more = proper-then n h e t (a, b, c, d)
+    more = proper_then n h e t (a, b, c, d)

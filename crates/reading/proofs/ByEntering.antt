@@ -12,27 +12,27 @@ use mathlib.Core.List.{List, [], ◌∷◌, ◌++◌, Memᴰ}
 use mathlib.Core.Option.{Option, some, none, none-ne-some}
 use lib.ListN.{length}
 use Rattle.fields.specs.Field.{Bytes}
-use Rattle.rules.specs.Layout.{pageSize, topKind}
+use Rattle.rules.specs.Layout.{page_size, top_kind}
 use Rattle.rules.specs.Test.{mem}
 use Rattle.rules.specs.Page.{View, Page}
-use Rattle.rules.specs.Table.{pages, goodLengths, fit0, read}
-use Rattle.rules.specs.Place.{rootPlace, kids, fits, mendable, cutView, mended, show}
+use Rattle.rules.specs.Table.{pages, good_lengths, fit0, read}
+use Rattle.rules.specs.Place.{root_place, kids, fits, mendable, cut_view, mended, show}
 use Rattle.rules.specs.Enter.{Entered, mend, enter}
-use Rattle.rules.specs.Tree.{Tree, broken, empty, join, sparedAt, here, treeEach, tree, tree_of, goodTree}
-use Rattle.rules.specs.Open.{openDone, opening}
+use Rattle.rules.specs.Tree.{Tree, broken, empty, join, spared_at, here, tree_each, tree, tree_of, good_tree}
+use Rattle.rules.specs.Open.{open_done, opening}
 use Rattle.rules.specs.declared.Place.{Place}
-use Rattle.rules.proofs.entries.Tests.{fails, not-both, mem-head, mem-cases, mem-nil, mem-left, mem-right}
-use Rattle.rules.proofs.entries.Asks.{kids-mem, kids-picked, kids-within}
-use Rattle.rules.proofs.bytes.Lengths.{pages-of, goodLengths-true}
-use Rattle.rules.proofs.bytes.Tables.{has-page, read-build-other}
-use Rattle.rules.proofs.demand3.ways.Sources.{show-found}
-use Rattle.rules.proofs.demand3.epochs.Opens.{tree-shown, spared-lost}
+use Rattle.rules.proofs.Entries.Tests.{fails, not_both, mem-head, mem_cases, mem-nil, mem-left, mem_right}
+use Rattle.rules.proofs.Entries.Asks.{kids-mem, kids_picked, kids-within}
+use Rattle.rules.proofs.Bytes.Lengths.{pages-of, good_lengths_true}
+use Rattle.rules.proofs.Bytes.Tables.{has-page, read-build-other}
+use Rattle.rules.proofs.Demand3.Ways.Sources.{show-found}
+use Rattle.rules.proofs.Demand3.Epochs.Opens.{tree-shown, spared-lost}
 use Rattle.enter.proofs.Mended.{Narrow, room-mended}
 use Rattle.enter.proofs.Stands.{Comes, stood, mends, stops, comes}
 use Rattle.way.proofs.Stood.{Ready, ready-root, ready-long, ready-bytes, ready-next, stood-here}
 use Rattle.answers.proofs.Deep.{enter-shows}
-use Rattle.reading.specs.ByEntering.{Seen, enterEach, enterAll, enteredTree, openingBy, OpeningEitherWay}
-use Rattle.reading.proofs.Joins.{bad-join, bad-twice, bad-spared, bad-broken, join-assoc, join-empty, empty-join}
+use Rattle.reading.specs.ByEntering.{Seen, enter_each, enter_all, entered_tree, opening_by, OpeningEitherWay}
+use Rattle.reading.proofs.Joins.{bad_join, bad_twice, bad_spared, bad_broken, join_assoc, join-empty, empty-join}
 
 module _ (n c : ℕ) (t : List ℕ) where
   -- ── What the copy shows of one place ────────────────────────────────────────────────────────────────────────────
@@ -41,8 +41,8 @@ module _ (n c : ℕ) (t : List ℕ) where
     fits-same : fits n e (read u e.child) ≡ fits n e (read t e.child)
     fits-same = ap (fits n e) child
 
-    spared-same : sparedAt n u e ≡ sparedAt n t e
-    unfolding sparedAt
+    spared-same : spared_at n u e ≡ spared_at n t e
+    unfolding spared_at
     spared-same = ap (λ (b : Bool). elim b [ true ↦ [] | false ↦ e.previous ∷ [] ]) fits-same
 
     here-same : (v : View) → here n u e v ≡ here n t e v
@@ -59,7 +59,7 @@ module _ (n c : ℕ) (t : List ℕ) where
     seen p q =
         elim (fits n e p) [
           | true ↦ some p.view
-          | false ↦ elim (mendable n e q) [ true ↦ some (cutView e.low e.high q.view) | false ↦ none ]
+          | false ↦ elim (mendable n e q) [ true ↦ some (cut_view e.low e.high q.view) | false ↦ none ]
         ]
 
     lost-same : read u e.previous ≡ read t e.previous → show n u e ≡ show n t e
@@ -83,55 +83,55 @@ module _ (n c : ℕ) (t : List ℕ) where
 
   module _ (level : ℕ) (above : List ℕ) (e : Place) (u : Seen) where
     all-damaged : (enter n c above u.table e).page ≡ none
-        → enterAll (suc level) n c above e u ≡ record { table = (enter n c above u.table e).table; tree = join u.tree broken }
-    unfolding enterAll
-    all-damaged h = rw (enterAll, h)
+        → enter_all (suc level) n c above e u ≡ record { table = (enter n c above u.table e).table; tree = join u.tree broken }
+    unfolding enter_all
+    all-damaged h = rw (enter_all, h)
 
     -- what was seen once a page is entered
     abbrev begun : Page → Seen
     begun p = record { table = (enter n c above u.table e).table; tree = join u.tree (here n u.table e p.view) }
 
     all-entered : (p : Page) → (enter n c above u.table e).page ≡ some p
-        → enterAll (suc level) n c above e u ≡ enterEach (enterAll level n c (e.child ∷ above)) (kids e p.view) (begun p)
-    unfolding enterAll
-    all-entered p h = rw (enterAll, h)
+        → enter_all (suc level) n c above e u ≡ enter_each (enter_all level n c (e.child ∷ above)) (kids e p.view) (begun p)
+    unfolding enter_all
+    all-entered p h = rw (enter_all, h)
 
   -- what is refused of what was seen stays so
   abbrev StaysBad : ℕ → Type 0
-  StaysBad level = (above : List ℕ) (e : Place) (u : Seen) → goodTree u.tree ≡ false → goodTree (enterAll level n c above e u).tree ≡ false
+  StaysBad level = (above : List ℕ) (e : Place) (u : Seen) → good_tree u.tree ≡ false → good_tree (enter_all level n c above e u).tree ≡ false
 
-  each-bad : (level : ℕ) → StaysBad level → (above : List ℕ) (es : List Place) (u : Seen) → goodTree u.tree ≡ false
-      → goodTree (enterEach (enterAll level n c above) es u).tree ≡ false
-  unfolding enterEach
-  each-bad level stays above [] u b = b
-  each-bad level stays above (e ∷ es) u b = each-bad level stays above es (enterAll level n c above e u) (stays above e u b)
+  each_bad : (level : ℕ) → StaysBad level → (above : List ℕ) (es : List Place) (u : Seen) → good_tree u.tree ≡ false
+      → good_tree (enter_each (enter_all level n c above) es u).tree ≡ false
+  unfolding enter_each
+  each_bad level stays above [] u b = b
+  each_bad level stays above (e ∷ es) u b = each_bad level stays above es (enter_all level n c above e u) (stays above e u b)
 
-  all-bad : (level : ℕ) → StaysBad level
-  unfolding enterAll
-  all-bad zero above e u b = bad-join u.tree broken b
-  all-bad (suc level) above e u b = go (enter n c above u.table e).page refl (each-bad level (all-bad level) (e.child ∷ above))
+  all_bad : (level : ℕ) → StaysBad level
+  unfolding enter_all
+  all_bad zero above e u b = bad_join u.tree broken b
+  all_bad (suc level) above e u b = go (enter n c above u.table e).page refl (each_bad level (all_bad level) (e.child ∷ above))
     where
       go : (o : Option Page) → (enter n c above u.table e).page ≡ o
-          → ((es : List Place) (y : Seen) → goodTree y.tree ≡ false
-          → goodTree (enterEach (enterAll level n c (e.child ∷ above)) es y).tree ≡ false)
-          → goodTree (enterAll (suc level) n c above e u).tree ≡ false
-      go none h ih = rw (all-damaged level above e u h) (bad-broken u.tree)
+          → ((es : List Place) (y : Seen) → good_tree y.tree ≡ false
+          → good_tree (enter_each (enter_all level n c (e.child ∷ above)) es y).tree ≡ false)
+          → good_tree (enter_all (suc level) n c above e u).tree ≡ false
+      go none h ih = rw (all-damaged level above e u h) (bad_broken u.tree)
       go (some p) h ih =
           rw (all-entered level above e u p h)
-          (ih (kids e p.view) (begun level above e u p) (bad-join u.tree (here n u.table e p.view) b))
+          (ih (kids e p.view) (begun level above e u p) (bad_join u.tree (here n u.table e p.view) b))
 
   -- ── Both ways so far ────────────────────────────────────────────────────────────────────────────────────────────
 
   -- the same was seen, and the copy has changed at numbers named as child only
   record Going (x : Tree) (u : Seen) : Type 0 where
     same : u.tree ≡ x
-    long : length u.table ≡ n * pageSize
+    long : length u.table ≡ n * page_size
     bytes : Bytes u.table
     others : (i : ℕ) → mem i x.children ≡ false → read u.table i ≡ read t i
 
   data Both (x : Tree) (u : Seen) : Type 0 where
     going : Going x u → Both x u
-    refused : goodTree x ≡ false → goodTree u.tree ≡ false → Both x u
+    refused : good_tree x ≡ false → good_tree u.tree ≡ false → Both x u
 
   -- a place that a page of the table asks for
   record Known (e : Place) : Type 0 where
@@ -154,20 +154,20 @@ module _ (n c : ℕ) (t : List ℕ) where
       long = g.long;
       bytes = g.bytes;
       narrow = k.narrow;
-      child-from = k.from;
-      child-below = k.below;
+      child_from = k.from;
+      child_below = k.below;
       low = low;
       high = high;
     }
 
-    kid-known : (above : List ℕ) (p : Page) → (enter n c above u.table e).page ≡ some p → (d : Place) → Memᴰ d (kids e p.view) → Known d
-    kid-known above p h d m =
+    kid_known : (above : List ℕ) (p : Page) → (enter n c above u.table e).page ≡ some p → (d : Place) → Memᴰ d (kids e p.view) → Known d
+    kid_known above p h d m =
         let s = (stood-here (ready e.low (omega arith) k.range) above p h).fits.sound in
         let a = kids-mem e s d m in
         let w = kids-within e s d a in
-        let q = kids-picked e s d.low d a (omega arith) a.range in
+        let q = kids_picked e s d.low d a (omega arith) a.range in
         let z = ready-next (ready d.low w.0 (omega (arith, a.range, w.1))) above p h d q in
-        record { narrow = z.narrow; from = z.child-from; below = z.child-below; range = a.range }
+        record { narrow = z.narrow; from = z.child_from; below = z.child_below; range = a.range }
 
     enter-others : (above : List ℕ) (i : ℕ) → i ≢ e.child → read (enter n c above u.table e).table i ≡ read u.table i
     enter-others above i d = go (enter n c above u.table e) (comes n c above u.table e)
@@ -192,64 +192,64 @@ module _ (n c : ℕ) (t : List ℕ) where
         bytes = ready-bytes (ready e.low (omega arith) k.range) above;
         others = λ i m.
             enter-others above i
-            (λ q. not-both (mem-right i x.children (e.child ∷ []) (ap (λ (j : ℕ). mem j (e.child ∷ [])) q ∙ mem-head e.child [])) m)
-            ∙ g.others i (fails (mem i x.children) (λ y. not-both (mem-left i x.children (e.child ∷ []) y) m));
+            (λ q. not_both (mem_right i x.children (e.child ∷ []) (ap (λ (j : ℕ). mem j (e.child ∷ [])) q ∙ mem-head e.child [])) m)
+            ∙ g.others i (fails (mem i x.children) (λ y. not_both (mem-left i x.children (e.child ∷ []) y) m));
       }
 
       named_here : Named above x → (v : View) → Named (e.child ∷ above) (join x (here n t e v))
       unfolding join here
-      named_here m v i h = go (mem-cases i e.child above h)
+      named_here m v i h = go (mem_cases i e.child above h)
         where
           go : (i ≡ e.child) ⊎ (mem i above ≡ true) → mem i (x.children ++ (e.child ∷ [])) ≡ true
-          go (inl q) = mem-right i x.children (e.child ∷ []) (ap (λ (j : ℕ). mem j (e.child ∷ [])) q ∙ mem-head e.child [])
+          go (inl q) = mem_right i x.children (e.child ∷ []) (ap (λ (j : ℕ). mem j (e.child ∷ [])) q ∙ mem-head e.child [])
           go (inr o) = mem-left i x.children (e.child ∷ []) (m i o)
 
     -- ── The next place, where one of its numbers was named before ───────────────────────────────────────────────────
 
     module _ (level : ℕ) (above : List ℕ) where
       -- refused both ways, if what is shown there is refused
-      refused-there : ((v : View) → show n t e ≡ some v → goodTree (join x (tree (suc level) n t e)) ≡ false)
-          → ((p : Page) → goodTree (join u.tree (here n u.table e p.view)) ≡ false)
-          → Both (join x (tree (suc level) n t e)) (enterAll (suc level) n c above e u)
-      refused-there f h = refused (stands (show n t e) refl) (entered (enter n c above u.table e).page refl)
+      refused_there : ((v : View) → show n t e ≡ some v → good_tree (join x (tree (suc level) n t e)) ≡ false)
+          → ((p : Page) → good_tree (join u.tree (here n u.table e p.view)) ≡ false)
+          → Both (join x (tree (suc level) n t e)) (enter_all (suc level) n c above e u)
+      refused_there f h = refused (stands (show n t e) refl) (entered (enter n c above u.table e).page refl)
         where
-          stands : (o : Option View) → show n t e ≡ o → goodTree (join x (tree (suc level) n t e)) ≡ false
-          stands none s = rw (tree-none level e s) (bad-broken x)
+          stands : (o : Option View) → show n t e ≡ o → good_tree (join x (tree (suc level) n t e)) ≡ false
+          stands none s = rw (tree-none level e s) (bad_broken x)
           stands (some v) s = f v s
 
-          entered : (o : Option Page) → (enter n c above u.table e).page ≡ o → goodTree (enterAll (suc level) n c above e u).tree ≡ false
-          entered none q = rw (all-damaged level above e u q) (bad-broken u.tree)
+          entered : (o : Option Page) → (enter n c above u.table e).page ≡ o → good_tree (enter_all (suc level) n c above e u).tree ≡ false
+          entered none q = rw (all-damaged level above e u q) (bad_broken u.tree)
           entered (some p) q =
               rw (all-entered level above e u p q)
-              (each-bad level (all-bad level) (e.child ∷ above) (kids e p.view) (begun level above e u p) (h p))
+              (each_bad level (all_bad level) (e.child ∷ above) (kids e p.view) (begun level above e u p) (h p))
 
-      child-there : (v : View) → show n t e ≡ some v → mem e.child (tree (suc level) n t e).children ≡ true
+      child_there : (v : View) → show n t e ≡ some v → mem e.child (tree (suc level) n t e).children ≡ true
       unfolding join here
-      child-there v s =
+      child_there v s =
           ap (λ (y : Tree). mem e.child y.children) (tree-shown level n t e v s)
-          ∙ mem-left e.child (e.child ∷ []) (treeEach (tree level n t) (kids e v)).children (mem-head e.child [])
+          ∙ mem-left e.child (e.child ∷ []) (tree_each (tree level n t) (kids e v)).children (mem-head e.child [])
 
-      previous-there : fits n e (read t e.child) ≡ false → (v : View) → show n t e ≡ some v
+      previous_there : fits n e (read t e.child) ≡ false → (v : View) → show n t e ≡ some v
           → mem e.previous (tree (suc level) n t e).spared ≡ true
       unfolding join here
-      previous-there l v s =
+      previous_there l v s =
           ap (λ (y : Tree). mem e.previous y.spared) (tree-shown level n t e v s)
-          ∙ mem-left e.previous (sparedAt n t e) (treeEach (tree level n t) (kids e v)).spared
+          ∙ mem-left e.previous (spared_at n t e) (tree_each (tree level n t) (kids e v)).spared
           (ap (mem e.previous) (spared-lost n t e l) ∙ mem-head e.previous [])
 
-      named-before : mem e.child x.children ≡ true → Both (join x (tree (suc level) n t e)) (enterAll (suc level) n c above e u)
+      named-before : mem e.child x.children ≡ true → Both (join x (tree (suc level) n t e)) (enter_all (suc level) n c above e u)
       unfolding here
       named-before m =
-          refused-there (λ v s. bad-twice x (tree (suc level) n t e) e.child m (child-there v s))
-          (λ p. bad-twice u.tree (here n u.table e p.view) e.child
+          refused_there (λ v s. bad_twice x (tree (suc level) n t e) e.child m (child_there v s))
+          (λ p. bad_twice u.tree (here n u.table e p.view) e.child
           (ap (λ (y : Tree). mem e.child y.children) g.same ∙ m) (mem-head e.child []))
 
       spared-before : read u.table e.child ≡ read t e.child → fits n e (read t e.child) ≡ false
-          → mem e.previous x.children ≡ true → Both (join x (tree (suc level) n t e)) (enterAll (suc level) n c above e u)
+          → mem e.previous x.children ≡ true → Both (join x (tree (suc level) n t e)) (enter_all (suc level) n c above e u)
       unfolding here
       spared-before child l m =
-          refused-there (λ v s. bad-spared x (tree (suc level) n t e) e.previous m (previous-there l v s))
-          (λ p. bad-spared u.tree (here n u.table e p.view) e.previous
+          refused_there (λ v s. bad_spared x (tree (suc level) n t e) e.previous m (previous_there l v s))
+          (λ p. bad_spared u.tree (here n u.table e p.view) e.previous
           (ap (λ (y : Tree). mem e.previous y.children) g.same ∙ m)
           (ap (mem e.previous) (spared-same u.table e child ∙ spared-lost n t e l) ∙ mem-head e.previous []))
 
@@ -258,51 +258,51 @@ module _ (n c : ℕ) (t : List ℕ) where
   abbrev Goes : ℕ → Type 0
   Goes level =
       (above : List ℕ) (e : Place) (x : Tree) (u : Seen) → Known e → Going x u → Named above x
-      → Both (join x (tree level n t e)) (enterAll level n c above e u)
+      → Both (join x (tree level n t e)) (enter_all level n c above e u)
 
   each : (level : ℕ) → Goes level → (above : List ℕ) (es : List Place) → ((d : Place) → Memᴰ d es → Known d)
       → (x : Tree) (u : Seen) → Both x u → Named above x
-      → Both (join x (treeEach (tree level n t) es)) (enterEach (enterAll level n c above) es u)
-  unfolding treeEach enterEach
+      → Both (join x (tree_each (tree level n t) es)) (enter_each (enter_all level n c above) es u)
+  unfolding tree_each enter_each
   each level goes above [] k x u b m = subst (λ (y : Tree). Both y u) (sym (join-empty x)) b
   each level goes above (e ∷ es) k x u (refused p q) m =
-      refused (bad-join x (join (tree level n t e) (treeEach (tree level n t) es)) p)
-      (each-bad level (all-bad level) above es (enterAll level n c above e u) (all-bad level above e u q))
+      refused (bad_join x (join (tree level n t e) (tree_each (tree level n t) es)) p)
+      (each_bad level (all_bad level) above es (enter_all level n c above e u) (all_bad level above e u q))
   each level goes above (e ∷ es) k x u (going g) m =
-      subst (λ (y : Tree). Both y (enterEach (enterAll level n c above) es (enterAll level n c above e u)))
-      (join-assoc x (tree level n t e) (treeEach (tree level n t) es))
-      (each level goes above es (λ d o. k d (Memᴰ.tail o)) (join x (tree level n t e)) (enterAll level n c above e u)
+      subst (λ (y : Tree). Both y (enter_each (enter_all level n c above) es (enter_all level n c above e u)))
+      (join_assoc x (tree level n t e) (tree_each (tree level n t) es))
+      (each level goes above es (λ d o. k d (Memᴰ.tail o)) (join x (tree level n t e)) (enter_all level n c above e u)
       (goes above e x u (k e (Memᴰ.head refl)) g m) (named-join above x (tree level n t e) m))
 
   -- both see the same there
   goes_on : (level : ℕ) → Goes level → (above : List ℕ) (e : Place) (x : Tree) (u : Seen) → Known e → Going x u → Named above x
       → mem e.child x.children ≡ false → read u.table e.child ≡ read t e.child → show n u.table e ≡ show n t e
-      → Both (join x (tree (suc level) n t e)) (enterAll (suc level) n c above e u)
+      → Both (join x (tree (suc level) n t e)) (enter_all (suc level) n c above e u)
   goes_on level goes above e x u k g m new child sees = go (enter n c above u.table e).page refl
     where
       apart : mem e.child above ≡ false
-      apart = fails (mem e.child above) (λ y. not-both (m e.child y) new)
+      apart = fails (mem e.child above) (λ y. not_both (m e.child y) new)
 
       go : (o : Option Page) → (enter n c above u.table e).page ≡ o
-          → Both (join x (tree (suc level) n t e)) (enterAll (suc level) n c above e u)
+          → Both (join x (tree (suc level) n t e)) (enter_all (suc level) n c above e u)
       go none h =
-          refused (rw (tree-none level e (sym sees ∙ none-shows above u.table e apart h)) (bad-broken x))
-          (rw (all-damaged level above e u h) (bad-broken u.tree))
+          refused (rw (tree-none level e (sym sees ∙ none-shows above u.table e apart h)) (bad_broken x))
+          (rw (all-damaged level above e u h) (bad_broken u.tree))
       go (some p) h =
           let s : show n t e ≡ some p.view = sym sees ∙ enter-shows n c above u.table e p h in
           rw (all-entered level above e u p h, tree-shown level n t e p.view s)
-          (subst (λ (y : Tree). Both y (enterEach (enterAll level n c (e.child ∷ above)) (kids e p.view) (begun level above e u p)))
-          (join-assoc x (here n t e p.view) (treeEach (tree level n t) (kids e p.view)))
-          (each level goes (e.child ∷ above) (kids e p.view) (kid-known g k above p h) (join x (here n t e p.view))
+          (subst (λ (y : Tree). Both y (enter_each (enter_all level n c (e.child ∷ above)) (kids e p.view) (begun level above e u p)))
+          (join_assoc x (here n t e p.view) (tree_each (tree level n t) (kids e p.view)))
+          (each level goes (e.child ∷ above) (kids e p.view) (kid_known g k above p h) (join x (here n t e p.view))
           (begun level above e u p) (going (begun-going g k level above child p)) (named_here g k level above child m p.view)))
 
   goes-all : (level : ℕ) → Goes level
-  unfolding tree enterAll
-  goes-all zero above e x u k g m = refused (bad-broken x) (bad-broken u.tree)
+  unfolding tree enter_all
+  goes-all zero above e x u k g m = refused (bad_broken x) (bad_broken u.tree)
   goes-all (suc level) above e x u k g m = at (mem e.child x.children) refl (goes_on level (goes-all level) above e x u k g m)
     where
       Goal : Type 0
-      Goal = Both (join x (tree (suc level) n t e)) (enterAll (suc level) n c above e u)
+      Goal = Both (join x (tree (suc level) n t e)) (enter_all (suc level) n c above e u)
 
       lost : read u.table e.child ≡ read t e.child → fits n e (read t e.child) ≡ false
           → (read u.table e.child ≡ read t e.child → show n u.table e ≡ show n t e → Goal)
@@ -323,66 +323,66 @@ module _ (n c : ℕ) (t : List ℕ) where
       at false q on = fitting (g.others e.child q) (on q) (fits n e (read t e.child)) refl
 
   -- refused both ways, or the same tree
-  pub either_way : length t ≡ n * pageSize → fit0 n t ≡ true → Bytes t → c < 256 ^ 4
-      → (enteredTree n c t ≡ tree_of n t) ⊎ ((goodTree (tree_of n t) ≡ false) × (goodTree (enteredTree n c t) ≡ false))
-  unfolding enteredTree tree_of empty
-  either_way l f b m = go (goes-all topKind [] (rootPlace t) empty (record { table = t; tree = empty }) known start (λ i h. absurd (mem-nil i h)))
+  pub either_way : length t ≡ n * page_size → fit0 n t ≡ true → Bytes t → c < 256 ^ 4
+      → (entered_tree n c t ≡ tree_of n t) ⊎ ((good_tree (tree_of n t) ≡ false) × (good_tree (entered_tree n c t) ≡ false))
+  unfolding entered_tree tree_of empty
+  either_way l f b m = go (goes-all top_kind [] (root_place t) empty (record { table = t; tree = empty }) known start (λ i h. absurd (mem-nil i h)))
     where
-      z : Ready n c 0 t (rootPlace t)
+      z : Ready n c 0 t (root_place t)
       z = ready-root n c 0 t l f b m (omega arith)
 
-      known : Known (rootPlace t)
-      known = record { narrow = z.narrow; from = z.child-from; below = z.child-below; range = omega (arith, z.low, z.high) }
+      known : Known (root_place t)
+      known = record { narrow = z.narrow; from = z.child_from; below = z.child_below; range = omega (arith, z.low, z.high) }
 
       start : Going empty (record { table = t; tree = empty })
       start = record { same = refl; long = l; bytes = b; others = λ i h. refl }
 
-      go : Both (join empty (tree_of n t)) (enterAll topKind n c [] (rootPlace t) (record { table = t; tree = empty }))
-          → (enteredTree n c t ≡ tree_of n t) ⊎ ((goodTree (tree_of n t) ≡ false) × (goodTree (enteredTree n c t) ≡ false))
+      go : Both (join empty (tree_of n t)) (enter_all top_kind n c [] (root_place t) (record { table = t; tree = empty }))
+          → (entered_tree n c t ≡ tree_of n t) ⊎ ((good_tree (tree_of n t) ≡ false) × (good_tree (entered_tree n c t) ≡ false))
       go (going g) = inl (g.same ∙ empty-join (tree_of n t))
-      go (refused p q) = inr (ap goodTree (sym (empty-join (tree_of n t))) ∙ p, q)
+      go (refused p q) = inr (ap good_tree (sym (empty-join (tree_of n t))) ∙ p, q)
 
 -- ── Opening ─────────────────────────────────────────────────────────────────────────────────────────────────────
 
 module _ (w s : List ℕ) where
-  as-it-stands : openingBy (tree_of (pages s) s) w s ≡ opening w s
-  unfolding openingBy opening openDone
-  as-it-stands = refl
+  as_it_stands : opening_by (tree_of (pages s) s) w s ≡ opening w s
+  unfolding opening_by opening open_done
+  as_it_stands = refl
 
-  unfit : (x : Tree) → goodLengths w s ≡ true → fit0 (pages s) s ≡ false → openingBy x w s ≡ openingBy (tree_of (pages s) s) w s
-  unfolding openingBy
-  unfit x l f = rw (openingBy, l, f)
+  unfit : (x : Tree) → good_lengths w s ≡ true → fit0 (pages s) s ≡ false → opening_by x w s ≡ opening_by (tree_of (pages s) s) w s
+  unfolding opening_by
+  unfit x l f = rw (opening_by, l, f)
 
-  both-refused : (x : Tree) → goodLengths w s ≡ true → fit0 (pages s) s ≡ true → goodTree x ≡ false → goodTree (tree_of (pages s) s) ≡ false
-      → openingBy x w s ≡ openingBy (tree_of (pages s) s) w s
-  unfolding openingBy
-  both-refused x l f p q = rw (openingBy, l, f, p, q)
+  both-refused : (x : Tree) → good_lengths w s ≡ true → fit0 (pages s) s ≡ true → good_tree x ≡ false → good_tree (tree_of (pages s) s) ≡ false
+      → opening_by x w s ≡ opening_by (tree_of (pages s) s) w s
+  unfolding opening_by
+  both-refused x l f p q = rw (opening_by, l, f, p, q)
 
-  short : (x : Tree) → goodLengths w s ≡ false → openingBy x w s ≡ openingBy (tree_of (pages s) s) w s
-  unfolding openingBy
-  short x l = rw (openingBy, l)
+  short : (x : Tree) → good_lengths w s ≡ false → opening_by x w s ≡ opening_by (tree_of (pages s) s) w s
+  unfolding opening_by
+  short x l = rw (opening_by, l)
 
   module _ (b : Bytes s) (c : ℕ) (m : c < 256 ^ 4) where
-    same-opening : openingBy (enteredTree (pages s) c s) w s ≡ openingBy (tree_of (pages s) s) w s
-    same-opening = go (goodLengths w s) refl (fit0 (pages s) s) refl
+    same-opening : opening_by (entered_tree (pages s) c s) w s ≡ opening_by (tree_of (pages s) s) w s
+    same-opening = go (good_lengths w s) refl (fit0 (pages s) s) refl
       where
-        alike : goodLengths w s ≡ true → fit0 (pages s) s ≡ true → (enteredTree (pages s) c s ≡ tree_of (pages s) s)
-            ⊎ ((goodTree (tree_of (pages s) s) ≡ false) × (goodTree (enteredTree (pages s) c s) ≡ false))
-            → openingBy (enteredTree (pages s) c s) w s ≡ openingBy (tree_of (pages s) s) w s
-        alike p f (inl q) = ap (λ (x : Tree). openingBy x w s) q
-        alike p f (inr q) = both-refused (enteredTree (pages s) c s) p f q.1 q.0
+        alike : good_lengths w s ≡ true → fit0 (pages s) s ≡ true → (entered_tree (pages s) c s ≡ tree_of (pages s) s)
+            ⊎ ((good_tree (tree_of (pages s) s) ≡ false) × (good_tree (entered_tree (pages s) c s) ≡ false))
+            → opening_by (entered_tree (pages s) c s) w s ≡ opening_by (tree_of (pages s) s) w s
+        alike p f (inl q) = ap (λ (x : Tree). opening_by x w s) q
+        alike p f (inr q) = both-refused (entered_tree (pages s) c s) p f q.1 q.0
 
-        long : goodLengths w s ≡ true → length s ≡ pages s * pageSize
+        long : good_lengths w s ≡ true → length s ≡ pages s * page_size
         long p =
-            let l = goodLengths-true w s p in
-            l.stable ∙ ap (λ (i : ℕ). i * pageSize) (sym (pages-of s (pages w) l.stable))
+            let l = good_lengths_true w s p in
+            l.stable ∙ ap (λ (i : ℕ). i * page_size) (sym (pages-of s (pages w) l.stable))
 
-        go : (x : Bool) → goodLengths w s ≡ x → (y : Bool) → fit0 (pages s) s ≡ y
-            → openingBy (enteredTree (pages s) c s) w s ≡ openingBy (tree_of (pages s) s) w s
-        go false p y f = short (enteredTree (pages s) c s) p
-        go true p false f = unfit (enteredTree (pages s) c s) p f
+        go : (x : Bool) → good_lengths w s ≡ x → (y : Bool) → fit0 (pages s) s ≡ y
+            → opening_by (entered_tree (pages s) c s) w s ≡ opening_by (tree_of (pages s) s) w s
+        go false p y f = short (entered_tree (pages s) c s) p
+        go true p false f = unfit (entered_tree (pages s) c s) p f
         go true p true f = alike p f (either_way (pages s) c s (long p) f b m)
 
 pub opening-either-way : OpeningEitherWay
 unfolding OpeningEitherWay
-opening-either-way w s b c m = same-opening w s b c m ∙ as-it-stands w s
+opening-either-way w s b c m = same-opening w s b c m ∙ as_it_stands w s

@@ -9,22 +9,22 @@ use mathlib.Core.Option.{Option, some, none, some-injective, none-ne-some}
 use lib.Dec.{eqb}
 use borrow.Author.Tests.{eqb-true, eqb-false}
 use Rattle.rules.specs.Test.{all}
-use Rattle.rules.specs.Key.{key_of, goodParts, goodKey}
+use Rattle.rules.specs.Key.{key_of, good_parts, good_key}
 use Rattle.rules.specs.Entry.{Cert, find}
-use Rattle.rules.specs.Page.{View, Page, isLeaf, fresh}
+use Rattle.rules.specs.Page.{View, Page, is_leaf, fresh}
 use Rattle.rules.specs.Table.{read, fit0}
-use Rattle.rules.specs.Place.{kids, pick, cutView, mended}
+use Rattle.rules.specs.Place.{kids, pick, cut_view, mended}
 use Rattle.rules.specs.Enter.{Entered, enter}
-use Rattle.rules.specs.Walk.{Step, numbers, certsAt, descend, way_of}
-use Rattle.rules.specs.Call.{lengthsFor, lookedNo}
-use Rattle.rules.specs.Lookup.{foundIn, lookupLeft, lookupKey, lookup}
+use Rattle.rules.specs.Walk.{Step, numbers, certs_at, descend, way_of}
+use Rattle.rules.specs.Call.{lengths_for, looked_no}
+use Rattle.rules.specs.Lookup.{found_in, lookup_left, lookup_key, lookup}
 use Rattle.rules.specs.declared.Place.{Place}
 use Rattle.rules.specs.declared.Session.{Session}
 use Rattle.rules.specs.declared.Looked.{Looked}
-use Rattle.rules.proofs.bytes.Keys.{modelOf-keyOf, serialOf-keyOf, issueOf-keyOf}
-use Rattle.rules.proofs.entries.Entries.{find_head, find-tail, all-cut}
-use Rattle.rules.proofs.entries.Places.{fits-true, mendable-true}
-use Rattle.rules.proofs.entries.Views.{Shaped, shaped-read, shaped-cut}
+use Rattle.rules.proofs.Bytes.Keys.{model_of-key_of, serial_of-key_of, issue_of-key_of}
+use Rattle.rules.proofs.Entries.Entries.{find_head, find_tail, all-cut}
+use Rattle.rules.proofs.Entries.Places.{fits_true, mendable_true}
+use Rattle.rules.proofs.Entries.Views.{Shaped, shaped-read, shaped-cut}
 use Rattle.enter.proofs.Stands.{Comes, stood, mends, stops, comes}
 use Rattle.reading.specs.Reading.{LookupExact}
 
@@ -52,14 +52,14 @@ find-held k x (y ∷ ys) h = go (eqb k y.key) refl (find-held k x ys)
           value = some-injective y.value x (sym (find_head k y ys q) ∙ h);
         }
     go false e ih =
-        let r = ih (sym (find-tail k y ys (eqb-false k y.key e)) ∙ h) in
+        let r = ih (sym (find_tail k y ys (eqb-false k y.key e)) ∙ h) in
         record { entry = r.entry; held = Memᴰ.tail r.held; key = r.key; value = r.value }
 
 -- a page that holds certificates is a leaf
-pub holds-leaf : (v : View) (x : Cert) → Shaped v → Memᴰ x v.certs → isLeaf v ≡ true
-holds-leaf v x s m = go (isLeaf v) refl
+pub holds-leaf : (v : View) (x : Cert) → Shaped v → Memᴰ x v.certs → is_leaf v ≡ true
+holds-leaf v x s m = go (is_leaf v) refl
   where
-    go : (b : Bool) → isLeaf v ≡ b → isLeaf v ≡ true
+    go : (b : Bool) → is_leaf v ≡ b → is_leaf v ≡ true
     go true e = e
     go false e = absurd (Memᴰ.not-nil (subst (Memᴰ x) (s.inner e) m))
 
@@ -81,10 +81,10 @@ shaped-entered r (stops g) p q = absurd (none-ne-some p (sym (ap (λ (y : Entere
 
 -- and its certificates have good keys
 abbrev pub Good : Cert → Bool
-Good x = goodKey x.key
+Good x = good_key x.key
 
 good-mended : (c : ℕ) (e : Place) (q : Page) → all Good q.view.certs ≡ true → all Good (mended c e q).view.certs ≡ true
-unfolding mended fresh cutView
+unfolding mended fresh cut_view
 good-mended c e q g = all-cut Good e.low e.high q.view.certs g
 
 pub good-entered : {n c : ℕ} {above t : List ℕ} {e : Place} (r : Entered) → Comes n c above t e r → (p : Page) → r.page ≡ some p
@@ -92,11 +92,11 @@ pub good-entered : {n c : ℕ} {above t : List ℕ} {e : Place} (r : Entered) �
 good-entered {n} {t = t} {e} r (stood f g) p q =
     subst (λ (x : Page). all Good x.view.certs ≡ true)
     (some-injective (read t e.child) p (sym (ap (λ (y : Entered). y.page) g) ∙ q))
-    (fits-true n e (read t e.child) f).sound.good
+    (fits_true n e (read t e.child) f).sound.good
 good-entered {n} {c} {t = t} {e} r (mends a m g) p q =
     subst (λ (x : Page). all Good x.view.certs ≡ true)
     (some-injective (mended c e (read t e.previous)) p (sym (ap (λ (y : Entered). y.page) g) ∙ q))
-    (good-mended c e (read t e.previous) (mendable-true n e (read t e.previous) m).sound.good)
+    (good-mended c e (read t e.previous) (mendable_true n e (read t e.previous) m).sound.good)
 good-entered r (stops g) p q = absurd (none-ne-some p (sym (ap (λ (y : Entered). y.page) g) ∙ q))
 
 -- the last page of a way
@@ -136,56 +136,56 @@ way-last n c k t steps h = descend-last 3 n c k [] t _ steps h
 
 -- ── Lookup ──────────────────────────────────────────────────────────────────────────────────────────────────────
 
-found_in : (k x : ℕ) (steps : List Step) → foundIn k steps ≡ Looked.Found x → find k (certsAt steps) ≡ some x
-unfolding foundIn lookedNo
-found_in k x steps h = go (find k (certsAt steps)) refl
+found_in_lem : (k x : ℕ) (steps : List Step) → found_in k steps ≡ Looked.Found x → find k (certs_at steps) ≡ some x
+unfolding found_in looked_no
+found_in_lem k x steps h = go (find k (certs_at steps)) refl
   where
-    go : (o : Option ℕ) → find k (certsAt steps) ≡ o → find k (certsAt steps) ≡ some x
-    go none o = absurd (omega (arith, ap lookedNo (rw (foundIn, o) at h)))
-    go (some y) o = let q : Looked.Found y ≡ Looked.Found x = rw (foundIn, o) at h in o ∙ cc
+    go : (o : Option ℕ) → find k (certs_at steps) ≡ o → find k (certs_at steps) ≡ some x
+    go none o = absurd (omega (arith, ap looked_no (rw (found_in, o) at h)))
+    go (some y) o = let q : Looked.Found y ≡ Looked.Found x = rw (found_in, o) at h in o ∙ cc
 
 -- the way of a key that was found
 record Way-found (s : Session) (w : List ℕ) (k x : ℕ) : Type 0 where
   steps : List Step
   way : (way_of s.n s.c k w).steps ≡ some steps
-  finds : find k (certsAt steps) ≡ some x
+  finds : find k (certs_at steps) ≡ some x
 
-key-found : (k x : ℕ) (s : Session) (w t : List ℕ) → (lookupKey k s w t).answer ≡ Looked.Found x → Way-found s w k x
-unfolding lookupKey lookupLeft lookedNo
+key-found : (k x : ℕ) (s : Session) (w t : List ℕ) → (lookup_key k s w t).answer ≡ Looked.Found x → Way-found s w k x
+unfolding lookup_key lookup_left looked_no
 key-found k x s w t h = go (way_of s.n s.c k w).steps refl
   where
     go : (o : Option (List Step)) → (way_of s.n s.c k w).steps ≡ o → Way-found s w k x
-    go none o = absurd (omega (arith, ap lookedNo (rw (lookupKey, o) at h)))
-    go (some steps) o = record { steps = steps; way = o; finds = found_in k x steps (rw (lookupKey, o) at h) }
+    go none o = absurd (omega (arith, ap looked_no (rw (lookup_key, o) at h)))
+    go (some steps) o = record { steps = steps; way = o; finds = found_in_lem k x steps (rw (lookup_key, o) at h) }
 
-way-of-found : (w t : List ℕ) (s : Session) (model serial issue x : ℕ) → (lookup w t s model serial issue).answer ≡ Looked.Found x
+way_of-found : (w t : List ℕ) (s : Session) (model serial issue x : ℕ) → (lookup w t s model serial issue).answer ≡ Looked.Found x
     → Way-found s w (key_of model serial issue) x
-unfolding lookup lookupLeft lookedNo
-way-of-found w t s model serial issue x h = go (lengthsFor s w t) refl (goodParts model serial issue) refl (fit0 s.n w) refl
+unfolding lookup lookup_left looked_no
+way_of-found w t s model serial issue x h = go (lengths_for s w t) refl (good_parts model serial issue) refl (fit0 s.n w) refl
   where
-    go : (a : Bool) → lengthsFor s w t ≡ a → (b : Bool) → goodParts model serial issue ≡ b → (c : Bool) → fit0 s.n w ≡ c
+    go : (a : Bool) → lengths_for s w t ≡ a → (b : Bool) → good_parts model serial issue ≡ b → (c : Bool) → fit0 s.n w ≡ c
         → Way-found s w (key_of model serial issue) x
-    go false p b q c o = absurd (omega (arith, ap lookedNo (rw (lookup, p) at h)))
-    go true p false q c o = absurd (omega (arith, ap lookedNo (rw (lookup, p, q) at h)))
-    go true p true q false o = absurd (omega (arith, ap lookedNo (rw (lookup, p, q, o) at h)))
+    go false p b q c o = absurd (omega (arith, ap looked_no (rw (lookup, p) at h)))
+    go true p false q c o = absurd (omega (arith, ap looked_no (rw (lookup, p, q) at h)))
+    go true p true q false o = absurd (omega (arith, ap looked_no (rw (lookup, p, q, o) at h)))
     go true p true q true o = key-found (key_of model serial issue) x s w t (rw (lookup, p, q, o) at h)
 
-pub lookup-exact : LookupExact
-unfolding LookupExact certsAt
-lookup-exact w t s model serial issue x wide-serial wide-issue h =
+pub lookup_exact : LookupExact
+unfolding LookupExact certs_at
+lookup_exact w t s model serial issue x wide_serial wide_issue h =
     let k = key_of model serial issue in
-    let f = way-of-found w t s model serial issue x h in
+    let f = way_of-found w t s model serial issue x h in
     let l = way-last s.n s.c k w f.steps f.way in
-    let e = find-held k x l.leaf.page.view.certs (ap (λ (ss : List Step). find k (certsAt ss)) (sym l.are) ∙ f.finds) in
+    let e = find-held k x l.leaf.page.view.certs (ap (λ (ss : List Step). find k (certs_at ss)) (sym l.are) ∙ f.finds) in
     record {
       leaf = l.leaf;
       above = l.above;
       way = f.way ∙ ap some l.are;
-      is_leaf = holds-leaf l.leaf.page.view e.entry l.shaped e.held;
+      is_leaf_lem = holds-leaf l.leaf.page.view e.entry l.shaped e.held;
       entry = e.entry;
       held = e.held;
-      same-model = rw e.key (modelOf-keyOf model serial issue wide-serial wide-issue);
-      same-serial = rw e.key (serialOf-keyOf model serial issue wide-serial wide-issue);
-      same-issue = rw e.key (issueOf-keyOf model serial issue wide-serial wide-issue);
+      same_model = rw e.key (model_of-key_of model serial issue wide_serial wide_issue);
+      same_serial = rw e.key (serial_of-key_of model serial issue wide_serial wide_issue);
+      same_issue = rw e.key (issue_of-key_of model serial issue wide_serial wide_issue);
       value = e.value;
     }

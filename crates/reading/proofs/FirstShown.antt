@@ -7,13 +7,13 @@ use mathlib.Core.Bool.{Bool, true, false}
 use mathlib.Core.Logic.{◌⊎◌, inl, inr}
 use mathlib.Core.List.{List, [], ◌∷◌}
 use lib.ListN.{take}
-use Rattle.rules.specs.Layout.{lastKey}
+use Rattle.rules.specs.Layout.{last_key}
 use Rattle.rules.specs.Test.{between, all}
 use Rattle.rules.specs.Entry.{Cert, keys, cut, rising}
-use Rattle.rules.specs.HasAny.{anyIn}
-use Rattle.rules.proofs.entries.Tests.{all_head, between-low, between-above, between-cases}
-use Rattle.rules.proofs.entries.Rises.{rises-mem, rising-from, rising-take, keys-take}
-use Rattle.rules.proofs.entries.Entries.{cut_in, cut_out, cut-none, cut-cut, cut-within, cut-rising}
+use Rattle.rules.specs.HasAny.{any_in}
+use Rattle.rules.proofs.Entries.Tests.{all_head, between-low, between-above, between_cases}
+use Rattle.rules.proofs.Entries.Rises.{rises-mem, rising-from, rising-take, keys-take}
+use Rattle.rules.proofs.Entries.Entries.{cut_in, cut_out, cut-none, cut-cut, cut-within, cut-rising}
 
 module _ (low high : ℕ) where
   -- the first is above the range, and so are all
@@ -24,14 +24,14 @@ module _ (low high : ℕ) where
       ∙ cut-none low high ys (λ k m. between-above low high k (omega (arith, rises-mem y.key k (keys ys) (rising-from y.key (keys ys) r) m)))
 
   -- of keys that are not below the range, the first says it
-  first_says : (m : ℕ) (ys : List Cert) → rising (keys ys) ≡ true → all (between low lastKey) (keys ys) ≡ true
-      → anyIn (take 1 (cut low high ys)) ≡ anyIn (cut low high (take (suc m) ys))
-  unfolding anyIn keys cut
+  first_says : (m : ℕ) (ys : List Cert) → rising (keys ys) ≡ true → all (between low last_key) (keys ys) ≡ true
+      → any_in (take 1 (cut low high ys)) ≡ any_in (cut low high (take (suc m) ys))
+  unfolding any_in keys cut
   first_says m [] r w = refl
   first_says m (y ∷ ys) r w = go (between low high y.key) refl
     where
       from : low ≤ y.key
-      from = between-low low lastKey y.key (all_head (between low lastKey) y.key (keys ys) w)
+      from = between-low low last_key y.key (all_head (between low last_key) y.key (keys ys) w)
 
       rest : rising (keys (y ∷ take m ys)) ≡ true
       rest = ap rising (keys-take (suc m) (y ∷ ys)) ∙ rising-take (suc m) (keys (y ∷ ys)) r
@@ -41,15 +41,15 @@ module _ (low high : ℕ) where
       above (inr h) = h
 
       go : (b : Bool) → between low high y.key ≡ b
-          → anyIn (take 1 (cut low high (y ∷ ys))) ≡ anyIn (cut low high (y ∷ take m ys))
-      go true b = ap (λ (xs : List Cert). anyIn (take 1 xs)) (cut_in low high y ys b) ∙ sym (ap anyIn (cut_in low high y (take m ys) b))
+          → any_in (take 1 (cut low high (y ∷ ys))) ≡ any_in (cut low high (y ∷ take m ys))
+      go true b = ap (λ (xs : List Cert). any_in (take 1 xs)) (cut_in low high y ys b) ∙ sym (ap any_in (cut_in low high y (take m ys) b))
       go false b =
-          let h = above (between-cases low high y.key b) in
-          ap (λ (xs : List Cert). anyIn (take 1 xs)) (none-shown y ys r h) ∙ sym (ap anyIn (none-shown y (take m ys) rest h))
+          let h = above (between_cases low high y.key b) in
+          ap (λ (xs : List Cert). any_in (take 1 xs)) (none-shown y ys r h) ∙ sym (ap any_in (none-shown y (take m ys) rest h))
 
-  pub first-shown : (certs : List Cert) → rising (keys certs) ≡ true → high ≤ lastKey → (m : ℕ) → 0 < m
-      → anyIn (take 1 (cut low high certs)) ≡ anyIn (cut low high (take m (cut low lastKey certs)))
+  pub first-shown : (certs : List Cert) → rising (keys certs) ≡ true → high ≤ last_key → (m : ℕ) → 0 < m
+      → any_in (take 1 (cut low high certs)) ≡ any_in (cut low high (take m (cut low last_key certs)))
   first-shown certs r h zero l = absurd (omega arith)
   first-shown certs r h (suc m) l =
-      ap (λ (xs : List Cert). anyIn (take 1 xs)) (sym (cut-cut low lastKey low high certs (omega arith) h))
-      ∙ first_says m (cut low lastKey certs) (cut-rising low lastKey certs r) (cut-within low lastKey certs)
+      ap (λ (xs : List Cert). any_in (take 1 xs)) (sym (cut-cut low last_key low high certs (omega arith) h))
+      ∙ first_says m (cut low last_key certs) (cut-rising low last_key certs r) (cut-within low last_key certs)

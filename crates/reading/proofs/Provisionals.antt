@@ -4,18 +4,18 @@ use native.Mathlib.Omega.{arith}
 use mathlib.Core.Path.{◌≡◌, refl, sym, ◌∙◌, subst}
 use mathlib.Core.List.{List}
 use mathlib.Core.Option.{none, none-ne-some}
-use Rattle.rules.specs.Key.{key_of, issueOf}
+use Rattle.rules.specs.Key.{key_of, issue_of}
 use Rattle.rules.specs.Entry.{Cert, find}
 use Rattle.rules.specs.Newest.{meter, newest}
 use Rattle.rules.specs.declared.Newest.{Newest}
-use Rattle.reading.specs.Reading.{lastIssue, NewestExact}
+use Rattle.reading.specs.Reading.{last_issue, NewestExact}
 use Rattle.reading.specs.Agreeing.{held, Largest, found, missing, ReadersAgree}
 use Rattle.reading.specs.Provisional.{Provisional}
-use Rattle.reading.proofs.Handed.{newest-exact}
-use Rattle.reading.proofs.Agrees.{readers-agree}
+use Rattle.reading.proofs.Handed.{newest_exact}
+use Rattle.reading.proofs.Agrees.{readers_agree}
 
-last-is : lastIssue ≡ 32767
-unfolding lastIssue issueOf key_of meter
+last-is : last_issue ≡ 32767
+unfolding last_issue issue_of key_of meter
 last-is = refl
 
 none_left : (certs : List Cert) (model serial : ℕ) (answer : Newest) → Largest certs model serial answer
@@ -27,6 +27,6 @@ none_left certs model serial answer (missing e g) gone = e
 pub provisionals : Provisional
 unfolding NewestExact ReadersAgree
 provisionals = record {
-  never = λ w t s model serial i x wide h. subst (λ (z : ℕ). i ≤ z) last-is (newest-exact w t s model serial i x wide h).last;
-  only = λ w t s p model serial wide good gone. none_left (held s w) model serial (newest w t s model serial).answer ((readers-agree w t s p).newest-agrees model serial wide good) gone;
+  never = λ w t s model serial i x wide h. subst (λ (z : ℕ). i ≤ z) last-is (newest_exact w t s model serial i x wide h).last;
+  only = λ w t s p model serial wide good gone. none_left (held s w) model serial (newest w t s model serial).answer ((readers_agree w t s p).newest_agrees model serial wide good) gone;
 }

@@ -4,24 +4,24 @@ use native.Mathlib.Omega.{arith}
 use mathlib.Core.Path.{◌≡◌, refl, sym, ap, ◌∙◌}
 use mathlib.Core.List.{List, [], ◌∷◌, ◌++◌, Memᴰ}
 use mathlib.Core.Option.{some}
-use Rattle.rules.specs.Layout.{topKind}
+use Rattle.rules.specs.Layout.{top_kind}
 use Rattle.rules.specs.Entry.{Cert}
 use Rattle.rules.specs.Page.{View}
-use Rattle.rules.specs.Place.{rootPlace, kids, show}
-use Rattle.rules.specs.Tree.{Tree, empty, join, here, treeEach, tree, tree_of}
+use Rattle.rules.specs.Place.{root_place, kids, show}
+use Rattle.rules.specs.Tree.{Tree, empty, join, here, tree_each, tree, tree_of}
 use Rattle.rules.specs.declared.Place.{Place}
-use Rattle.rules.proofs.demand3.ways.Ways.{Node}
-use Rattle.rules.proofs.demand3.ways.Invariant.{Good}
-use Rattle.rules.proofs.demand3.ways.Nodes.{node-root}
-use Rattle.rules.proofs.demand3.epochs.Opens.{tree-shown, kid-node}
-use Rattle.rules.proofs.demand3.steps.Mended.{Steady}
+use Rattle.rules.proofs.Demand3.Ways.Ways.{Node}
+use Rattle.rules.proofs.Demand3.Ways.Invariant.{Good}
+use Rattle.rules.proofs.Demand3.Ways.Nodes.{node-root}
+use Rattle.rules.proofs.Demand3.Epochs.Opens.{tree-shown, kid-node}
+use Rattle.rules.proofs.Demand3.Steps.Mended.{Steady}
 
 each_same : (f g : Place → Tree) (es : List Place) → ((d : Place) → Memᴰ d es → (f d).certs ≡ (g d).certs)
-    → (treeEach f es).certs ≡ (treeEach g es).certs
-unfolding treeEach join empty
+    → (tree_each f es).certs ≡ (tree_each g es).certs
+unfolding tree_each join empty
 each_same f g [] h = refl
 each_same f g (e ∷ es) h =
-    ap (λ (xs : List Cert). xs ++ (treeEach f es).certs) (h e (Memᴰ.head refl))
+    ap (λ (xs : List Cert). xs ++ (tree_each f es).certs) (h e (Memᴰ.head refl))
     ∙ ap (λ (xs : List Cert). (g e).certs ++ xs) (each_same f g es (λ d m. h d (Memᴰ.tail m)))
 
 module _ {n : ℕ} {t u : List ℕ} (g : Good n t) (h : Steady n t u) where
@@ -30,7 +30,7 @@ module _ {n : ℕ} {t u : List ℕ} (g : Good n t) (h : Steady n t u) where
 
   -- the kids of a node are nodes
   kids-same : (level k : ℕ) (e : Place) (v : View) → Node n t k e → show n t e ≡ some v → Same level
-      → (treeEach (tree level n u) (kids e v)).certs ≡ (treeEach (tree level n t) (kids e v)).certs
+      → (tree_each (tree level n u) (kids e v)).certs ≡ (tree_each (tree level n t) (kids e v)).certs
   kids-same level k e v x s ih =
       each_same (tree level n u) (tree level n t) (kids e v)
       (λ d m.
@@ -55,4 +55,4 @@ module _ {n : ℕ} {t u : List ℕ} (g : Good n t) (h : Steady n t u) where
   same-held =
       let x = node-root n t 0 (omega arith) in
       let w = g.whole x in
-      ap (λ (e : Place). (tree topKind n u e).certs) h.root ∙ same-certs topKind 0 (rootPlace t) w.view x w.shows
+      ap (λ (e : Place). (tree top_kind n u e).certs) h.root ∙ same-certs top_kind 0 (root_place t) w.view x w.shows

@@ -11,37 +11,37 @@ use lib.Dec.{eqb}
 use lib.ListN.{length}
 use borrow.Author.Tests.{eqb-true, eqb-false}
 use Rattle.fields.specs.Field.{Bytes}
-use Rattle.fields.proofs.Field.{leAt-bound}
-use Rattle.rules.specs.Layout.{pageSize}
+use Rattle.fields.proofs.Field.{le_at-bound}
+use Rattle.rules.specs.Layout.{page_size}
 use Rattle.rules.specs.Test.{mem}
 use Rattle.rules.specs.Entry.{Child, Below, find}
 use Rattle.rules.specs.Page.{View, Page, fresh}
 use Rattle.rules.specs.Table.{read, build, birth0}
-use Rattle.rules.specs.Place.{rootPlace, fits, mended, cutView, show}
+use Rattle.rules.specs.Place.{root_place, fits, mended, cut_view, show}
 use Rattle.rules.specs.Enter.{Entered, mend, enter}
 use Rattle.rules.specs.declared.Place.{Place}
-use Rattle.rules.proofs.bytes.All.{All, nil, cons, all-cut}
-use Rattle.rules.proofs.bytes.EntryBytes.{WideChild}
-use Rattle.rules.proofs.entries.Entries.{find_head, find-tail}
-use Rattle.rules.proofs.entries.Tests.{fails}
-use Rattle.rules.proofs.bytes.Tables.{Has, Room, has-page, wide_read, length-build, bytes-build, read-build-other}
-use Rattle.rules.proofs.bytes.PageZero.{rootPlace-same, same0-build}
-use Rattle.rules.proofs.entries.Places.{fits-of, Mendable, mendable-of, mended-fits, Shown, fitting, lost, show-some, shows-mended}
-use Rattle.rules.proofs.entries.Picks.{belowOf}
-use Rattle.rules.proofs.entries.Asks.{kids-pick}
-use Rattle.rules.proofs.demand3.ways.Ways.{at, under, Node, Found, Lost, Undamaged}
-use Rattle.rules.proofs.demand3.ways.Invariant.{Good}
-use Rattle.rules.proofs.demand3.ways.Sources.{show-found}
-use Rattle.rules.proofs.demand3.ways.Kids.{sound-here}
-use Rattle.rules.proofs.demand3.ways.Nodes.{above, at-root, at-range, node-page, node-range}
-use Rattle.rules.proofs.demand3.mix.Mix.{show-as}
-use Rattle.rules.proofs.demand3.steps.Touch.{at_goes}
-use Rattle.rules.proofs.demand3.steps.Mended.{Steady, steady-same, steady-node, steady-back, steady-found, steady_then, node-last}
+use Rattle.rules.proofs.Bytes.All.{All, nil, cons, all-cut}
+use Rattle.rules.proofs.Bytes.EntryBytes.{WideChild}
+use Rattle.rules.proofs.Entries.Entries.{find_head, find_tail}
+use Rattle.rules.proofs.Entries.Tests.{fails}
+use Rattle.rules.proofs.Bytes.Tables.{Has, Room, has-page, wide_read, length-build, bytes-build, read-build-other}
+use Rattle.rules.proofs.Bytes.PageZero.{root_place-same, same0_build}
+use Rattle.rules.proofs.Entries.Places.{fits-of, Mendable, mendable-of, mended-fits, Shown, fitting, lost, show-some, shows-mended}
+use Rattle.rules.proofs.Entries.Picks.{below_of}
+use Rattle.rules.proofs.Entries.Asks.{kids-pick}
+use Rattle.rules.proofs.Demand3.Ways.Ways.{at, under, Node, Found, Lost, Undamaged}
+use Rattle.rules.proofs.Demand3.Ways.Invariant.{Good}
+use Rattle.rules.proofs.Demand3.Ways.Sources.{show-found}
+use Rattle.rules.proofs.Demand3.Ways.Kids.{sound-here}
+use Rattle.rules.proofs.Demand3.Ways.Nodes.{above, at_root_lem, at-range, node-page, node-range}
+use Rattle.rules.proofs.Demand3.Mix.Mix.{show_as}
+use Rattle.rules.proofs.Demand3.Steps.Touch.{at_goes}
+use Rattle.rules.proofs.Demand3.Steps.Mended.{Steady, steady-same, steady-node, steady-back, steady-found, steady_then, node-last}
 use Rattle.enter.proofs.Mended.{Narrow, room-mended, read-mended}
 
 -- a table of n pages whose tree passes opening's tests, and a counter
 pub record Passing (n c : ℕ) (t : List ℕ) : Type 0 where
-  pub long : length t ≡ n * pageSize
+  pub long : length t ≡ n * page_size
   pub bytes : Bytes t
   pub counter : c < 256 ^ 4
   pub good : Good n t
@@ -57,10 +57,10 @@ found-wide k v (cons {x = x} {xs} w m) h = go (eqb k x.key) refl (found-wide k v
     go true e ih =
         subst (λ (y : Below). y.birth < 256 ^ 4)
         (some-injective x.value v (sym (find_head k x xs (eqb-true k x.key e)) ∙ h)) w.birth
-    go false e ih = ih (sym (find-tail k x xs (eqb-false k x.key e)) ∙ h)
+    go false e ih = ih (sym (find_tail k x xs (eqb-false k x.key e)) ∙ h)
 
 shown-wide : (n : ℕ) (t : List ℕ) (e : Place) (v : View) → Bytes t → show n t e ≡ some v → All WideChild v.children
-unfolding cutView
+unfolding cut_view
 shown-wide n t e v b s = go (show-some n t e v s)
   where
     go : Shown n t e v → All WideChild v.children
@@ -69,16 +69,16 @@ shown-wide n t e v b s = go (show-some n t e v s)
         subst (λ (y : View). All WideChild y.children) (sym q) (all-cut e.low e.high (wide_read t e.previous b).view.children)
 
 node-birth : {n : ℕ} {t : List ℕ} {k : ℕ} {e : Place} → Bytes t → Node n t k e → e.birth < 256 ^ 4
-unfolding rootPlace birth0
+unfolding root_place birth0
 node-birth {n} {t} {k} {e} b x = go x.depth x.here
   where
     go : (i : ℕ) → at n t k i ≡ some e → e.birth < 256 ^ 4
-    go zero h = subst (λ (p : Place). p.birth < 256 ^ 4) (at-root n t k e h) (leAt-bound t 12 4 b)
+    go zero h = subst (λ (p : Place). p.birth < 256 ^ 4) (at_root_lem n t k e h) (le_at-bound t 12 4 b)
     go (suc i) h =
         let a = above n t k i e h in
         let r = at-range n t k i a.parent a.stands in
         let o = sound-here n t a.parent a.view a.shows (omega (arith, r.0, r.1)) in
-        found-wide e.low (belowOf e) (shown-wide n t a.parent a.view b a.shows) (kids-pick a.parent o k e a.picks).entry
+        found-wide e.low (below_of e) (shown-wide n t a.parent a.view b a.shows) (kids-pick a.parent o k e a.picks).entry
 
 node-narrow : {n c : ℕ} {t : List ℕ} {k : ℕ} {e : Place} → Passing n c t → Node n t k e → Narrow c e
 node-narrow p x =
@@ -124,8 +124,8 @@ module _ {n c : ℕ} {t : List ℕ} (p : Passing n c t) {k : ℕ} {e : Place} (x
   others : (j : ℕ) → j ≢ e.child → read u j ≡ read t j
   others j d = read-build-other t e.child page has fit-room j d
 
-  root : rootPlace u ≡ rootPlace t
-  root = rootPlace-same (same0-build t e.child has child.0 page fit-room)
+  root : root_place u ≡ root_place t
+  root = root_place-same (same0_build t e.child has child.0 page fit-room)
 
   range : e.low ≤ e.high
   range = let r = node-range x in omega (arith, r.0, r.1)
@@ -145,7 +145,7 @@ module _ {n c : ℕ} {t : List ℕ} (p : Passing n c t) {k : ℕ} {e : Place} (x
       go (inl h) = subst (λ (a : Place). show n u a ≡ show n t a) (sym h) (shows-mended n c t u e range l can reads)
       go (inr h) =
           let w = p.good.whole y in
-          show-as n t u d w.view w.shows (others d.child h) (λ f. others d.previous (p.good.apart y f x)) ∙ sym w.shows
+          show_as n t u d w.view w.shows (others d.child h) (λ f. others d.previous (p.good.apart y f x)) ∙ sym w.shows
 
   pub mend-steady : Steady n t u
   mend-steady = record {
@@ -159,7 +159,7 @@ module _ {n c : ℕ} {t : List ℕ} (p : Passing n c t) {k : ℕ} {e : Place} (x
       other y f (inl h) = absurd (false≢true (sym l ∙ subst (Found n t) h f))
       other y f (inr h) = h
 
-  pub mend-long : length u ≡ n * pageSize
+  pub mend-long : length u ≡ n * page_size
   mend-long = length-build t e.child page has fit-room ∙ p.long
 
   pub mend-bytes : Bytes u
@@ -182,9 +182,9 @@ module _ {n c : ℕ} {t : List ℕ} (p : Passing n c t) {k : ℕ} {e : Place} (x
 pub good-steady : {n : ℕ} {t u : List ℕ} → Steady n t u → Good n t → Good n u
 good-steady {n} {t} {u} h g = record {
   rooted = record {
-    some-page = subst (λ (d : Place). 1 ≤ d.child) (sym h.root) g.rooted.some-page;
+    some_page = subst (λ (d : Place). 1 ≤ d.child) (sym h.root) g.rooted.some_page;
     in_table = subst (λ (d : Place). d.child < n) (sym h.root) g.rooted.in_table;
-    previous-in = subst (λ (d : Place). d.previous < n) (sym h.root) g.rooted.previous-in;
+    previous_in = subst (λ (d : Place). d.previous < n) (sym h.root) g.rooted.previous_in;
   };
   whole = λ x.
       let y = steady-back h x in
@@ -202,8 +202,8 @@ pub record Shows (n c : ℕ) (t u : List ℕ) : Type 0 where
   pub passing : Passing n c u
   pub steady : Steady n t u
 
-pub shows-itself : {n c : ℕ} {t : List ℕ} → Passing n c t → Shows n c t t
-shows-itself p = record { passing = p; steady = steady-same }
+pub shows_itself : {n c : ℕ} {t : List ℕ} → Passing n c t → Shows n c t t
+shows_itself p = record { passing = p; steady = steady-same }
 
 -- ── Entering a node ─────────────────────────────────────────────────────────────────────────────────────────────
 

@@ -9,21 +9,21 @@ use mathlib.Core.Option.{some, none, none-ne-some}
 use lib.Dec.{eqb}
 use borrow.Author.Tests.{eqb-true, eqb-false}
 use Rattle.rules.specs.Test.{mem}
-use Rattle.rules.specs.Page.{Page, isLeaf, pageIn, buildBytes}
-use Rattle.rules.specs.Table.{pageAt, read, build}
+use Rattle.rules.specs.Page.{Page, is_leaf, page_in, build_bytes}
+use Rattle.rules.specs.Table.{page_at, read, build}
 use Rattle.rules.specs.Place.{kids, pick, fits, mendable, mended}
 use Rattle.rules.specs.Enter.{Entered, mend, enter}
 use Rattle.rules.specs.Walk.{Step, numbers}
 use Rattle.rules.specs.declared.Place.{Place}
-use Rattle.rules.proofs.entries.Tests.{not-both, fails, mem-nil, mem-head, mem-tail, mem-cases}
-use Rattle.rules.proofs.bytes.All.{All, nil, cons}
-use Rattle.rules.proofs.entries.Views.{Shaped, shaped-read}
-use Rattle.rules.proofs.entries.Places.{mendable-true}
-use Rattle.rules.proofs.entries.Asks.{pick-leaf, kids-pick, kids-want}
-use Rattle.rules.proofs.bytes.Tables.{has-page, pageAt-build-same, pageAt-build-other}
+use Rattle.rules.proofs.Entries.Tests.{not_both, fails, mem-nil, mem-head, mem_tail, mem_cases}
+use Rattle.rules.proofs.Bytes.All.{All, nil, cons}
+use Rattle.rules.proofs.Entries.Views.{Shaped, shaped-read}
+use Rattle.rules.proofs.Entries.Places.{mendable_true}
+use Rattle.rules.proofs.Entries.Asks.{pick-leaf, kids-pick, kids-want}
+use Rattle.rules.proofs.Bytes.Tables.{has-page, page_at-build-same, page_at-build-other}
 use Rattle.enter.proofs.Mended.{room-mended}
 use Rattle.way.proofs.Stood.{Ready, ready-stays, ready-next, Stood, stood-here}
-use Rattle.reading.specs.Leaving.{PageLeft, as_it_was, mended-for}
+use Rattle.reading.specs.Leaving.{PageLeft, as_it_was, mended_for}
 
 -- ── One place entered ───────────────────────────────────────────────────────────────────────────────────────────
 
@@ -46,13 +46,13 @@ turn n c above t e = go (mem e.child above) refl (fits n e (read t e.child)) ref
 
 -- ── A page's fate goes with its bytes ───────────────────────────────────────────────────────────────────────────
 
-pub left-same : {n c : ℕ} {places : List Place} {w t u : List ℕ} {i : ℕ} → pageAt u i ≡ pageAt t i → PageLeft n c places w t i → PageLeft n c places w u i
+pub left-same : {n c : ℕ} {places : List Place} {w t u : List ℕ} {i : ℕ} → page_at u i ≡ page_at t i → PageLeft n c places w t i → PageLeft n c places w u i
 left-same q (as_it_was h) = as_it_was (q ∙ h)
-left-same q (mended-for e m d f g h) = mended-for e m d f g (q ∙ h)
+left-same q (mended_for e m d f g h) = mended_for e m d f g (q ∙ h)
 
-read_same : (t u : List ℕ) (i : ℕ) → pageAt t i ≡ pageAt u i → read t i ≡ read u i
+read_same : (t u : List ℕ) (i : ℕ) → page_at t i ≡ page_at u i → read t i ≡ read u i
 unfolding read
-read_same t u i h = ap pageIn h
+read_same t u i h = ap page_in h
 
 -- ── Where a walk stands ─────────────────────────────────────────────────────────────────────────────────────────
 
@@ -65,18 +65,18 @@ pub record Over (t : List ℕ) (want : ℕ) (s : Step) : Type 0 where
 pub record Going (n c k : ℕ) (places : List Place) (w : List ℕ) (above : List Step) (t : List ℕ) (e : Place) : Type 0 where
   pub ready : Ready n c k t e
   pub over : All (Over t e.want) above
-  pub others : (i : ℕ) → mem i (numbers above) ≡ false → pageAt t i ≡ pageAt w i
+  pub others : (i : ℕ) → mem i (numbers above) ≡ false → page_at t i ≡ page_at w i
   pub done : (i : ℕ) → mem i (numbers above) ≡ true → PageLeft n c places w t i
 
 -- none above is of the kind asked for
-over-not : (t : List ℕ) (want : ℕ) (above : List Step) (i : ℕ) → All (Over t want) above → (want ≡ 0) ⊎ (want ≡ (read t i).view.kind)
+over_not : (t : List ℕ) (want : ℕ) (above : List Step) (i : ℕ) → All (Over t want) above → (want ≡ 0) ⊎ (want ≡ (read t i).view.kind)
     → mem i (numbers above) ≡ false
 unfolding numbers
-over-not t want above i a h = fails (mem i (numbers above)) (λ m. go above a m)
+over_not t want above i a h = fails (mem i (numbers above)) (λ m. go above a m)
   where
     go : (ss : List Step) → All (Over t want) ss → mem i (numbers ss) ≡ true → ⊥
     go [] nil m = mem-nil i m
-    go (s ∷ ss) (cons x xs) m = which (mem-cases i s.place.child (numbers ss) m) (go ss xs)
+    go (s ∷ ss) (cons x xs) m = which (mem_cases i s.place.child (numbers ss) m) (go ss xs)
       where
         kind : i ≡ s.place.child → (read t i).view.kind ≡ s.page.view.kind
         kind q = ap (λ (j : ℕ). (read t j).view.kind) q ∙ ap (λ (p : Page). p.view.kind) x.here
@@ -97,37 +97,37 @@ module _ {n c k : ℕ} {places : List Place} {w : List ℕ} {above : List Step} 
   r = enter n c (numbers above) t e
 
   -- every page but the child stays
-  pub turn-others : (i : ℕ) → i ≢ e.child → pageAt r.table i ≡ pageAt t i
+  pub turn-others : (i : ℕ) → i ≢ e.child → page_at r.table i ≡ page_at t i
   turn-others i d = go (turn n c (numbers above) t e)
     where
-      go : Turn n c (numbers above) t e r → pageAt r.table i ≡ pageAt t i
-      go (stopped q o) = ap (λ (u : List ℕ). pageAt u i) q
-      go (kept a q) = ap (λ (u : List ℕ). pageAt u i) q
+      go : Turn n c (numbers above) t e r → page_at r.table i ≡ page_at t i
+      go (stopped q o) = ap (λ (u : List ℕ). page_at u i) q
+      go (kept a q) = ap (λ (u : List ℕ). page_at u i) q
       go (built a f m q) =
-          ap (λ (u : List ℕ). pageAt u i) q
-          ∙ pageAt-build-other t e.child (mended c e (read t e.previous))
-          (has-page t n e.child g.ready.long g.ready.child-below)
+          ap (λ (u : List ℕ). page_at u i) q
+          ∙ page_at-build-other t e.child (mended c e (read t e.previous))
+          (has-page t n e.child g.ready.long g.ready.child_below)
           (room-mended n c t e g.ready.bytes g.ready.narrow m) i d
 
   -- the child is as it was, or mended
   turn-child : Memᴰ e places → mem e.child (numbers above) ≡ false → PageLeft n c places w r.table e.child
   turn-child asked new = go (turn n c (numbers above) t e)
     where
-      was : pageAt t e.child ≡ pageAt w e.child
+      was : page_at t e.child ≡ page_at w e.child
       was = g.others e.child new
 
       go : Turn n c (numbers above) t e r → PageLeft n c places w r.table e.child
-      go (stopped q o) = as_it_was (ap (λ (u : List ℕ). pageAt u e.child) q ∙ was)
-      go (kept a q) = as_it_was (ap (λ (u : List ℕ). pageAt u e.child) q ∙ was)
+      go (stopped q o) = as_it_was (ap (λ (u : List ℕ). page_at u e.child) q ∙ was)
+      go (kept a q) = as_it_was (ap (λ (u : List ℕ). page_at u e.child) q ∙ was)
       go (built a f m q) =
-          let x = mendable-true n e (read t e.previous) m in
-          let b = read_same t w e.previous (g.others e.previous (over-not t e.want above e.previous g.over x.kind)) in
-          mended-for e asked refl (ap (fits n e) (sym (read_same t w e.child was)) ∙ f) (ap (mendable n e) (sym b) ∙ m)
-          (ap (λ (u : List ℕ). pageAt u e.child) q
-          ∙ (pageAt-build-same t e.child (mended c e (read t e.previous))
-          (has-page t n e.child g.ready.long g.ready.child-below)
+          let x = mendable_true n e (read t e.previous) m in
+          let b = read_same t w e.previous (g.others e.previous (over_not t e.want above e.previous g.over x.kind)) in
+          mended_for e asked refl (ap (fits n e) (sym (read_same t w e.child was)) ∙ f) (ap (mendable n e) (sym b) ∙ m)
+          (ap (λ (u : List ℕ). page_at u e.child) q
+          ∙ (page_at-build-same t e.child (mended c e (read t e.previous))
+          (has-page t n e.child g.ready.long g.ready.child_below)
           (room-mended n c t e g.ready.bytes g.ready.narrow m)
-          ∙ ap (λ (y : Page). buildBytes (mended c e y)) b))
+          ∙ ap (λ (y : Page). build_bytes (mended c e y)) b))
 
   -- where the walk ends here, done or damaged
   pub ends-here : Memᴰ e places → (i : ℕ) → PageLeft n c places w r.table i
@@ -143,9 +143,9 @@ module _ {n c k : ℕ} {places : List Place} {w : List ℕ} {above : List Step} 
           there = ap (λ (j : ℕ). mem j (numbers above)) (sym q) ∙ a
 
           stays : Turn n c (numbers above) t e r → PageLeft n c places w r.table i
-          stays (stopped q o) = left-same (ap (λ (u : List ℕ). pageAt u i) q) (g.done i a)
-          stays (kept x q) = absurd (not-both there x)
-          stays (built x f m q) = absurd (not-both there x)
+          stays (stopped q o) = left-same (ap (λ (u : List ℕ). page_at u i) q) (g.done i a)
+          stays (kept x q) = absurd (not_both there x)
+          stays (built x f m q) = absurd (not_both there x)
       go true a false b = left-same (turn-others i (eqb-false i e.child b)) (g.done i a)
       go false a true b =
           let q = eqb-true i e.child b in
@@ -156,9 +156,9 @@ module _ {n c k : ℕ} {places : List Place} {w : List ℕ} {above : List Step} 
     stood : Stood n k r.table (record { place = e; page = p })
     stood = stood-here g.ready (numbers above) p h
 
-    inner : isLeaf p.view ≡ false
+    inner : is_leaf p.view ≡ false
     inner =
-        fails (isLeaf p.view)
+        fails (is_leaf p.view)
         (λ l. none-ne-some d
         (sym (pick-leaf k e p.view (subst (λ (y : Page). Shaped y.view) stood.here (shaped-read r.table e.child)) l) ∙ q))
 
@@ -182,7 +182,7 @@ module _ {n c k : ℕ} {places : List Place} {w : List ℕ} {above : List Step} 
     overs [] f nil = nil
     overs (s ∷ ss) f (cons x xs) =
         cons (over-next s (f s.place.child (mem-head s.place.child (numbers ss))) x)
-        (overs ss (λ i m. f i (mem-tail i s.place.child (numbers ss) m)) xs)
+        (overs ss (λ i m. f i (mem_tail i s.place.child (numbers ss) m)) xs)
 
     pub goes_on : Memᴰ e places → Going n c k places w (record { place = e; page = p } ∷ above) r.table d
     unfolding numbers
@@ -190,7 +190,7 @@ module _ {n c k : ℕ} {places : List Place} {w : List ℕ} {above : List Step} 
       ready = ready-next g.ready (numbers above) p h d q;
       over = cons (record { here = stood.here; asks = lower.0; taller = omega (arith, lower.1) }) (overs above (λ i m. m) g.over);
       others = λ i m.
-          turn-others i (λ z. not-both (ap (λ (j : ℕ). mem j (e.child ∷ numbers above)) z ∙ mem-head e.child (numbers above)) m)
-          ∙ g.others i (fails (mem i (numbers above)) (λ y. not-both (mem-tail i e.child (numbers above) y) m));
+          turn-others i (λ z. not_both (ap (λ (j : ℕ). mem j (e.child ∷ numbers above)) z ∙ mem-head e.child (numbers above)) m)
+          ∙ g.others i (fails (mem i (numbers above)) (λ y. not_both (mem_tail i e.child (numbers above) y) m));
       done = λ i m. ends-here asked i;
     }

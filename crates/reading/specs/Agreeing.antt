@@ -2,17 +2,17 @@
 use Rattle.std.specs.Prelude.{ℕ, ◌^◌, ◌≤◌, ◌<◌, min, ◌≡◌, true, ◌&&◌, List, ltb, length, take}
 use Rattle.std.proofs.Math.Option.{Option, some, none}
 use Rattle.fields.specs.Field.{Bytes}
-use Rattle.rules.specs.Layout.{lastKey, largestIssue}
-use Rattle.rules.specs.Key.{key_of, goodParts}
+use Rattle.rules.specs.Layout.{last_key, largest_issue}
+use Rattle.rules.specs.Key.{key_of, good_parts}
 use Rattle.rules.specs.Entry.{Cert, keys, find, cut, put, rising}
 use Rattle.rules.specs.Page.{over}
 use Rattle.rules.specs.Table.{fit0}
-use Rattle.rules.specs.Tree.{tree_of, goodTree}
-use Rattle.rules.specs.Call.{lengthsFor}
+use Rattle.rules.specs.Tree.{tree_of, good_tree}
+use Rattle.rules.specs.Call.{lengths_for}
 use Rattle.rules.specs.Lookup.{lookup}
 use Rattle.rules.specs.Newest.{newest}
-use Rattle.rules.specs.HasAny.{anyIn, hasAny}
-use Rattle.rules.specs.List.{ListLeft, recordsOf, list}
+use Rattle.rules.specs.HasAny.{any_in, has_any}
+use Rattle.rules.specs.List.{ListLeft, records_of, list}
 use Rattle.rules.specs.History.{Event, State, run, start, AllProper}
 use Rattle.rules.specs.Demand.{Lent}
 use Rattle.rules.specs.declared.Session.{Session}
@@ -20,7 +20,7 @@ use Rattle.rules.specs.declared.Inserted.{Inserted}
 use Rattle.rules.specs.declared.Looked.{Looked}
 use Rattle.rules.specs.declared.Newest.{Newest}
 use Rattle.rules.specs.declared.Listed.{Listed}
-use Rattle.reading.specs.Reading.{lastIssue}
+use Rattle.reading.specs.Reading.{last_issue}
 use Rattle.reading.specs.Inserting.{inserted}
 
 -- ── What the tree holds ─────────────────────────────────────────────────────────────────────────────────────────
@@ -33,59 +33,59 @@ held s w = (tree_of s.n w).certs
 pub record Passes (w t : List ℕ) (s : Session) : Type 0 where
   pub bytes : Bytes w
   pub counter : s.c < 256 ^ 4
-  pub lengths : lengthsFor s w t ≡ true
+  pub lengths : lengths_for s w t ≡ true
   pub fit : fit0 s.n w ≡ true
-  pub good : goodTree (tree_of s.n w) ≡ true
+  pub good : good_tree (tree_of s.n w) ≡ true
 
 -- ── Answers by a list of certificates ───────────────────────────────────────────────────────────────────────────
 
 -- what a lookup answers that found this
-unfoldable pub answerFor : Option ℕ → Looked
-answerFor none = Looked.Missing
-answerFor (some x) = Looked.Found x
+unfoldable pub answer_for : Option ℕ → Looked
+answer_for none = Looked.Missing
+answer_for (some x) = Looked.Found x
 
 -- the largest issue of a meter among some certificates, and its record
 pub data Largest (certs : List Cert) (model serial : ℕ) (answer : Newest) : Type 0 where
-  found : (i x : ℕ) → answer ≡ Newest.Found i x → 1 ≤ i → i ≤ lastIssue → find (key_of model serial i) certs ≡ some x
-      → ((j : ℕ) → i < j → j ≤ lastIssue → find (key_of model serial j) certs ≡ none)
+  found : (i x : ℕ) → answer ≡ Newest.Found i x → 1 ≤ i → i ≤ last_issue → find (key_of model serial i) certs ≡ some x
+      → ((j : ℕ) → i < j → j ≤ last_issue → find (key_of model serial j) certs ≡ none)
       → Largest certs model serial answer
   missing : answer ≡ Newest.Missing
-      → ((j : ℕ) → 1 ≤ j → j ≤ lastIssue → find (key_of model serial j) certs ≡ none)
+      → ((j : ℕ) → 1 ≤ j → j ≤ last_issue → find (key_of model serial j) certs ≡ none)
       → Largest certs model serial answer
 
 -- the first so many from a start on, in two lists
-unfoldable pub listedFrom : ℕ → List ℕ → List ℕ → List Cert → List Cert
-listedFrom start ks xs certs = take (min (length ks) (length xs)) (cut start lastKey certs)
+unfoldable pub listed_from : ℕ → List ℕ → List ℕ → List Cert → List Cert
+listed_from start ks xs certs = take (min (length ks) (length xs)) (cut start last_key certs)
 
 pub record Fills (certs : List Cert) (start : ℕ) (ks xs : List ℕ) (r : ListLeft) : Type 0 where
-  pub answer : r.answer ≡ Listed.Filled (length (listedFrom start ks xs certs))
-  pub keys : r.keys ≡ over (keys (listedFrom start ks xs certs)) ks
-  pub records : r.records ≡ over (recordsOf (listedFrom start ks xs certs)) xs
+  pub answer : r.answer ≡ Listed.Filled (length (listed_from start ks xs certs))
+  pub keys : r.keys ≡ over (keys (listed_from start ks xs certs)) ks
+  pub records : r.records ≡ over (records_of (listed_from start ks xs certs)) xs
 
 -- what a listing from a meter's first issue on shows of the meter
 unfoldable pub listed_of : ℕ → ℕ → List ℕ → List ℕ → List Cert → List Cert
 listed_of model serial ks xs certs =
-    cut (key_of model serial 1) (key_of model serial largestIssue) (listedFrom (key_of model serial 1) ks xs certs)
+    cut (key_of model serial 1) (key_of model serial largest_issue) (listed_from (key_of model serial 1) ks xs certs)
 
 -- ── The promises ────────────────────────────────────────────────────────────────────────────────────────────────
 
 pub record Agree (w t : List ℕ) (s : Session) : Type 0 where
   -- no key stands twice
   pub rises : rising (keys (held s w)) ≡ true
-  pub lookup-agrees : (model serial issue : ℕ) → model < 2 ^ 16 → serial < 2 ^ 32 → issue < 2 ^ 16 → goodParts model serial issue ≡ true
-      → (lookup w t s model serial issue).answer ≡ answerFor (find (key_of model serial issue) (held s w))
-  pub newest-agrees : (model serial : ℕ) → serial < 2 ^ 32 → (ltb 0 model && ltb 0 serial) ≡ true
+  pub lookup_agrees : (model serial issue : ℕ) → model < 2 ^ 16 → serial < 2 ^ 32 → issue < 2 ^ 16 → good_parts model serial issue ≡ true
+      → (lookup w t s model serial issue).answer ≡ answer_for (find (key_of model serial issue) (held s w))
+  pub newest_agrees : (model serial : ℕ) → serial < 2 ^ 32 → (ltb 0 model && ltb 0 serial) ≡ true
       → Largest (held s w) model serial (newest w t s model serial).answer
-  pub list-agrees : (start : ℕ) (ks xs : List ℕ) → Fills (held s w) start ks xs (list w t s start ks xs)
+  pub list_agrees : (start : ℕ) (ks xs : List ℕ) → Fills (held s w) start ks xs (list w t s start ks xs)
   -- yes exactly if a listing of the meter shows something, into lists with a place at least
-  pub any-agrees : (model serial : ℕ) → model < 2 ^ 16 → serial < 2 ^ 32 → (ltb 0 model && ltb 0 serial) ≡ true
+  pub any_agrees : (model serial : ℕ) → model < 2 ^ 16 → serial < 2 ^ 32 → (ltb 0 model && ltb 0 serial) ≡ true
       → (ks xs : List ℕ) → 0 < min (length ks) (length xs)
-      → (hasAny w t s model serial).answer ≡ anyIn (listed_of model serial ks xs (held s w))
+      → (has_any w t s model serial).answer ≡ any_in (listed_of model serial ks xs (held s w))
   -- and none of them changes what the tree holds
-  pub after-lookup : (model serial issue : ℕ) → model < 2 ^ 16 → serial < 2 ^ 32 → issue < 2 ^ 16
+  pub after_lookup : (model serial issue : ℕ) → model < 2 ^ 16 → serial < 2 ^ 32 → issue < 2 ^ 16
       → held s (lookup w t s model serial issue).working ≡ held s w
-  pub after-newest : (model serial : ℕ) → held s (newest w t s model serial).working ≡ held s w
-  pub after_any : (model serial : ℕ) → held s (hasAny w t s model serial).working ≡ held s w
+  pub after_newest : (model serial : ℕ) → held s (newest w t s model serial).working ≡ held s w
+  pub after_any : (model serial : ℕ) → held s (has_any w t s model serial).working ≡ held s w
   pub after_list : (start : ℕ) (ks xs : List ℕ) → held s (list w t s start ks xs).working ≡ held s w
 
 -- a store of a history

@@ -3,18 +3,18 @@ use Rattle.std.specs.Prelude.{ℕ, ◌^◌, ◌<◌, ◌≡◌, true, List, [], 
 use Rattle.fields.specs.Field.{Bytes}
 use Rattle.rules.specs.Test.{mem}
 use Rattle.rules.specs.Report.{nothing}
-use Rattle.rules.specs.Call.{Left, lengthsFor}
+use Rattle.rules.specs.Call.{Left, lengths_for}
 use Rattle.rules.specs.Insert.{insert}
-use Rattle.rules.specs.Batch.{between, itemsAnswered}
+use Rattle.rules.specs.Batch.{between, items_answered}
 use Rattle.rules.specs.declared.Session.{Session}
 use Rattle.rules.specs.declared.Inserted.{Inserted}
 use Rattle.rules.specs.declared.Item.{Item}
-use Rattle.rules.proofs.bytes.All.{All}
+use Rattle.rules.proofs.Bytes.All.{All}
 use Rattle.reading.specs.Leaving.{Typed}
 
 -- lengths, the number of pages and the counter are as they were, and bytes are bytes
 pub record Steady (w : List ℕ) (s : Session) (r : Left Inserted) : Type 0 where
-  pub length-stays : length r.working ≡ length w
+  pub length_stays : length r.working ≡ length w
   pub bytes : Bytes r.working
   pub pages : r.session.n ≡ s.n
   pub counter : r.session.c ≡ s.c
@@ -37,5 +37,5 @@ InsertSteady =
 
 unfoldable pub ItemsAnswer : Type 0
 ItemsAnswer =
-    (w t : List ℕ) (s : Session) (xs : List Item) → lengthsFor s w t ≡ true → Bytes w → s.c < 256 ^ 4 → All TypedItem xs
-    → All ItemAnswer (itemsAnswered t (between w s nothing) xs)
+    (w t : List ℕ) (s : Session) (xs : List Item) → lengths_for s w t ≡ true → Bytes w → s.c < 256 ^ 4 → All TypedItem xs
+    → All ItemAnswer (items_answered t (between w s nothing) xs)

@@ -2,7 +2,7 @@
 use Rattle.std.specs.Prelude.{ℕ, ◌^◌, ◌≤◌, ◌<◌, ◌≡◌, true, false, List, length}
 use Rattle.std.proofs.Math.Option.{some}
 use Rattle.fields.specs.Field.{Bytes}
-use Rattle.rules.specs.Layout.{lastKey}
+use Rattle.rules.specs.Layout.{last_key}
 use Rattle.rules.specs.Test.{mem}
 use Rattle.rules.specs.Page.{View, Page}
 use Rattle.rules.specs.Table.{pages}
@@ -20,7 +20,7 @@ use Rattle.answers.specs.AsItStands.{InTree}
 -- u comes of t by entering places of t's tree, in any order, none below itself
 pub data EnteredFrom (n c : ℕ) (t : List ℕ) : List ℕ → Type 0 where
   none_yet : {u : List ℕ} → u ≡ t → EnteredFrom n c t u
-  one_more : {u : List ℕ} (b : List ℕ) (e : Place) (above : List ℕ) → EnteredFrom n c t b → InTree n t e → mem e.child above ≡ false
+  one_more_lem : {u : List ℕ} (b : List ℕ) (e : Place) (above : List ℕ) → EnteredFrom n c t b → InTree n t e → mem e.child above ≡ false
       → u ≡ (enter n c above b e).table → EnteredFrom n c t u
 
 -- ── The promise ─────────────────────────────────────────────────────────────────────────────────────────────────
@@ -41,8 +41,8 @@ pub record Alike (n c : ℕ) (t : List ℕ) : Type 0 where
   pub holds : (u : List ℕ) → EnteredFrom n c t u → (tree_of n u).certs ≡ (tree_of n t).certs
   -- a walk over all keys, with room for what there is, enters every place and finds them all
   pub walks : (room : ℕ) → length (tree_of n t).certs ≤ room
-      → ((walk_of n c (record { low = 0; high = lastKey; room = room }) t).whole ≡ true)
-      × ((walk_of n c (record { low = 0; high = lastKey; room = room }) t).found ≡ (tree_of n t).certs)
+      → ((walk_of n c (record { low = 0; high = last_key; room = room }) t).whole ≡ true)
+      × ((walk_of n c (record { low = 0; high = last_key; room = room }) t).found ≡ (tree_of n t).certs)
 
 -- where opening answers 0, for any counter
 unfoldable pub OpeningEnters : Type 0

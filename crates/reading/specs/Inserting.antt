@@ -3,11 +3,11 @@ use Rattle.std.specs.Prelude.{ℕ, ◌^◌, ◌≤◌, ◌<◌, ◌≡◌, true,
 use Rattle.std.proofs.Math.Option.{some}
 use Rattle.rules.specs.Key.{key_of}
 use Rattle.rules.specs.Test.{mem}
-use Rattle.rules.specs.Table.{pageAt}
+use Rattle.rules.specs.Table.{page_at}
 use Rattle.rules.specs.Walk.{Step, numbers, way_of}
-use Rattle.rules.specs.Marks.{freePages}
+use Rattle.rules.specs.Marks.{free_pages}
 use Rattle.rules.specs.Call.{Left}
-use Rattle.rules.specs.Insert.{rootSplits, newPages, insert}
+use Rattle.rules.specs.Insert.{root_splits, new_pages, insert}
 use Rattle.rules.specs.Lookup.{lookup}
 use Rattle.rules.specs.History.{Event, State, run, start, AllProper}
 use Rattle.rules.specs.Demand.{Lent}
@@ -19,8 +19,8 @@ use Rattle.reading.specs.Leaving.{Typed}
 -- ── Pages and marks ─────────────────────────────────────────────────────────────────────────────────────────────
 
 -- the numbers that an insert along a way takes: the lowest free ones, as many as it needs
-unfoldable pub takenFor : Session → List Step → List ℕ
-takenFor s steps = take (newPages steps) (freePages s (numbers steps))
+unfoldable pub taken_for : Session → List Step → List ℕ
+taken_for s steps = take (new_pages steps) (free_pages s (numbers steps))
 
 -- how many that can be: two for each split, one for a new root; a root over three levels never splits
 abbrev pub few : List ℕ
@@ -33,17 +33,17 @@ pub record SameMarks (s r : Session) (i : ℕ) : Type 0 where
 pub record FewChange (w : List ℕ) (s : Session) (k : ℕ) (r : Left Inserted) : Type 0 where
   pub steps : List Step
   pub way : (way_of s.n s.c k w).steps ≡ some steps
-  pub count : mem (newPages steps) few ≡ true
-  pub as_many : length (takenFor s steps) ≡ newPages steps
-  pub length-stays : length r.working ≡ length w
+  pub count : mem (new_pages steps) few ≡ true
+  pub as_many : length (taken_for s steps) ≡ new_pages steps
+  pub length_stays : length r.working ≡ length w
   -- every page but page 0, those entered and those taken is as it was, byte for byte
-  pub page : (i : ℕ) → 1 ≤ i → mem i (numbers steps) ≡ false → mem i (takenFor s steps) ≡ false
-      → pageAt r.working i ≡ pageAt w i
-  pub page0 : rootSplits steps ≡ false → pageAt r.working 0 ≡ pageAt w 0
+  pub page : (i : ℕ) → 1 ≤ i → mem i (numbers steps) ≡ false → mem i (taken_for s steps) ≡ false
+      → page_at r.working i ≡ page_at w i
+  pub page0 : root_splits steps ≡ false → page_at r.working 0 ≡ page_at w 0
   -- those taken were free and no longer are; no other mark moves but those of pages entered
-  pub taken : (i : ℕ) → mem i (takenFor s steps) ≡ true
+  pub taken : (i : ℕ) → mem i (taken_for s steps) ≡ true
       → (get_or s.free i false ≡ true) × (get_or r.session.free i false ≡ false)
-  pub marks : (i : ℕ) → mem i (numbers steps) ≡ false → mem i (takenFor s steps) ≡ false → SameMarks s r.session i
+  pub marks : (i : ℕ) → mem i (numbers steps) ≡ false → mem i (taken_for s steps) ≡ false → SameMarks s r.session i
 
 -- in tables of any bytes, with any session
 unfoldable pub InsertChanges : Type 0

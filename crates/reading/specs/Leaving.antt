@@ -3,11 +3,11 @@ use Rattle.std.specs.Prelude.{ℕ, zero, suc, ◌^◌, ◌<◌, min, ◌≡◌, 
 use mathlib.Core.List.{List, [], ◌∷◌, Memᴰ}
 use Rattle.std.proofs.Math.Option.{some, none}
 use Rattle.fields.specs.Field.{Bytes}
-use Rattle.rules.specs.Layout.{topKind}
+use Rattle.rules.specs.Layout.{top_kind}
 use Rattle.rules.specs.Key.{key_of}
-use Rattle.rules.specs.Page.{buildBytes}
-use Rattle.rules.specs.Table.{pageAt, read}
-use Rattle.rules.specs.Place.{rootPlace, kids, pick, fits, mendable, mended}
+use Rattle.rules.specs.Page.{build_bytes}
+use Rattle.rules.specs.Table.{page_at, read}
+use Rattle.rules.specs.Place.{root_place, kids, pick, fits, mendable, mended}
 use Rattle.rules.specs.Enter.{enter}
 use Rattle.rules.specs.Walk.{Step, numbers}
 use Rattle.rules.specs.Call.{Left}
@@ -23,36 +23,36 @@ use Rattle.rules.specs.declared.Withdrawn.{Withdrawn}
 -- ── The places that a walk asks for ─────────────────────────────────────────────────────────────────────────────
 
 -- from a place down, root first; the last one may be damaged
-unfoldable pub askedFrom : ℕ → ℕ → ℕ → ℕ → List Step → List ℕ → Place → List Place
-askedFrom zero n c k above t e = []
-askedFrom (suc level) n c k above t e =
+unfoldable pub asked_from : ℕ → ℕ → ℕ → ℕ → List Step → List ℕ → Place → List Place
+asked_from zero n c k above t e = []
+asked_from (suc level) n c k above t e =
     let entered = enter n c (numbers above) t e in
     e ∷ elim entered.page [
       | none ↦ []
       | some p ↦ elim (pick k (kids e p.view)) [
         | none ↦ []
-        | some d ↦ askedFrom level n c k (record { place = e; page = p } ∷ above) entered.table d
+        | some d ↦ asked_from level n c k (record { place = e; page = p } ∷ above) entered.table d
       ]
     ]
 
-unfoldable pub askedFor : ℕ → ℕ → ℕ → List ℕ → List Place
-askedFor n c k w = askedFrom topKind n c k [] w (rootPlace w)
+unfoldable pub asked_for : ℕ → ℕ → ℕ → List ℕ → List Place
+asked_for n c k w = asked_from top_kind n c k [] w (root_place w)
 
 -- ── What became of a page ───────────────────────────────────────────────────────────────────────────────────────
 
 -- of page i of w, in u: it is as it was; or one of the places asked for names it, it was lost, and it is the page that
 -- mending builds from the previous page as that was
 pub data PageLeft (n c : ℕ) (places : List Place) (w u : List ℕ) (i : ℕ) : Type 0 where
-  as_it_was : pageAt u i ≡ pageAt w i → PageLeft n c places w u i
-  mended-for : (e : Place) → Memᴰ e places → e.child ≡ i
+  as_it_was : page_at u i ≡ page_at w i → PageLeft n c places w u i
+  mended_for : (e : Place) → Memᴰ e places → e.child ≡ i
       → fits n e (read w i) ≡ false → mendable n e (read w e.previous) ≡ true
-      → pageAt u i ≡ buildBytes (mended c e (read w e.previous))
+      → page_at u i ≡ build_bytes (mended c e (read w e.previous))
       → PageLeft n c places w u i
 
 -- every page of the working table; stable and the session stay
 pub record OnlyWay {A : Type 0} (k : ℕ) (w t : List ℕ) (s : Session) (r : Left A) : Type 0 where
-  pub length-stays : length r.working ≡ length w
-  pub page : (i : ℕ) → PageLeft s.n s.c (askedFor s.n s.c k w) w r.working i
+  pub length_stays : length r.working ≡ length w
+  pub page : (i : ℕ) → PageLeft s.n s.c (asked_for s.n s.c k w) w r.working i
   pub stable : r.stable ≡ t
   pub session : r.session ≡ s
 
@@ -62,9 +62,9 @@ pub record OnlyWay {A : Type 0} (k : ℕ) (w t : List ℕ) (s : Session) (r : Le
 pub record Typed (w : List ℕ) (s : Session) (model serial issue : ℕ) : Type 0 where
   pub bytes : Bytes w
   pub counter : s.c < 256 ^ 4
-  pub wide-model : model < 2 ^ 16
-  pub wide-serial : serial < 2 ^ 32
-  pub wide-issue : issue < 2 ^ 16
+  pub wide_model : model < 2 ^ 16
+  pub wide_serial : serial < 2 ^ 32
+  pub wide_issue : issue < 2 ^ 16
 
 unfoldable pub InsertRefused : Type 0
 InsertRefused =

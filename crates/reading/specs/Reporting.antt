@@ -3,7 +3,7 @@
 use Rattle.std.specs.Prelude.{ℕ, ◌≡◌, List}
 use Rattle.rules.specs.Report.{Reported}
 use Rattle.rules.specs.Call.{Left}
-use Rattle.rules.specs.Reports.{insertReported, withdrawReported, lookupReported}
+use Rattle.rules.specs.Reports.{insert_reported, withdraw_reported, lookup_reported}
 use Rattle.rules.specs.declared.Session.{Session}
 use Rattle.rules.specs.declared.Reason.{Reason}
 use Rattle.rules.specs.declared.Inserted.{Inserted}
@@ -20,17 +20,17 @@ pub record TellsMends {A : Type 0} (w : List ℕ) (r : Reported (Left A)) : Type
 unfoldable pub LookupTells : Type 0
 LookupTells =
     (w t : List ℕ) (s : Session) (model serial issue : ℕ) → Typed w s model serial issue
-    → TellsMends w (lookupReported w t s model serial issue)
+    → TellsMends w (lookup_reported w t s model serial issue)
 
 -- one that is done writes its leaf too
 unfoldable pub InsertTells : Type 0
 InsertTells =
     (w t : List ℕ) (s : Session) (model serial issue x : ℕ) → Typed w s model serial issue
-    → ((insertReported w t s model serial issue x).left.answer ≡ Inserted.Done → ⊥)
-    → TellsMends w (insertReported w t s model serial issue x)
+    → ((insert_reported w t s model serial issue x).left.answer ≡ Inserted.Done → ⊥)
+    → TellsMends w (insert_reported w t s model serial issue x)
 
 unfoldable pub WithdrawTells : Type 0
 WithdrawTells =
     (w t : List ℕ) (s : Session) (model serial issue : ℕ) → Typed w s model serial issue
-    → ((withdrawReported w t s model serial issue).left.answer ≡ Withdrawn.Done → ⊥)
-    → TellsMends w (withdrawReported w t s model serial issue)
+    → ((withdraw_reported w t s model serial issue).left.answer ≡ Withdrawn.Done → ⊥)
+    → TellsMends w (withdraw_reported w t s model serial issue)

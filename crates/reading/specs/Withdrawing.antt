@@ -4,17 +4,17 @@ use Rattle.std.proofs.Math.Option.{some}
 use Rattle.rules.specs.Key.{key_of}
 use Rattle.rules.specs.Entry.{without}
 use Rattle.rules.specs.Table.{read}
-use Rattle.rules.specs.Walk.{Step, certsAt, leafAt, way_of}
+use Rattle.rules.specs.Walk.{Step, certs_at, leaf_at, way_of}
 use Rattle.rules.specs.Marks.{uncounted}
 use Rattle.rules.specs.Call.{Left}
 use Rattle.rules.specs.Withdraw.{withdraw}
 use Rattle.rules.specs.Lookup.{lookup}
 use Rattle.rules.specs.History.{Event, State, run, start, AllProper}
-use Rattle.rules.specs.Demand.{Lent, withdrawNow}
+use Rattle.rules.specs.Demand.{Lent, withdraw_now}
 use Rattle.rules.specs.declared.Session.{Session}
 use Rattle.rules.specs.declared.Withdrawn.{Withdrawn}
 use Rattle.rules.specs.declared.Looked.{Looked}
-use Rattle.reading.specs.Leaving.{askedFor, PageLeft, Typed}
+use Rattle.reading.specs.Leaving.{asked_for, PageLeft, Typed}
 use Rattle.reading.specs.Agreeing.{held}
 
 -- ── Pages and session ───────────────────────────────────────────────────────────────────────────────────────────
@@ -22,11 +22,11 @@ use Rattle.reading.specs.Agreeing.{held}
 pub record LeafChanges (k : ℕ) (w t : List ℕ) (s : Session) (r : Left Withdrawn) : Type 0 where
   pub steps : List Step
   pub way : (way_of s.n s.c k w).steps ≡ some steps
-  pub length-stays : length r.working ≡ length w
+  pub length_stays : length r.working ≡ length w
   -- every page but the leaf of the key is as its walk, a lookup's, leaves it
-  pub page : (i : ℕ) → i ≢ leafAt steps → PageLeft s.n s.c (askedFor s.n s.c k w) w r.working i
+  pub page : (i : ℕ) → i ≢ leaf_at steps → PageLeft s.n s.c (asked_for s.n s.c k w) w r.working i
   -- the leaf holds what it held but the key
-  pub leaf : (read r.working (leafAt steps)).view.certs ≡ without k (certsAt steps)
+  pub leaf : (read r.working (leaf_at steps)).view.certs ≡ without k (certs_at steps)
   pub stable : r.stable ≡ t
   pub session : r.session ≡ uncounted s
 
@@ -52,14 +52,14 @@ unfoldable pub WithdrawTakes : Type 0
 WithdrawTakes =
     (n : ℕ) (w s : List ℕ) → Lent n w s → (h : List Event) → AllProper n h → (run h (start w s)).session.n ≡ n
     → (model serial issue : ℕ) → model < 65536 → serial < 4294967296 → issue < 65536
-    → (withdrawNow (run h (start w s)) model serial issue).answer ≡ Withdrawn.Done
-    → Takes (run h (start w s)) model serial issue (withdrawNow (run h (start w s)) model serial issue)
+    → (withdraw_now (run h (start w s)) model serial issue).answer ≡ Withdrawn.Done
+    → Takes (run h (start w s)) model serial issue (withdraw_now (run h (start w s)) model serial issue)
 
 -- and the tree holds what it held but the key
 unfoldable pub WithdrawRemoves : Type 0
 WithdrawRemoves =
     (n : ℕ) (w s : List ℕ) → Lent n w s → (h : List Event) → AllProper n h → (run h (start w s)).session.n ≡ n
     → (model serial issue : ℕ) → model < 65536 → serial < 4294967296 → issue < 65536
-    → (withdrawNow (run h (start w s)) model serial issue).answer ≡ Withdrawn.Done
-    → held (withdrawNow (run h (start w s)) model serial issue).session (withdrawNow (run h (start w s)) model serial issue).working
+    → (withdraw_now (run h (start w s)) model serial issue).answer ≡ Withdrawn.Done
+    → held (withdraw_now (run h (start w s)) model serial issue).session (withdraw_now (run h (start w s)) model serial issue).working
     ≡ without (key_of model serial issue) (held (run h (start w s)).session (run h (start w s)).working)

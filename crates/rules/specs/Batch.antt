@@ -3,8 +3,8 @@
 -- before anything is touched; page 0 is tested by each item's insert, so an empty batch leaves all as it was and answers 0.
 use Rattle.std.specs.Prelude.{ℕ, ◌+◌, ◌%◌, true, false, List, [], ◌∷◌}
 use Rattle.rules.specs.Report.{Reported, nothing, first_of}
-use Rattle.rules.specs.Call.{Left, lengthsFor, insertedNo}
-use Rattle.rules.specs.Reports.{insertReported}
+use Rattle.rules.specs.Call.{Left, lengths_for, inserted_no}
+use Rattle.rules.specs.Reports.{insert_reported}
 use Rattle.rules.specs.declared.Session.{Session}
 use Rattle.rules.specs.declared.Report.{Report}
 use Rattle.rules.specs.declared.Inserted.{Inserted}
@@ -14,8 +14,8 @@ use Rattle.rules.specs.declared.Item.{Item}
 -- ── One item ────────────────────────────────────────────────────────────────────────────────────────────────────
 
 -- the single insert that an item asks for
-unfoldable pub insertItem : List ℕ → List ℕ → Session → Item → Reported (Left Inserted)
-insertItem w t s x = insertReported w t s x.model x.serial x.issue x.value
+unfoldable pub insert_item : List ℕ → List ℕ → Session → Item → Reported (Left Inserted)
+insert_item w t s x = insert_reported w t s x.model x.serial x.issue x.value
 
 -- an item with its answer filled in
 unfoldable pub answered : ℕ → Item → Item
@@ -40,22 +40,22 @@ abbrev pub between : List ℕ → Session → Report → Between
 between w s x = record { working = w; session = s; report = x }
 
 -- what an item leaves
-unfoldable pub afterItem : List ℕ → Between → Item → Between
-afterItem t m x =
-    let r = insertItem m.working t m.session x in
+unfoldable pub after_item : List ℕ → Between → Item → Between
+after_item t m x =
+    let r = insert_item m.working t m.session x in
     between r.left.working r.left.session (joins m.report r.report)
 
 -- what it is answered
-unfoldable pub itemNo : List ℕ → Between → Item → ℕ
-itemNo t m x = insertedNo (insertItem m.working t m.session x).left.answer
+unfoldable pub item_no : List ℕ → Between → Item → ℕ
+item_no t m x = inserted_no (insert_item m.working t m.session x).left.answer
 
-unfoldable pub afterItems : List ℕ → Between → List Item → Between
-afterItems t m [] = m
-afterItems t m (x ∷ xs) = afterItems t (afterItem t m x) xs
+unfoldable pub after_items : List ℕ → Between → List Item → Between
+after_items t m [] = m
+after_items t m (x ∷ xs) = after_items t (after_item t m x) xs
 
-unfoldable pub itemsAnswered : List ℕ → Between → List Item → List Item
-itemsAnswered t m [] = []
-itemsAnswered t m (x ∷ xs) = answered (itemNo t m x) x ∷ itemsAnswered t (afterItem t m x) xs
+unfoldable pub items_answered : List ℕ → Between → List Item → List Item
+items_answered t m [] = []
+items_answered t m (x ∷ xs) = answered (item_no t m x) x ∷ items_answered t (after_item t m x) xs
 
 -- ── The call ────────────────────────────────────────────────────────────────────────────────────────────────────
 
@@ -67,8 +67,8 @@ pub record BatchLeft : Type 0 where
   pub stable : List ℕ
   pub items : List Item
 
-abbrev pub batchLeft : Batched → List ℕ → Between → List Item → Reported BatchLeft
-batchLeft answer t m xs = record {
+abbrev pub batch_left : Batched → List ℕ → Between → List Item → Reported BatchLeft
+batch_left answer t m xs = record {
   left = record { answer = answer; session = m.session; working = m.working; stable = t; items = xs };
   report = m.report;
 }
@@ -76,12 +76,12 @@ batchLeft answer t m xs = record {
 unfoldable pub batch : List ℕ → List ℕ → Session → List Item → Reported BatchLeft
 batch w t s xs =
     let m = between w s nothing in
-    elim (lengthsFor s w t) [
-      | false ↦ batchLeft Batched.Length t m xs
-      | true ↦ batchLeft Batched.Done t (afterItems t m xs) (itemsAnswered t m xs)
+    elim (lengths_for s w t) [
+      | false ↦ batch_left Batched.Length t m xs
+      | true ↦ batch_left Batched.Done t (after_items t m xs) (items_answered t m xs)
     ]
 
 -- the paper's numbers
-unfoldable pub batchedNo : Batched → ℕ
-batchedNo Batched.Done = 0
-batchedNo Batched.Length = 1
+unfoldable pub batched_no : Batched → ℕ
+batched_no Batched.Done = 0
+batched_no Batched.Length = 1

@@ -3,18 +3,18 @@
 -- Model 7, issue 1, serials upwards from 1, stores fresh from format and open.
 use Rattle.std.specs.Prelude.{◌≡◌, ℕ, zero, suc, ◌+◌, ◌*◌, ◌^◌, ◌≤◌, Bool, true, false, ◌&&◌, List, [], ◌∷◌, length, replicate, ◌==◌, nat_eq}
 use Rattle.std.proofs.Math.Option.{some, none}
-use Rattle.rules.specs.Layout.{pageSize, fewestPages, mostPages}
+use Rattle.rules.specs.Layout.{page_size, fewest_pages, most_pages}
 use Rattle.rules.specs.Test.{between}
 use Rattle.rules.specs.Key.{key_of}
 use Rattle.rules.specs.Entry.{Child}
 use Rattle.rules.specs.Page.{count}
-use Rattle.rules.specs.Table.{read, number0, root0, setNumber}
-use Rattle.rules.specs.Marks.{opened, freePages, marks}
+use Rattle.rules.specs.Table.{read, number0, root0, set_number}
+use Rattle.rules.specs.Marks.{opened, free_pages, marks}
 use Rattle.rules.specs.Walk.{Step, numbers, way_of}
-use Rattle.rules.specs.Call.{Left, formattedNo, openedNo, insertedNo, withdrawnNo, lookedNo, syncedNo}
+use Rattle.rules.specs.Call.{Left, formatted_no, opened_no, inserted_no, withdrawn_no, looked_no, synced_no}
 use Rattle.rules.specs.Format.{format}
 use Rattle.rules.specs.Open.{opening}
-use Rattle.rules.specs.Insert.{insert, newPages}
+use Rattle.rules.specs.Insert.{insert, new_pages}
 use Rattle.rules.specs.Withdraw.{withdraw}
 use Rattle.rules.specs.Lookup.{lookup}
 use Rattle.rules.specs.Sync.{sync}
@@ -39,7 +39,7 @@ left r = record { session = r.session; working = r.working; stable = r.stable }
 
 -- tables of n pages as they come, never written
 unfoldable pub table : ℕ → List ℕ
-table n = replicate (n * pageSize) 0
+table n = replicate (n * page_size) 0
 
 -- fresh from format and open
 unfoldable pub store : ℕ → Left Opened
@@ -59,21 +59,21 @@ unfoldable pub finding : Store → ℕ → Left Looked
 finding m serial = lookup m.working m.stable m.session 7 serial 1
 
 -- a lookup found this record
-unfoldable pub isFound : ℕ → Looked → Bool
-isFound y (Looked.Found x) = x == y
-isFound y Looked.Length = false
-isFound y Looked.BadKey = false
-isFound y Looked.Damaged = false
-isFound y Looked.Missing = false
+unfoldable pub is_found : ℕ → Looked → Bool
+is_found y (Looked.Found x) = x == y
+is_found y Looked.Length = false
+is_found y Looked.BadKey = false
+is_found y Looked.Damaged = false
+is_found y Looked.Missing = false
 
 -- so many serials, from one on, are found, each with its own record
-unfoldable pub allFound : Store → ℕ → ℕ → Bool
-allFound m from zero = true
-allFound m from (suc more) = isFound (from + 900) (finding m from).answer && allFound m (suc from) more
+unfoldable pub all_found : Store → ℕ → ℕ → Bool
+all_found m from zero = true
+all_found m from (suc more) = is_found (from + 900) (finding m from).answer && all_found m (suc from) more
 
 -- the pages on the way of a serial's key
-unfoldable pub wayTo : Store → ℕ → List Step
-wayTo m serial =
+unfoldable pub way_to : Store → ℕ → List Step
+way_to m serial =
     elim (way_of m.session.n m.session.c (key_of 7 serial 1) m.working).steps
     [ some steps ↦ steps | none ↦ [] ]
 
@@ -89,15 +89,15 @@ unfoldable pub named : List Child → List ℕ
 named [] = []
 named (x ∷ xs) = x.value.child ∷ named xs
 
-unfoldable pub childrenAt : Store → ℕ → List ℕ
-childrenAt m i = named (read m.working i).view.children
+unfoldable pub children_at : Store → ℕ → List ℕ
+children_at m i = named (read m.working i).view.children
 
 -- how many new pages an insert needs, and how many are free for it
 unfoldable pub needed : Store → ℕ → ℕ
-needed m serial = newPages (wayTo m serial)
+needed m serial = new_pages (way_to m serial)
 
 unfoldable pub unused : Store → ℕ → ℕ
-unused m serial = length (freePages m.session (numbers (wayTo m serial)))
+unused m serial = length (free_pages m.session (numbers (way_to m serial)))
 
 -- 40 serials in a store of n pages
 unfoldable pub forty : ℕ → Store
@@ -133,8 +133,8 @@ page1 = false ∷ (true ∷ [])
 unfoldable pub pages23 : List Bool
 pages23 = false ∷ (false ∷ (true ∷ (true ∷ [])))
 
-unfoldable pub allPages : List Bool
-allPages = replicate 5 true
+unfoldable pub all_pages : List Bool
+all_pages = replicate 5 true
 
 -- serial 1 withdrawn after the 41st insert, and then a crash that writes page 1 alone, the page that was split, and an opening
 unfoldable pub recalled : Left Withdrawn
@@ -145,7 +145,7 @@ restored = opening recalled.working (mix page1 recalled.working recalled.stable)
 
 -- a stable table of 4 pages, fresh but for its number
 unfoldable pub numbered : ℕ → List ℕ
-numbered number = setNumber (format (table 4) (table 4)).stable number
+numbered number = set_number (format (table 4) (table 4)).stable number
 
 -- ── The cases ───────────────────────────────────────────────────────────────────────────────────────────────────
 
@@ -161,82 +161,82 @@ pub record Case2 : Type 0 where
 
 -- 3: n = 3 and 129 answer 1, n = 4 and 128 are done
 pub record Case3 : Type 0 where
-  pub format-3 : formattedNo (format (table 3) (table 3)).answer ≡ 1
-  pub format-4 : formattedNo (format (table 4) (table 4)).answer ≡ 0
-  pub format-128 : formattedNo (format (table 128) (table 128)).answer ≡ 0
-  pub format-129 : formattedNo (format (table 129) (table 129)).answer ≡ 1
-  pub open-3 : openedNo (store 3).answer ≡ 1
-  pub open-4 : openedNo (store 4).answer ≡ 0
-  pub open-128 : openedNo (store 128).answer ≡ 0
-  pub open-129 : openedNo (store 129).answer ≡ 1
+  pub format_3 : formatted_no (format (table 3) (table 3)).answer ≡ 1
+  pub format_4 : formatted_no (format (table 4) (table 4)).answer ≡ 0
+  pub format_128 : formatted_no (format (table 128) (table 128)).answer ≡ 0
+  pub format_129 : formatted_no (format (table 129) (table 129)).answer ≡ 1
+  pub open_3 : opened_no (store 3).answer ≡ 1
+  pub open_4 : opened_no (store 4).answer ≡ 0
+  pub open_128 : opened_no (store 128).answer ≡ 0
+  pub open_129 : opened_no (store 129).answer ≡ 1
 
 -- 4: n = 4, the 41st insert answers 7: 3 new pages, 2 free
 pub record Case4 : Type 0 where
-  pub held : allFound (forty 4) 1 40 ≡ true
-  pub answer : insertedNo (inserting (forty 4) 41).answer ≡ 7
+  pub held : all_found (forty 4) 1 40 ≡ true
+  pub answer : inserted_no (inserting (forty 4) 41).answer ≡ 7
   pub new : needed (forty 4) 41 ≡ 3
   pub free : unused (forty 4) 41 ≡ 2
 
 -- 5: n = 5, the 41st is done: halves on pages 2 and 3 with 20 and 21 entries, root on page 4, page 1 waiting
 pub record Case5 : Type 0 where
-  pub answer : insertedNo split41.answer ≡ 0
+  pub answer : inserted_no split41.answer ≡ 0
   pub lower : entries_at (left split41) 2 ≡ 20
   pub upper : entries_at (left split41) 3 ≡ 21
   pub leaves : (kind_at (left split41) 2 ≡ 1) × (kind_at (left split41) 3 ≡ 1)
   pub root : root0 split41.working ≡ 4
   pub over : kind_at (left split41) 4 ≡ 2
-  pub children : childrenAt (left split41) 4 ≡ 2 ∷ (3 ∷ [])
+  pub children : children_at (left split41) 4 ≡ 2 ∷ (3 ∷ [])
   pub waiting : split41.session.waiting ≡ marks (nat_eq 1)
 
 -- 6 to 9: 40 inserts, then the sync and the 41st, both done
 pub record Before6 : Type 0 where
-  pub synced : syncedNo synced40.answer ≡ 0
-  pub inserted : insertedNo synced41.answer ≡ 0
+  pub synced : synced_no synced40.answer ≡ 0
+  pub inserted : inserted_no synced41.answer ≡ 0
 
 -- 6: crash with pages 0 and 4: serial 21 is found, and so are all of the 40, page 3 is mended to 20 entries,
 -- serial 41 answers 4
 pub record Case6 : Type 0 where
-  pub opened : openedNo (reopened pages04).answer ≡ 0
-  pub held : allFound (left (reopened pages04)) 1 40 ≡ true
+  pub opened : opened_no (reopened pages04).answer ≡ 0
+  pub held : all_found (left (reopened pages04)) 1 40 ≡ true
   pub mended : entries_at (left (finding (left (reopened pages04)) 21)) 3 ≡ 20
-  pub missing : lookedNo (finding (left (reopened pages04)) 41).answer ≡ 4
+  pub missing : looked_no (finding (left (reopened pages04)) 41).answer ≡ 4
 
 -- 7: the same with page 0 only: page 4 becomes a leaf of 40
 pub record Case7 : Type 0 where
-  pub opened : openedNo (reopened page0).answer ≡ 0
+  pub opened : opened_no (reopened page0).answer ≡ 0
   pub leaf : kind_at (left (finding (left (reopened page0)) 21)) 4 ≡ 1
   pub mended : entries_at (left (finding (left (reopened page0)) 21)) 4 ≡ 40
 
 -- 8: the same with pages 2 and 3 only: root 1, 40 found, the 41st not
 pub record Case8 : Type 0 where
-  pub opened : openedNo (reopened pages23).answer ≡ 0
+  pub opened : opened_no (reopened pages23).answer ≡ 0
   pub root : root0 (reopened pages23).working ≡ 1
-  pub held : allFound (left (reopened pages23)) 1 40 ≡ true
-  pub missing : lookedNo (finding (left (reopened pages23)) 41).answer ≡ 4
+  pub held : all_found (left (reopened pages23)) 1 40 ≡ true
+  pub missing : looked_no (finding (left (reopened pages23)) 41).answer ≡ 4
 
 -- 9: the same with all: 41 found, no 42nd
 pub record Case9 : Type 0 where
-  pub opened : openedNo (reopened allPages).answer ≡ 0
-  pub held : allFound (left (reopened allPages)) 1 41 ≡ true
-  pub missing : lookedNo (finding (left (reopened allPages)) 42).answer ≡ 4
+  pub opened : opened_no (reopened all_pages).answer ≡ 0
+  pub held : all_found (left (reopened all_pages)) 1 41 ≡ true
+  pub missing : looked_no (finding (left (reopened all_pages)) 42).answer ≡ 4
 
 -- 11: number 4,294,967,293 opens; 4,294,967,294 answers 8
 pub record Case11 : Type 0 where
-  pub opens : openedNo (opening (table 4) (numbered 4294967293)).answer ≡ 0
-  pub spent : openedNo (opening (table 4) (numbered 4294967294)).answer ≡ 8
+  pub opens : opened_no (opening (table 4) (numbered 4294967293)).answer ≡ 0
+  pub spent : opened_no (opening (table 4) (numbered 4294967294)).answer ≡ 8
 
 -- beside document 01's cases: a withdrawal is done, and the lower half has 19 entries; after the crash serial 1 is found with
 -- its record, though it was there neither at the opening nor at the crash
 pub record Recall : Type 0 where
-  pub answer : withdrawnNo recalled.answer ≡ 0
+  pub answer : withdrawn_no recalled.answer ≡ 0
   pub lower : entries_at (left recalled) 2 ≡ 19
   pub total : recalled.session.total ≡ 40
-  pub missing : lookedNo (finding (left recalled) 1).answer ≡ 4
-  pub opened : openedNo restored.answer ≡ 0
-  pub found : isFound 901 (finding (left restored) 1).answer ≡ true
+  pub missing : looked_no (finding (left recalled) 1).answer ≡ 4
+  pub opened : opened_no restored.answer ≡ 0
+  pub found : is_found 901 (finding (left restored) 1).answer ≡ true
 
 pub record Cases : Type 0 where
-  pub case1 : (n : ℕ) → fewestPages ≤ n → n ≤ mostPages → Case1 n
+  pub case1 : (n : ℕ) → fewest_pages ≤ n → n ≤ most_pages → Case1 n
   pub case2 : Case2
   pub case3 : Case3
   pub case4 : Case4

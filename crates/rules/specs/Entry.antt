@@ -51,10 +51,10 @@ without k [] = []
 without k (x ∷ xs) = elim (k == x.key) [ true ↦ xs | false ↦ x ∷ without k xs ]
 
 -- numbers that rise strictly, from one below them and by themselves
-unfoldable pub risesFrom : ℕ → List ℕ → Bool
-risesFrom k [] = true
-risesFrom k (x ∷ xs) = nat_lt k x && risesFrom x xs
+unfoldable pub rises_from : ℕ → List ℕ → Bool
+rises_from k [] = true
+rises_from k (x ∷ xs) = nat_lt k x && rises_from x xs
 
 unfoldable pub rising : List ℕ → Bool
 rising [] = true
-rising (x ∷ xs) = risesFrom x xs
+rising (x ∷ xs) = rises_from x xs

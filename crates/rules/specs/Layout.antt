@@ -2,67 +2,67 @@
 use Rattle.std.specs.Prelude.{ℕ}
 
 -- a page, and how many of them make a table
-abbrev pub pageSize : ℕ
-pageSize = 512
+abbrev pub page_size : ℕ
+page_size = 512
 
-abbrev pub fewestPages : ℕ
-fewestPages = 4
+abbrev pub fewest_pages : ℕ
+fewest_pages = 4
 
-abbrev pub mostPages : ℕ
-mostPages = 128
+abbrev pub most_pages : ℕ
+most_pages = 128
 
 -- the fields that every page starts with, a leaf's whole header and an inner page's: entries stand behind it
-abbrev pub commonHeader : ℕ
-commonHeader = 32
+abbrev pub common_header : ℕ
+common_header = 32
 
-abbrev pub leafHeader : ℕ
-leafHeader = 32
+abbrev pub leaf_header : ℕ
+leaf_header = 32
 
-abbrev pub innerHeader : ℕ
-innerHeader = 32
+abbrev pub inner_header : ℕ
+inner_header = 32
 
 -- an entry of a leaf, an entry of an inner page
-abbrev pub certSize : ℕ
-certSize = 12
+abbrev pub cert_size : ℕ
+cert_size = 12
 
 abbrev pub child_size : ℕ
 child_size = 16
 
 -- how many entries a leaf and an inner page hold
-abbrev pub leafRoom : ℕ
-leafRoom = 40
+abbrev pub leaf_room : ℕ
+leaf_room = 40
 
-abbrev pub innerRoom : ℕ
-innerRoom = 30
+abbrev pub inner_room : ℕ
+inner_room = 30
 
 -- how many of a full page's entries the lower half of a split takes; the upper half takes all others
-abbrev pub leafHalf : ℕ
-leafHalf = 20
+abbrev pub leaf_half : ℕ
+leaf_half = 20
 
-abbrev pub innerHalf : ℕ
-innerHalf = 15
+abbrev pub inner_half : ℕ
+inner_half = 15
 
 -- the kinds: page 0, a leaf, the highest inner page
-abbrev pub zeroKind : ℕ
-zeroKind = 9
+abbrev pub zero_kind : ℕ
+zero_kind = 9
 
-abbrev pub leafKind : ℕ
-leafKind = 1
+abbrev pub leaf_kind : ℕ
+leaf_kind = 1
 
-abbrev pub topKind : ℕ
-topKind = 3
+abbrev pub top_kind : ℕ
+top_kind = 3
 
 -- the largest key, where the root's range ends
-abbrev pub lastKey : ℕ
-lastKey = 18446744073709551615
+abbrev pub last_key : ℕ
+last_key = 18446744073709551615
 
 -- the largest issue of a certificate that is not provisional, and the largest of all
-abbrev pub lastFinal : ℕ
-lastFinal = 32767
+abbrev pub last_final : ℕ
+last_final = 32767
 
-abbrev pub largestIssue : ℕ
-largestIssue = 65535
+abbrev pub largest_issue : ℕ
+largest_issue = 65535
 
 -- the largest number that opens, and the largest counter that syncs
-abbrev pub lastNumber : ℕ
-lastNumber = 4294967293
+abbrev pub last_number : ℕ
+last_number = 4294967293

@@ -1,11 +1,11 @@
 -- List fills two lent lists from a start key upwards, and says how many.
 use Rattle.std.specs.Prelude.{ℕ, min, true, false, List, [], ◌∷◌, length}
-use Rattle.rules.specs.Layout.{lastKey}
+use Rattle.rules.specs.Layout.{last_key}
 use Rattle.rules.specs.Entry.{Cert, keys}
 use Rattle.rules.specs.Page.{over}
 use Rattle.rules.specs.Table.{fit0}
 use Rattle.rules.specs.Walk.{walk_of}
-use Rattle.rules.specs.Call.{lengthsFor}
+use Rattle.rules.specs.Call.{lengths_for}
 use Rattle.rules.specs.declared.Session.{Session}
 use Rattle.rules.specs.declared.Listed.{Listed}
 use Rattle.rules.specs.declared.Asked.{Asked}
@@ -21,26 +21,26 @@ pub record ListLeft : Type 0 where
 
 -- the asked range: from the start upwards, up to the shorter list
 unfoldable pub up_from : ℕ → List ℕ → List ℕ → Asked
-up_from start ks xs = record { low = start; high = lastKey; room = min (length ks) (length xs) }
+up_from start ks xs = record { low = start; high = last_key; room = min (length ks) (length xs) }
 
-unfoldable pub recordsOf : List Cert → List ℕ
-recordsOf [] = []
-recordsOf (x ∷ xs) = x.value ∷ recordsOf xs
+unfoldable pub records_of : List Cert → List ℕ
+records_of [] = []
+records_of (x ∷ xs) = x.value ∷ records_of xs
 
 -- the first places hold what was read on entering; places beyond stay
-unfoldable pub listDone : Session → List ℕ → List ℕ → List Cert → List ℕ → List ℕ → ListLeft
-listDone s w t found ks xs = record {
+unfoldable pub list_done : Session → List ℕ → List ℕ → List Cert → List ℕ → List ℕ → ListLeft
+list_done s w t found ks xs = record {
   answer = Listed.Filled (length found);
   session = s;
   working = w;
   stable = t;
   keys = over (keys found) ks;
-  records = over (recordsOf found) xs;
+  records = over (records_of found) xs;
 }
 
 -- a refused listing changes neither list
-unfoldable pub listRefused : Listed → Session → List ℕ → List ℕ → List ℕ → List ℕ → ListLeft
-listRefused answer s w t ks xs = record {
+unfoldable pub list_refused : Listed → Session → List ℕ → List ℕ → List ℕ → List ℕ → ListLeft
+list_refused answer s w t ks xs = record {
   answer = answer;
   session = s;
   working = w;
@@ -53,14 +53,14 @@ unfoldable pub list_from : Session → List ℕ → List ℕ → ℕ → List �
 list_from s w t start ks xs =
     let walked = walk_of s.n s.c (up_from start ks xs) w in
     elim walked.whole [
-      | false ↦ listRefused Listed.Damaged s walked.table t ks xs
-      | true ↦ listDone s walked.table t walked.found ks xs
+      | false ↦ list_refused Listed.Damaged s walked.table t ks xs
+      | true ↦ list_done s walked.table t walked.found ks xs
     ]
 
 unfoldable pub list : List ℕ → List ℕ → Session → ℕ → List ℕ → List ℕ → ListLeft
 list w t s start ks xs =
-    elim (lengthsFor s w t) [
-      | false ↦ listRefused Listed.Length s w t ks xs
+    elim (lengths_for s w t) [
+      | false ↦ list_refused Listed.Length s w t ks xs
       | true ↦ elim (fit0 s.n w)
-          [ false ↦ listRefused Listed.Damaged s w t ks xs | true ↦ list_from s w t start ks xs ]
+          [ false ↦ list_refused Listed.Damaged s w t ks xs | true ↦ list_from s w t start ks xs ]
     ]

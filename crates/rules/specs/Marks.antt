@@ -1,6 +1,6 @@
 -- The session: its counter and total, its marks, taking, freeing and letting wait, and which numbers are free.
 use Rattle.std.specs.Prelude.{ℕ, zero, suc, ◌+◌, ◌-◌, ◌%◌, Bool, true, false, not, ◌&&◌, ◌||◌, List, [], ◌∷◌, length, slice_index_or, slice_set}
-use Rattle.rules.specs.Layout.{mostPages}
+use Rattle.rules.specs.Layout.{most_pages}
 use Rattle.rules.specs.Test.{between, mem}
 use Rattle.rules.specs.Tree.{Tree}
 use Rattle.rules.specs.declared.Session.{Session}
@@ -49,22 +49,22 @@ waits i s = marking s.free (slice_set s.waiting i true) s
 -- ── All pages ───────────────────────────────────────────────────────────────────────────────────────────────────
 
 -- a mark for each number from i on, so many of them
-unfoldable pub marksFrom : (ℕ → Bool) → ℕ → ℕ → List Bool
-marksFrom mark i zero = []
-marksFrom mark i (suc k) = mark i ∷ marksFrom mark (suc i) k
+unfoldable pub marks_from : (ℕ → Bool) → ℕ → ℕ → List Bool
+marks_from mark i zero = []
+marks_from mark i (suc k) = mark i ∷ marks_from mark (suc i) k
 
 unfoldable pub marks : (ℕ → Bool) → List Bool
-marks mark = marksFrom mark 0 mostPages
+marks mark = marks_from mark 0 most_pages
 
-unfoldable pub isPage : ℕ → ℕ → Bool
-isPage n i = between 1 (n - 1) i
+unfoldable pub is_page : ℕ → ℕ → Bool
+is_page n i = between 1 (n - 1) i
 
 -- a page is free at opening unless it is page 0, a child in the tree, or the previous page of a lost entry; the total is
 -- that of the certificates in the tree
 unfoldable pub opened : ℕ → ℕ → Tree → Session
 opened n c s =
     begun n c (wraps (length s.certs))
-    (marks (λ i. isPage n i && (not (mem i s.children) && not (mem i s.spared))))
+    (marks (λ i. is_page n i && (not (mem i s.children) && not (mem i s.spared))))
     (marks (λ i. false))
 
 -- what a refused opening hands out
@@ -75,16 +75,16 @@ nobody = begun 0 0 0 (marks (λ i. false)) (marks (λ i. false))
 unfoldable pub turned : Session → Session
 turned s =
     marking
-    (marks (λ i. slice_index_or s.free i false || (isPage s.n i && slice_index_or s.waiting i false)))
-    (marks (λ i. not (isPage s.n i) && slice_index_or s.waiting i false))
+    (marks (λ i. slice_index_or s.free i false || (is_page s.n i && slice_index_or s.waiting i false)))
+    (marks (λ i. not (is_page s.n i) && slice_index_or s.waiting i false))
     (raised s)
 
 -- ── The lowest free numbers ─────────────────────────────────────────────────────────────────────────────────────
 
-unfoldable pub numbersFrom : (ℕ → Bool) → ℕ → ℕ → List ℕ
-numbersFrom mark i zero = []
-numbersFrom mark i (suc k) = elim (mark i) [ true ↦ i ∷ numbersFrom mark (suc i) k | false ↦ numbersFrom mark (suc i) k ]
+unfoldable pub numbers_from : (ℕ → Bool) → ℕ → ℕ → List ℕ
+numbers_from mark i zero = []
+numbers_from mark i (suc k) = elim (mark i) [ true ↦ i ∷ numbers_from mark (suc i) k | false ↦ numbers_from mark (suc i) k ]
 
 -- the free pages, lowest first; page 0 and the entered ones never count
-unfoldable pub freePages : Session → List ℕ → List ℕ
-freePages s entered = numbersFrom (λ i. slice_index_or s.free i false && not (mem i entered)) 1 (s.n - 1)
+unfoldable pub free_pages : Session → List ℕ → List ℕ
+free_pages s entered = numbers_from (λ i. slice_index_or s.free i false && not (mem i entered)) 1 (s.n - 1)

@@ -1,10 +1,10 @@
 -- A place: what a parent's entry asks of its child. When a page fits it, and what is shown there if none does.
 use Rattle.std.specs.Prelude.{ℕ, ◌-◌, Bool, true, false, not, ◌||◌, List, [], ◌∷◌, ◌==◌, nat_le}
 use Rattle.std.proofs.Math.Option.{Option, some, none}
-use Rattle.rules.specs.Layout.{lastKey}
+use Rattle.rules.specs.Layout.{last_key}
 use Rattle.rules.specs.Test.{between, every, mem}
 use Rattle.rules.specs.Entry.{Child, keys, cut}
-use Rattle.rules.specs.Page.{View, Page, isLeaf, fresh}
+use Rattle.rules.specs.Page.{View, Page, is_leaf, fresh}
 use Rattle.rules.specs.Table.{read, root0, previous0, birth0}
 use Rattle.rules.specs.Sound.{sound}
 use Rattle.rules.specs.declared.Place.{Place}
@@ -14,20 +14,20 @@ use Rattle.rules.specs.declared.Reason.{Reason}
 
 -- the root counts as a child, and page 0's root, previous and birth as its entry; its range is every key, and it may be of
 -- any kind, which is what want = 0 asks for
-unfoldable pub rootPlace : List ℕ → Place
-rootPlace t = record {
+unfoldable pub root_place : List ℕ → Place
+root_place t = record {
   child = root0 t;
   previous = previous0 t;
   birth = birth0 t;
   low = 0;
-  high = lastKey;
+  high = last_key;
   want = 0;
 }
 
 -- a child's high is the next entry's key less 1, or the page's high
-unfoldable pub highBefore : ℕ → List Child → ℕ
-highBefore high [] = high
-highBefore high (y ∷ ys) = y.key - 1
+unfoldable pub high_before : ℕ → List Child → ℕ
+high_before high [] = high
+high_before high (y ∷ ys) = y.key - 1
 
 unfoldable pub place_of : ℕ → ℕ → Child → Place
 place_of want high x = record {
@@ -39,13 +39,13 @@ place_of want high x = record {
   want = want;
 }
 
-unfoldable pub placesIn : ℕ → ℕ → List Child → List Place
-placesIn want high [] = []
-placesIn want high (x ∷ xs) = place_of want (highBefore high xs) x ∷ placesIn want high xs
+unfoldable pub places_in : ℕ → ℕ → List Child → List Place
+places_in want high [] = []
+places_in want high (x ∷ xs) = place_of want (high_before high xs) x ∷ places_in want high xs
 
 -- the places that the entries of what is shown at e ask for, one kind lower; none under a leaf
 unfoldable pub kids : Place → View → List Place
-kids e v = placesIn (v.kind - 1) e.high v.children
+kids e v = places_in (v.kind - 1) e.high v.children
 
 -- the place whose range holds a key
 unfoldable pub pick : ℕ → List Place → Option Place
@@ -54,8 +54,8 @@ pick k (e ∷ es) = elim (between e.low e.high k) [ true ↦ some e | false ↦ 
 
 -- ── Fits, or lost ───────────────────────────────────────────────────────────────────────────────────────────────
 
-unfoldable pub kindAsked : ℕ → ℕ → Bool
-kindAsked want kind = want == 0 || want == kind
+unfoldable pub kind_asked : ℕ → ℕ → Bool
+kind_asked want kind = want == 0 || want == kind
 
 -- a test, and the reason that its failure is
 pub record Trial : Type 0 where
@@ -66,31 +66,31 @@ abbrev pub trial : Bool → Reason → Trial
 trial passes reason = record { passes = passes; reason = reason }
 
 -- the reason of the first test that fails
-unfoldable pub firstFailed : List Trial → Reason
-firstFailed [] = Reason.None
-firstFailed (x ∷ xs) = elim x.passes [ true ↦ firstFailed xs | false ↦ x.reason ]
+unfoldable pub first_failed : List Trial → Reason
+first_failed [] = Reason.None
+first_failed (x ∷ xs) = elim x.passes [ true ↦ first_failed xs | false ↦ x.reason ]
 
 -- the first test of a place that a page fails: soundness, kind, birth, range
 unfoldable pub unfit : ℕ → Place → Page → Reason
 unfit n e p =
-    firstFailed
+    first_failed
     (trial (sound n p) Reason.Soundness
-    ∷ trial (kindAsked e.want p.view.kind) Reason.Kind
+    ∷ trial (kind_asked e.want p.view.kind) Reason.Kind
     ∷ trial (p.birth == e.birth) Reason.Birth
     ∷ trial (p.low == e.low) Reason.Range
     ∷ trial (p.high == e.high) Reason.Range
     ∷ [])
 
-unfoldable pub isNone : Reason → Bool
-isNone Reason.None = true
-isNone Reason.Soundness = false
-isNone Reason.Kind = false
-isNone Reason.Birth = false
-isNone Reason.Range = false
+unfoldable pub is_none : Reason → Bool
+is_none Reason.None = true
+is_none Reason.Soundness = false
+is_none Reason.Kind = false
+is_none Reason.Birth = false
+is_none Reason.Range = false
 
 -- a page fits a place if it fails none; one that does not is lost
 unfoldable pub fits : ℕ → Place → Page → Bool
-fits n e p = isNone (unfit n e p)
+fits n e p = is_none (unfit n e p)
 
 -- ── Mended, or damaged ──────────────────────────────────────────────────────────────────────────────────────────
 
@@ -101,15 +101,15 @@ mendable n e q =
     (between 1 (n - 1) e.previous
     ∷ not (e.previous == e.child)
     ∷ sound n q
-    ∷ kindAsked e.want q.view.kind
+    ∷ kind_asked e.want q.view.kind
     ∷ nat_le q.low e.low
     ∷ nat_le e.high q.high
-    ∷ (isLeaf q.view || mem e.low (keys q.view.children))
+    ∷ (is_leaf q.view || mem e.low (keys q.view.children))
     ∷ [])
 
 -- the entries with keys in a range
-unfoldable pub cutView : ℕ → ℕ → View → View
-cutView low high v = record {
+unfoldable pub cut_view : ℕ → ℕ → View → View
+cut_view low high v = record {
   kind = v.kind;
   certs = cut low high v.certs;
   children = cut low high v.children;
@@ -117,14 +117,14 @@ cutView low high v = record {
 
 -- the page that mending builds from the previous page
 unfoldable pub mended : ℕ → Place → Page → Page
-mended c e q = fresh c e.birth e.low e.high (cutView e.low e.high q.view)
+mended c e q = fresh c e.birth e.low e.high (cut_view e.low e.high q.view)
 
 -- what a place shows, mending nothing: none where it is damaged. That a child with the number of a page above it is damaged
--- too is asked where the pages above are known: in Enter.enter, and in Tree.goodTree, as a number named twice.
+-- too is asked where the pages above are known: in Enter.enter, and in Tree.good_tree, as a number named twice.
 unfoldable pub show : ℕ → List ℕ → Place → Option View
 show n t e =
     elim (fits n e (read t e.child)) [
       | true ↦ some (read t e.child).view
       | false ↦ elim (mendable n e (read t e.previous))
-          [ true ↦ some (cutView e.low e.high (read t e.previous).view) | false ↦ none ]
+          [ true ↦ some (cut_view e.low e.high (read t e.previous).view) | false ↦ none ]
     ]

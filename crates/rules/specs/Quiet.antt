@@ -3,12 +3,12 @@
 -- histories, like demand 3; its proof is the theorem quiet-restarts in proofs/.
 use Rattle.std.specs.Prelude.{◌≡◌, ℕ, ◌<◌, ◌≤◌, Bool, false, ◌⊎◌, List, [], ◌∷◌, ◌≢◌}
 use Rattle.std.proofs.Math.Option.{Option}
-use Rattle.rules.specs.Layout.{lastKey, lastNumber}
+use Rattle.rules.specs.Layout.{last_key, last_number}
 use Rattle.rules.specs.Test.{mem}
-use Rattle.rules.specs.Table.{pageAt, number0, besideNumber}
-use Rattle.rules.specs.History.{Event, State, inserts, withdraws, opens, crashes, crashesInSync, step, run, start, Proper, AllProper, content}
-use Rattle.rules.specs.Demand.{Reads, SameListing, insertNow, withdrawNow, newestNow, hasAnyNow, listNow, Lent}
-use Rattle.rules.specs.Mends.{mendedBetween, InTurn}
+use Rattle.rules.specs.Table.{page_at, number0, beside_number}
+use Rattle.rules.specs.History.{Event, State, inserts, withdraws, opens, crashes, crashes_in_sync, step, run, start, Proper, AllProper, content}
+use Rattle.rules.specs.Demand.{Reads, SameListing, insert_now, withdraw_now, newest_now, has_any_now, list_now, Lent}
+use Rattle.rules.specs.Mends.{mended_between, InTurn}
 use Rattle.rules.specs.declared.Opened.{Opened}
 use Rattle.rules.specs.declared.Inserted.{Inserted}
 use Rattle.rules.specs.declared.Withdrawn.{Withdrawn}
@@ -18,9 +18,9 @@ use Rattle.rules.specs.declared.Withdrawn.{Withdrawn}
 -- a call that changes no certificate: it only reads, or is an insert or a withdrawal that is refused
 pub data QuietCall (m : State) : Event → Type 0 where
   reads : {e : Event} → Reads e → QuietCall m e
-  refused-insert : {model serial issue x : ℕ} → ((insertNow m model serial issue x).answer ≢ Inserted.Done)
+  refused_insert : {model serial issue x : ℕ} → ((insert_now m model serial issue x).answer ≢ Inserted.Done)
       → QuietCall m (inserts model serial issue x)
-  refused-withdrawal : {model serial issue : ℕ} → ((withdrawNow m model serial issue).answer ≢ Withdrawn.Done)
+  refused_withdrawal : {model serial issue : ℕ} → ((withdraw_now m model serial issue).answer ≢ Withdrawn.Done)
       → QuietCall m (withdraws model serial issue)
 
 -- such calls, one after the other
@@ -33,8 +33,8 @@ pub data QuietCalls : List Event → State → Type 0 where
 -- an opening, with or without a crash before it, with any pages written
 pub data Opens : Event → Type 0 where
   plainly : Opens opens
-  after-crash : {written : List Bool} {w : List ℕ} → Opens (crashes written w)
-  after-crash-in-sync : {written : List Bool} {w : List ℕ} → Opens (crashesInSync written w)
+  after_crash : {written : List Bool} {w : List ℕ} → Opens (crashes written w)
+  after_crash_in_sync : {written : List Bool} {w : List ℕ} → Opens (crashes_in_sync written w)
 
 -- a store whose last event is an opening: that after format, or a later one
 pub data JustOpened (n : ℕ) (w s : List ℕ) : State → Type 0 where
@@ -44,29 +44,29 @@ pub data JustOpened (n : ℕ) (w s : List ℕ) : State → Type 0 where
 -- ── The request ─────────────────────────────────────────────────────────────────────────────────────────────────
 
 -- what a lookup of a key would find now
-abbrev pub contentNow : State → ℕ → Option ℕ
-contentNow m k = content m.session m.working m.stable k
+abbrev pub content_now : State → ℕ → Option ℕ
+content_now m k = content m.session m.working m.stable k
 
 -- two stores show the same entries
 pub record SameEntries (a b : State) : Type 0 where
-  pub looks-up : (k : ℕ) → k ≤ lastKey → contentNow a k ≡ contentNow b k
-  pub lists : (from : ℕ) (ks xs : List ℕ) → SameListing (listNow a from ks xs) (listNow b from ks xs)
-  pub newest : (model serial : ℕ) → (newestNow a model serial).answer ≡ (newestNow b model serial).answer
-  pub any : (model serial : ℕ) → (hasAnyNow a model serial).answer ≡ (hasAnyNow b model serial).answer
+  pub looks_up : (k : ℕ) → k ≤ last_key → content_now a k ≡ content_now b k
+  pub lists : (from : ℕ) (ks xs : List ℕ) → SameListing (list_now a from ks xs) (list_now b from ks xs)
+  pub newest : (model serial : ℕ) → (newest_now a model serial).answer ≡ (newest_now b model serial).answer
+  pub any : (model serial : ℕ) → (has_any_now a model serial).answer ≡ (has_any_now b model serial).answer
   pub total : a.session.total ≡ b.session.total
 
 pub record Restarted (n : ℕ) (first : State) (between : List Event) (second : State) : Type 0 where
   -- done, unless the counter is spent
-  pub opens : (second.opened ≡ Opened.Done) ⊎ ((second.opened ≡ Opened.Spent) × (lastNumber < number0 second.stable))
+  pub opens : (second.opened ≡ Opened.Done) ⊎ ((second.opened ≡ Opened.Spent) × (last_number < number0 second.stable))
   pub shows : second.opened ≡ Opened.Done → SameEntries second first
   -- the calls between did nothing to the working table but mend the pages of their walks in turn, each when it was lost
-  pub mends : InTurn first.session.n first.session.c (mendedBetween between first) first.working (run between first).working
+  pub mends : InTurn first.session.n first.session.c (mended_between between first) first.working (run between first).working
   -- a page that none of them mended has the same stable bytes, whether the second opening was done or not, and
   -- whether a crash wrote the mended ones or not
-  pub pages : (i : ℕ) → 1 ≤ i → i < n → mem i (mendedBetween between first) ≡ false
-      → pageAt second.stable i ≡ pageAt first.stable i
+  pub pages : (i : ℕ) → 1 ≤ i → i < n → mem i (mended_between between first) ≡ false
+      → page_at second.stable i ≡ page_at first.stable i
   -- of page 0 all but the number
-  pub zero : besideNumber second.stable ≡ besideNumber first.stable
+  pub zero : beside_number second.stable ≡ beside_number first.stable
 
 -- a crash before the second opening may even fall inside a sync
 unfoldable pub QuietRestarts : Type 0

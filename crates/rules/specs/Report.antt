@@ -2,7 +2,7 @@
 -- gives no reason.
 use Rattle.std.specs.Prelude.{ℕ, ◌+◌, ◌%◌, true, false, List}
 use Rattle.rules.specs.Table.{read}
-use Rattle.rules.specs.Place.{unfit, isNone}
+use Rattle.rules.specs.Place.{unfit, is_none}
 use Rattle.rules.specs.declared.Place.{Place}
 use Rattle.rules.specs.declared.Reason.{Reason}
 use Rattle.rules.specs.declared.Report.{Report}
@@ -18,22 +18,22 @@ nothing = record { mended = 0; reason = Reason.None }
 
 -- the first reason of two
 unfoldable pub first_of : Reason → Reason → Reason
-first_of r s = elim (isNone r) [ true ↦ s | false ↦ r ]
+first_of r s = elim (is_none r) [ true ↦ s | false ↦ r ]
 
 -- a page was entered: it fitted, and nothing is added; or it was mended, for this reason. The count has 32 bits and wraps.
 unfoldable pub adds : Reason → Report → Report
 adds r x =
-    elim (isNone r)
+    elim (is_none r)
     [ true ↦ x | false ↦ record { mended = (x.mended + 1) % 4294967296; reason = first_of x.reason r } ]
 
 -- why the page that stands at a place is lost; none: it fits
-unfoldable pub reasonAt : ℕ → List ℕ → Place → Reason
-reasonAt n t e = unfit n e (read t e.child)
+unfoldable pub reason_at : ℕ → List ℕ → Place → Reason
+reason_at n t e = unfit n e (read t e.child)
 
 -- the paper's numbers
-unfoldable pub reasonNo : Reason → ℕ
-reasonNo Reason.None = 0
-reasonNo Reason.Soundness = 1
-reasonNo Reason.Kind = 2
-reasonNo Reason.Birth = 3
-reasonNo Reason.Range = 4
+unfoldable pub reason_no : Reason → ℕ
+reason_no Reason.None = 0
+reason_no Reason.Soundness = 1
+reason_no Reason.Kind = 2
+reason_no Reason.Birth = 3
+reason_no Reason.Range = 4

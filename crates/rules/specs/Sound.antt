@@ -1,34 +1,34 @@
 -- When a page is sound, whoever asks for it.
 use Rattle.std.specs.Prelude.{ℕ, ◌-◌, Bool, false, ◌&&◌, ◌||◌, List, [], ◌∷◌, length, ◌==◌, nat_le, nat_lt}
-use Rattle.rules.specs.Layout.{leafRoom, innerRoom, leafKind, topKind}
+use Rattle.rules.specs.Layout.{leaf_room, inner_room, leaf_kind, top_kind}
 use Rattle.rules.specs.Test.{between, every, all}
-use Rattle.rules.specs.Key.{goodKey}
+use Rattle.rules.specs.Key.{good_key}
 use Rattle.rules.specs.Entry.{Child, keys, rising}
-use Rattle.rules.specs.Page.{Page, isLeaf}
+use Rattle.rules.specs.Page.{Page, is_leaf}
 
 -- the first child starts at the page's low, so there is one at least
-unfoldable pub startsAt : ℕ → List Child → Bool
-startsAt low [] = false
-startsAt low (x ∷ xs) = x.key == low
+unfoldable pub starts_at : ℕ → List Child → Bool
+starts_at low [] = false
+starts_at low (x ∷ xs) = x.key == low
 
 -- children name a page other than 0; previous may be 0, for none
-unfoldable pub namesPages : ℕ → Child → Bool
-namesPages n x = between 1 (n - 1) x.value.child && nat_lt x.value.previous n
+unfoldable pub names_pages : ℕ → Child → Bool
+names_pages n x = between 1 (n - 1) x.value.child && nat_lt x.value.previous n
 
 -- keys strictly rising and within low to high
-unfoldable pub inOrder : ℕ → ℕ → List ℕ → Bool
-inOrder low high ks = rising ks && all (between low high) ks
+unfoldable pub in_order : ℕ → ℕ → List ℕ → Bool
+in_order low high ks = rising ks && all (between low high) ks
 
 unfoldable pub sound : ℕ → Page → Bool
 sound n p =
     every
-    (between leafKind topKind p.view.kind
-    ∷ nat_le (length p.view.certs) leafRoom
-    ∷ nat_le (length p.view.children) innerRoom
+    (between leaf_kind top_kind p.view.kind
+    ∷ nat_le (length p.view.certs) leaf_room
+    ∷ nat_le (length p.view.children) inner_room
     ∷ nat_le p.low p.high
-    ∷ inOrder p.low p.high (keys p.view.certs)
-    ∷ inOrder p.low p.high (keys p.view.children)
-    ∷ all (λ x. goodKey x.key) p.view.certs
-    ∷ (isLeaf p.view || startsAt p.low p.view.children)
-    ∷ all (namesPages n) p.view.children
+    ∷ in_order p.low p.high (keys p.view.certs)
+    ∷ in_order p.low p.high (keys p.view.children)
+    ∷ all (λ x. good_key x.key) p.view.certs
+    ∷ (is_leaf p.view || starts_at p.low p.view.children)
+    ∷ all (names_pages n) p.view.children
     ∷ [])

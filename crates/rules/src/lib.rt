@@ -8,7 +8,7 @@
 //
 // Below stands `fields`: numbers in bytes.
 ghost use Rattle.std.specs.Prelude.{◌≡◌, ◌<◌};
-ghost use Rattle.rules.specs.Place.{isNone};
+ghost use Rattle.rules.specs.Place.{is_none};
 ghost use Rattle.rules.specs.Report.{nothing, adds};
 ghost use Rattle.rules.specs.Batch.{joins};
 ghost use Rattle.rules.specs.Marks.{taken, freed, waits, raised, counted, uncounted};
@@ -135,7 +135,7 @@ pub enum Reason {
 
 impl Reason {
     pub fn is_none(self) -> bool
-        ensures { result ≡ isNone self }
+        ensures { result ≡ is_none self }
     {
         match self {
             Reason::None => true,

@@ -6,7 +6,7 @@ use mathlib.Core.Path.{◌≡◌, refl, sym, ap, ◌∙◌}
 use mathlib.Core.List.{List, [], ◌∷◌, ◌++◌}
 use lib.ListN.{length, drop, set}
 use lib.Seq.{sets, sets-eq}
-use Rattle.fields.proofs.Run.{sets-append}
+use Rattle.fields.proofs.Run.{sets_append}
 use Rattle.rules.specs.Page.{over}
 
 -- ── Apart from each other ───────────────────────────────────────────────────────────────────────────────────────
@@ -22,10 +22,10 @@ set_before l i j a [] h = refl
 set_before l i j a (y ∷ ys) h =
     set_before (set l j y) i (suc j) a ys (omega arith) ∙ ap (λ (r : List ℕ). sets r (suc j) ys) (set_apart l i j a y h)
 
-pub sets-before : (l : List ℕ) (i j : ℕ) (xs ys : List ℕ) → i + length xs ≤ j → sets (sets l j ys) i xs ≡ sets (sets l i xs) j ys
-sets-before l i j [] ys h = refl
-sets-before l i j (x ∷ xs) ys h =
-    ap (λ (r : List ℕ). sets r (suc i) xs) (set_before l i j x ys (omega arith)) ∙ sets-before (set l i x) (suc i) j xs ys (omega arith)
+pub sets_before : (l : List ℕ) (i j : ℕ) (xs ys : List ℕ) → i + length xs ≤ j → sets (sets l j ys) i xs ≡ sets (sets l i xs) j ys
+sets_before l i j [] ys h = refl
+sets_before l i j (x ∷ xs) ys h =
+    ap (λ (r : List ℕ). sets r (suc i) xs) (set_before l i j x ys (omega arith)) ∙ sets_before (set l i x) (suc i) j xs ys (omega arith)
 
 -- ── Side by side ────────────────────────────────────────────────────────────────────────────────────────────────
 
@@ -35,36 +35,36 @@ three out b e xs ys zs = sets (sets (sets out 0 xs) b ys) e zs
 
 module _ (out : List ℕ) (b e : ℕ) (xs ys zs : List ℕ) where
   pub third-more : (vs : List ℕ) (at : ℕ) → at ≡ e + length zs → sets (three out b e xs ys zs) at vs ≡ three out b e xs ys (zs ++ vs)
-  third-more vs at q = ap (λ (i : ℕ). sets (three out b e xs ys zs) i vs) q ∙ sym (sets-append zs vs (sets (sets out 0 xs) b ys) e)
+  third-more vs at q = ap (λ (i : ℕ). sets (three out b e xs ys zs) i vs) q ∙ sym (sets_append zs vs (sets (sets out 0 xs) b ys) e)
 
   pub second_more : (vs : List ℕ) (at : ℕ) → at ≡ b + length ys → at + length vs ≤ e
       → sets (three out b e xs ys zs) at vs ≡ three out b e xs (ys ++ vs) zs
   second_more vs at q h =
-      sets-before (sets (sets out 0 xs) b ys) at e vs zs h
+      sets_before (sets (sets out 0 xs) b ys) at e vs zs h
       ∙ ap (λ (i : ℕ). sets (sets (sets (sets out 0 xs) b ys) i vs) e zs) q
-      ∙ ap (λ (r : List ℕ). sets r e zs) (sym (sets-append ys vs (sets out 0 xs) b))
+      ∙ ap (λ (r : List ℕ). sets r e zs) (sym (sets_append ys vs (sets out 0 xs) b))
 
   pub first_more : (vs : List ℕ) (at : ℕ) → at ≡ length xs → at + length vs ≤ b → b ≤ e
       → sets (three out b e xs ys zs) at vs ≡ three out b e (xs ++ vs) ys zs
   first_more vs at q h l =
       let i : at ≡ 0 + length xs = q ∙ omega arith in
-      sets-before (sets (sets out 0 xs) b ys) at e vs zs (omega arith)
-      ∙ ap (λ (r : List ℕ). sets r e zs) (sets-before (sets out 0 xs) at b vs ys h)
+      sets_before (sets (sets out 0 xs) b ys) at e vs zs (omega arith)
+      ∙ ap (λ (r : List ℕ). sets r e zs) (sets_before (sets out 0 xs) at b vs ys h)
       ∙ ap (λ (i : ℕ). sets (sets (sets (sets out 0 xs) i vs) b ys) e zs) i
-      ∙ ap (λ (r : List ℕ). sets (sets r b ys) e zs) (sym (sets-append xs vs out 0))
+      ∙ ap (λ (r : List ℕ). sets (sets r b ys) e zs) (sym (sets_append xs vs out 0))
 
   -- end to end, they are one run over the start
-  pub three-over : b ≡ length xs → e ≡ length xs + length ys → length (xs ++ (ys ++ zs)) ≤ length out
+  pub three_over : b ≡ length xs → e ≡ length xs + length ys → length (xs ++ (ys ++ zs)) ≤ length out
       → three out b e xs ys zs ≡ over (xs ++ (ys ++ zs)) out
   unfolding over
-  three-over p q h =
+  three_over p q h =
       let all = xs ++ (ys ++ zs) in
       let i : b ≡ 0 + length xs = p ∙ omega arith in
       let j : e ≡ b + length ys = omega (arith, p, q) in
       ap (λ (k : ℕ). sets (sets (sets out 0 xs) b ys) k zs) j
-      ∙ sym (sets-append ys zs (sets out 0 xs) b)
+      ∙ sym (sets_append ys zs (sets out 0 xs) b)
       ∙ ap (λ (k : ℕ). sets (sets out 0 xs) k (ys ++ zs)) i
-      ∙ sym (sets-append xs (ys ++ zs) out 0)
+      ∙ sym (sets_append xs (ys ++ zs) out 0)
       ∙ sets-eq all out 0 (omega (arith, h))
       ∙ ap (λ (k : ℕ). all ++ drop k out) zero-length
     where

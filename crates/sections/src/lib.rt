@@ -6,12 +6,12 @@
 //
 // Below stand `exchange`, which writes one item, `counts`, which keeps the tally, `head` and `fields`.
 ghost use Rattle.std.specs.Prelude.{◌≡◌, ◌+◌, ◌*◌, ◌-◌, ◌≤◌, length, drop};
-ghost use Rattle.rules.specs.Layout.{pageSize, leafHeader, certSize, leafRoom};
+ghost use Rattle.rules.specs.Layout.{page_size, leaf_header, cert_size, leaf_room};
 ghost use Rattle.rules.specs.Entry.{cut};
-ghost use Rattle.rules.specs.Page.{readEach, certIn};
-ghost use Rattle.rules.specs.Table.{pageAt};
-ghost use Rattle.counts.specs.Tally.{counted, countedIn, countedAll, Few};
-ghost use Rattle.sections.specs.Puts.{startsOf, putCounts, putModel, putMeter, putCert, putNext, putFrom, putting, put_all, Lies};
+ghost use Rattle.rules.specs.Page.{read_each, cert_in};
+ghost use Rattle.rules.specs.Table.{page_at};
+ghost use Rattle.counts.specs.Tally.{counted, counted_in, counted_all, Few};
+ghost use Rattle.sections.specs.Puts.{starts_of, put_counts, put_model, put_meter, put_cert, put_next, put_from, putting, put_all, Lies};
 
 use counts::{BY_METER, BY_MODEL, Tally, counted};
 use fields::put32;
@@ -39,7 +39,7 @@ const CERT: usize = 10;
 // The file of so many of each.
 pub fn starts_of(c: Tally) -> Starts
     requires { Few c × (c.certs ≤ 4294967295) }
-    ensures { result ≡ startsOf c }
+    ensures { result ≡ starts_of c }
 {
     let meters = MODELS + COUNT + MODEL * c.models;
     let certs = meters + COUNT + METER * c.meters;
@@ -52,8 +52,8 @@ pub fn starts_of(c: Tally) -> Starts
 
 // The three counts.
 pub fn put_counts(out: &mut [u8], s: Starts, c: Tally)
-    requires { Few c × (c.certs ≤ 4294967295) × (s ≡ startsOf c) × ((startsOf c).end ≤ length out.old) }
-    ensures { out.new ≡ putCounts c out.old }
+    requires { Few c × (c.certs ≤ 4294967295) × (s ≡ starts_of c) × ((starts_of c).end ≤ length out.old) }
+    ensures { out.new ≡ put_counts c out.old }
 {
     put32(out, 0, c.models as u32);
     put32(out, s.meters - COUNT, c.meters as u32);
@@ -73,7 +73,7 @@ fn last_of(many: usize) -> usize
 // The model of a certificate that is its first.
 fn put_model(out: &mut [u8], c: Tally, d: Tally, key: u64)
     requires { (c.models ≤ d.models) × (4 + 2 * d.models ≤ length out.old) }
-    ensures { out.new ≡ putModel c d key out.old }
+    ensures { out.new ≡ put_model c d key out.old }
 {
     if d.models == c.models {
         return;
@@ -84,7 +84,7 @@ fn put_model(out: &mut [u8], c: Tally, d: Tally, key: u64)
 // The meter of a certificate that is its first, by the place of its model, which is the last.
 fn put_meter(out: &mut [u8], s: Starts, c: Tally, d: Tally, key: u64)
     requires { (c.meters ≤ d.meters) × (d.models ≤ 65536) × (s.meters + 6 * d.meters ≤ length out.old) }
-    ensures { out.new ≡ putMeter s c d key out.old }
+    ensures { out.new ≡ put_meter s c d key out.old }
 {
     if d.meters == c.meters {
         return;
@@ -97,7 +97,7 @@ fn put_meter(out: &mut [u8], s: Starts, c: Tally, d: Tally, key: u64)
 // The certificate, by the place of its meter, which is the last.
 fn put_cert(out: &mut [u8], s: Starts, c: Tally, d: Tally, key: u64, record: u32)
     requires { (c.certs + 1 ≤ d.certs) × (d.meters ≤ 4294967295) × (s.certs + 10 * d.certs ≤ length out.old) }
-    ensures { out.new ≡ putCert s c d (record { key = key; value = «record» }) out.old }
+    ensures { out.new ≡ put_cert s c d (record { key = key; value = «record» }) out.old }
 {
     let place = last_of(d.meters) as u32;
     let issue = (key % BY_METER) as u16;
@@ -107,7 +107,7 @@ fn put_cert(out: &mut [u8], s: Starts, c: Tally, d: Tally, key: u64, record: u32
 // A certificate, with its model and its meter.
 fn put_next(out: &mut [u8], s: Starts, c: Tally, key: u64, record: u32) -> Tally
     requires { Few c × (c.certs ≤ 4294967295) × Lies s (counted c key) (length out.old) }
-    ensures { putting result out.new ≡ putting (counted c key) (putNext s c (record { key = key; value = «record» }) out.old) }
+    ensures { putting result out.new ≡ putting (counted c key) (put_next s c (record { key = key; value = «record» }) out.old) }
 {
     let d = counted(c, key);
     put_model(out, c, d, key);
@@ -126,8 +126,8 @@ fn put_from(
     key: u64,
     record: u32,
 ) -> Tally
-    requires { Few c × (c.certs ≤ 4294967295) × Lies s (countedIn low high c key) (length out.old) }
-    ensures { putting result out.new ≡ putFrom s low high c (record { key = key; value = «record» }) out.old }
+    requires { Few c × (c.certs ≤ 4294967295) × Lies s (counted_in low high c key) (length out.old) }
+    ensures { putting result out.new ≡ put_from s low high c (record { key = key; value = «record» }) out.old }
 {
     if key < low {
         return c;
@@ -149,10 +149,10 @@ pub fn put_leaf(
     c: Tally,
     out: &mut [u8],
 ) -> Tally
-    requires { ((page + 1) * pageSize ≤ length table.now) × (entries ≤ leafRoom) × Few c
-        × Lies s (countedAll c (cut low high (readEach certIn certSize entries (drop leafHeader (pageAt table.now page))))) (length out.old) }
+    requires { ((page + 1) * page_size ≤ length table.now) × (entries ≤ leaf_room) × Few c
+        × Lies s (counted_all c (cut low high (read_each cert_in cert_size entries (drop leaf_header (page_at table.now page))))) (length out.old) }
     ensures { putting result out.new
-        ≡ put_all s c (cut low high (readEach certIn certSize entries (drop leafHeader (pageAt table.now page)))) out.old }
+        ≡ put_all s c (cut low high (read_each cert_in cert_size entries (drop leaf_header (page_at table.now page)))) out.old }
 {
     let mut t = c;
     let mut j = 0;

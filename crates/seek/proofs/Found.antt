@@ -11,12 +11,12 @@ use lib.Dec.{leb}
 use lib.ListN.{get_or}
 use Rattle.rules.specs.Test.{between}
 use Rattle.rules.specs.Entry.{Entry, Child, keys, find, rising}
-use Rattle.rules.specs.Place.{highBefore, place_of, placesIn, pick}
+use Rattle.rules.specs.Place.{high_before, place_of, places_in, pick}
 use Rattle.rules.specs.declared.Place.{Place}
-use Rattle.rules.proofs.entries.Rises.{rises-head, rising-from, rising-tail, length-keys}
-use Rattle.rules.proofs.entries.Entries.{find-tail, find-below, find_at}
-use Rattle.rules.proofs.entries.Tests.{between-above}
-use Rattle.rules.proofs.entries.Picks.{pick-here, pick-later}
+use Rattle.rules.proofs.Entries.Rises.{rises-head, rising-from, rising_tail, length-keys}
+use Rattle.rules.proofs.Entries.Entries.{find_tail, find-below, find_at}
+use Rattle.rules.proofs.Entries.Tests.{between-above}
+use Rattle.rules.proofs.Entries.Picks.{pick-here, pick-later}
 use Rattle.entries.specs.Spot.{spot_of}
 use Rattle.entries.proofs.Cut.{spot-cons, spot-first}
 use Rattle.entries.proofs.KeysIn.{spot-bound}
@@ -54,7 +54,7 @@ module _ {B : Type 0} where
   find-before k [] r h = find-nil k
   find-before k (x ∷ xs) r h =
       let l = spot-zero k x.key (keys xs) h in
-      find-tail k x xs (λ e. omega (arith, l)) ∙ find-below x.key k xs (rising-from x.key (keys xs) r) (omega arith)
+      find_tail k x xs (λ e. omega (arith, l)) ∙ find-below x.key k xs (rising-from x.key (keys xs) r) (omega arith)
 
   -- the entry before the spot has the key
   pub find-spot : (k j : ℕ) (xs : List (Entry B)) (d : Entry B) → rising (keys xs) ≡ true → spot_of k (keys xs) ≡ suc j
@@ -69,10 +69,10 @@ module _ {B : Type 0} where
   find_absent k j [] d r h o = find-nil k
   find_absent k zero (x ∷ xs) d r h o =
       let s = spot-suc k x.key zero (keys xs) h in
-      find-tail k x xs (λ e. o (sym e)) ∙ find-before k xs (rising-tail x.key (keys xs) r) s.1
+      find_tail k x xs (λ e. o (sym e)) ∙ find-before k xs (rising_tail x.key (keys xs) r) s.1
   find_absent k (suc j) (x ∷ xs) d r h o =
       let s = spot-suc k x.key (suc j) (keys xs) h in
-      find-tail k x xs (other xs r s.1) ∙ find_absent k j xs d (rising-tail x.key (keys xs) r) s.1 o
+      find_tail k x xs (other xs r s.1) ∙ find_absent k j xs d (rising_tail x.key (keys xs) r) s.1 o
     where
       other : (ys : List (Entry B)) → rising (x.key ∷ keys ys) ≡ true → spot_of k (keys ys) ≡ suc j → k ≡ x.key → ⊥
       other [] r s e = omega (arith, s, spot-nil k)
@@ -84,23 +84,23 @@ module _ {B : Type 0} where
 
 -- the place that the entry before the spot asks for
 pub pick-spot : (want high k j : ℕ) (xs : List Child) (d : Place) → rising (keys xs) ≡ true → k ≤ high
-    → spot_of k (keys xs) ≡ suc j → pick k (placesIn want high xs) ≡ some (get_or (placesIn want high xs) j d)
-unfolding placesIn keys place_of highBefore
+    → spot_of k (keys xs) ≡ suc j → pick k (places_in want high xs) ≡ some (get_or (places_in want high xs) j d)
+unfolding places_in keys place_of high_before
 pick-spot want high k j [] d r q h = absurd (omega (arith, h, spot-nil k))
 pick-spot want high k zero (x ∷ xs) d r q h =
     let s = spot-suc k x.key zero (keys xs) h in
-    pick-here k (place_of want (highBefore high xs) x) (placesIn want high xs) s.0 (last xs s.1)
+    pick-here k (place_of want (high_before high xs) x) (places_in want high xs) s.0 (last xs s.1)
   where
-    last : (ys : List Child) → spot_of k (keys ys) ≡ 0 → k ≤ highBefore high ys
+    last : (ys : List Child) → spot_of k (keys ys) ≡ 0 → k ≤ high_before high ys
     last [] s = q
     last (y ∷ ys) s = omega (arith, spot-zero k y.key (keys ys) s)
 pick-spot want high k (suc j) (x ∷ xs) d r q h =
     let s = spot-suc k x.key (suc j) (keys xs) h in
-    pick-later k (place_of want (highBefore high xs) x) (placesIn want high xs) (past xs r s.1)
-    ∙ pick-spot want high k j xs d (rising-tail x.key (keys xs) r) q s.1
+    pick-later k (place_of want (high_before high xs) x) (places_in want high xs) (past xs r s.1)
+    ∙ pick-spot want high k j xs d (rising_tail x.key (keys xs) r) q s.1
   where
     past : (ys : List Child) → rising (x.key ∷ keys ys) ≡ true → spot_of k (keys ys) ≡ suc j
-        → between x.key (highBefore high ys) k ≡ false
+        → between x.key (high_before high ys) k ≡ false
     past [] r s = absurd (omega (arith, s, spot-nil k))
     past (y ∷ ys) r s =
         let up = rises-head x.key y.key (keys ys) (rising-from x.key (y.key ∷ keys ys) r) in
@@ -108,6 +108,6 @@ pick-spot want high k (suc j) (x ∷ xs) d r q h =
 
 -- the same, told by the spot itself
 pub pick_at : (want high k s : ℕ) (xs : List Child) (d : Place) → rising (keys xs) ≡ true → k ≤ high → 1 ≤ s
-    → spot_of k (keys xs) ≡ s → pick k (placesIn want high xs) ≡ some (get_or (placesIn want high xs) (s - 1) d)
+    → spot_of k (keys xs) ≡ s → pick k (places_in want high xs) ≡ some (get_or (places_in want high xs) (s - 1) d)
 pick_at want high k zero xs d r q o h = absurd (omega arith)
 pick_at want high k (suc j) xs d r q o h = let e : suc j - 1 ≡ j = omega arith in rw e (pick-spot want high k j xs d r q h)

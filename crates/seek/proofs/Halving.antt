@@ -10,12 +10,12 @@ use borrow.Author.Tests.{leb-true, leb-false}
 use mir.Val.{bool_byte}
 use lib.Dec.{leb}
 use lib.ListN.{length, get_or}
-use Rattle.fields.specs.Field.{leAt}
-use Rattle.rules.specs.Layout.{pageSize}
+use Rattle.fields.specs.Field.{le_at}
+use Rattle.rules.specs.Layout.{page_size}
 use Rattle.rules.specs.Entry.{rising}
-use Rattle.entries.specs.Spot.{keysIn, spot_of}
-use Rattle.entries.proofs.KeysIn.{length-keysIn, key-at, spot-bound}
-use Rattle.seek.specs.Guess.{passed, halve, guessOf}
+use Rattle.entries.specs.Spot.{keys_in, spot_of}
+use Rattle.entries.proofs.KeysIn.{length-keys_in, key-at, spot-bound}
+use Rattle.seek.specs.Guess.{passed, halve, guess_of}
 use Rattle.seek.proofs.Spots.{spot-above, spot-below}
 
 -- ── One comparison ──────────────────────────────────────────────────────────────────────────────────────────────
@@ -36,7 +36,7 @@ one-most true = omega arith
 one-most false = omega arith
 
 -- a step is taken or not without a jump: shifted by the answer it is doubled or not, and one is taken away again
-pub shifted : (k x n : ℕ) → n ≤ pageSize
+pub shifted : (k x n : ℕ) → n ≤ page_size
     → (n ≤ (n * 2 ^ bool_byte (leb x k)) % 18446744073709551616)
     × ((n * 2 ^ bool_byte (leb x k)) % 18446744073709551616 - n ≡ passed k x n)
 unfolding passed
@@ -48,7 +48,7 @@ shifted k x n h = go (leb x k)
     go false = (omega arith, omega arith)
 
 -- a page holds fewer entries than bytes
-pub few : (header size count : ℕ) → 8 ≤ size → header + size * count ≤ pageSize → count ≤ pageSize
+pub few : (header size count : ℕ) → 8 ≤ size → header + size * count ≤ page_size → count ≤ page_size
 few header zero count o h = absurd (omega arith)
 few header (suc size) count o h = omega arith
 
@@ -64,44 +64,44 @@ pub record Halving (k : ℕ) (ks : List ℕ) (low left : ℕ) : Type 0 where
   pub turns : ℕ
   pub enough : left ≤ turns
   pub inside : low + left ≤ length ks
-  pub rest : halve turns k ks low left ≡ guessOf k ks
+  pub rest : halve turns k ks low left ≡ guess_of k ks
 
 module _ (k header size count : ℕ) (b : List ℕ) where
-  pub halving-all : Halving k (keysIn header size count b) 0 count
-  unfolding guessOf
-  halving-all =
-      let l = length-keysIn header size count b in
+  pub halving_all : Halving k (keys_in header size count b) 0 count
+  unfolding guess_of
+  halving_all =
+      let l = length-keys_in header size count b in
       record {
         turns = count;
         enough = omega arith;
         inside = omega (arith, l);
-        rest = ap (λ (n : ℕ). halve n k (keysIn header size count b) 0 n) (sym l);
+        rest = ap (λ (n : ℕ). halve n k (keys_in header size count b) 0 n) (sym l);
       }
 
-  module _ (low left : ℕ) (h : Halving k (keysIn header size count b) low left) where
-    pub halving-end : left ≡ 0 → low ≡ guessOf k (keysIn header size count b)
-    halving-end z =
-        sym (halve-none h.turns k (keysIn header size count b) low)
-        ∙ (ap (halve h.turns k (keysIn header size count b) low) (sym z) ∙ h.rest)
+  module _ (low left : ℕ) (h : Halving k (keys_in header size count b) low left) where
+    pub halving_end : left ≡ 0 → low ≡ guess_of k (keys_in header size count b)
+    halving_end z =
+        sym (halve-none h.turns k (keys_in header size count b) low)
+        ∙ (ap (halve h.turns k (keys_in header size count b) low) (sym z) ∙ h.rest)
 
     module _ (o : 0 < left) where
       -- the last of the next half lies on the page
-      pub half-inside : low + (left - left / 2) - 1 < count
-      half-inside = omega (arith, h.inside, length-keysIn header size count b)
+      pub half_inside : low + (left - left / 2) - 1 < count
+      half_inside = omega (arith, h.inside, length-keys_in header size count b)
 
-      pub halving-step : (x : ℕ) → x ≡ leAt b (header + size * (low + (left - left / 2) - 1)) 8
-          → Halving k (keysIn header size count b) (low + passed k x (left - left / 2)) (left - (left - left / 2))
+      pub halving_step : (x : ℕ) → x ≡ le_at b (header + size * (low + (left - left / 2) - 1)) 8
+          → Halving k (keys_in header size count b) (low + passed k x (left - left / 2)) (left - (left - left / 2))
       unfolding halve
-      halving-step x e = go h.turns h.enough h.rest
+      halving_step x e = go h.turns h.enough h.rest
         where
           half : left - (left - left / 2) ≡ left / 2
           half = omega arith
 
-          read : x ≡ get_or (keysIn header size count b) (low + (left - left / 2) - 1) 0
-          read = e ∙ sym (key-at header size count (low + (left - left / 2) - 1) b half-inside)
+          read : x ≡ get_or (keys_in header size count b) (low + (left - left / 2) - 1) 0
+          read = e ∙ sym (key-at header size count (low + (left - left / 2) - 1) b half_inside)
 
-          go : (turns : ℕ) → left ≤ turns → halve turns k (keysIn header size count b) low left ≡ guessOf k (keysIn header size count b)
-              → Halving k (keysIn header size count b) (low + passed k x (left - left / 2)) (left - (left - left / 2))
+          go : (turns : ℕ) → left ≤ turns → halve turns k (keys_in header size count b) low left ≡ guess_of k (keys_in header size count b)
+              → Halving k (keys_in header size count b) (low + passed k x (left - left / 2)) (left - (left - left / 2))
           go zero m r = absurd (omega arith)
           go (suc turns) m r = record {
             turns = turns;
@@ -119,10 +119,10 @@ record Among (k low left : ℕ) (ks : List ℕ) : Type 0 where
   most : spot_of k ks ≤ low + left
 
 -- half the entries left are passed if the last of them is not above k
-among-step : (k low left : ℕ) (ks : List ℕ) → rising ks ≡ true → 0 < left → Among k low left ks
+among_step : (k low left : ℕ) (ks : List ℕ) → rising ks ≡ true → 0 < left → Among k low left ks
     → Among k (low + passed k (get_or ks (low + (left - left / 2) - 1) 0) (left - left / 2)) (left / 2) ks
 unfolding passed
-among-step k low left ks r o a = go (leb (get_or ks (low + (left - left / 2) - 1) 0) k) refl
+among_step k low left ks r o a = go (leb (get_or ks (low + (left - left / 2) - 1) 0) k) refl
   where
     go : (t : Bool) → leb (get_or ks (low + (left - left / 2) - 1) 0) k ≡ t
         → Among k (low + elim t [ true ↦ left - left / 2 | false ↦ 0 ]) (left / 2) ks
@@ -140,10 +140,10 @@ halve-spot zero k low left ks r h a = omega (arith, a.least, a.most)
 halve-spot (suc turns) k low zero ks r h a = halve-none (suc turns) k ks low ∙ omega (arith, a.least, a.most)
 halve-spot (suc turns) k low (suc left) ks r h a =
     halve-spot turns k (low + passed k (get_or ks (low + (suc left - suc left / 2) - 1) 0) (suc left - suc left / 2)) (suc left / 2) ks r (omega arith)
-    (among-step k low (suc left) ks r (omega arith) a)
+    (among_step k low (suc left) ks r (omega arith) a)
 
-pub guess-spot : (k : ℕ) (ks : List ℕ) → rising ks ≡ true → guessOf k ks ≡ spot_of k ks
-unfolding guessOf
+pub guess-spot : (k : ℕ) (ks : List ℕ) → rising ks ≡ true → guess_of k ks ≡ spot_of k ks
+unfolding guess_of
 guess-spot k ks r =
     halve-spot (length ks) k 0 (length ks) ks r (omega arith)
     (record { inside = omega arith; least = omega arith; most = omega (arith, spot-bound k ks) })

@@ -12,5 +12,5 @@ halve (suc turns) k ks low left =
     halve turns k ks (low + passed k (get_or ks (low + (left - left / 2) - 1) 0) (left - left / 2)) (left / 2)
 
 -- there are never more turns than keys
-unfoldable pub guessOf : ℕ → List ℕ → ℕ
-guessOf k ks = halve (length ks) k ks 0 (length ks)
+unfoldable pub guess_of : ℕ → List ℕ → ℕ
+guess_of k ks = halve (length ks) k ks 0 (length ks)

@@ -12,15 +12,15 @@
 //
 // Below stand `fields`, numbers in bytes, and `entries`, entries as runs of bytes.
 ghost use Rattle.std.specs.Prelude.{◌≡◌, true, ◌+◌, ◌*◌, ◌≤◌, eqb, leb, length};
-ghost use Rattle.rules.specs.Layout.{pageSize};
+ghost use Rattle.rules.specs.Layout.{page_size};
 ghost use Rattle.rules.specs.Entry.{rising};
-ghost use Rattle.entries.specs.Spot.{keysIn, spot_of};
-ghost use Rattle.seek.specs.Guess.{guessOf};
+ghost use Rattle.entries.specs.Spot.{keys_in, spot_of};
+ghost use Rattle.seek.specs.Guess.{guess_of};
 
 // Where halving ends: the key's spot if the keys rise, else some number of entries.
 pub fn guess(page: &[u8], header: usize, size: usize, count: usize, key: u64) -> usize
-    requires { (8 ≤ size) × (header + size * count ≤ length page.now) × (length page.now ≤ pageSize) }
-    ensures { result ≡ guessOf key (keysIn header size count page.now) }
+    requires { (8 ≤ size) × (header + size * count ≤ length page.now) × (length page.now ≤ page_size) }
+    ensures { result ≡ guess_of key (keys_in header size count page.now) }
 {
     let mut low = 0;
     let mut left = count;
@@ -36,18 +36,18 @@ pub fn guess(page: &[u8], header: usize, size: usize, count: usize, key: u64) ->
 
 // How many entries stand before the first one with a key above this one.
 pub fn seek(page: &[u8], header: usize, size: usize, count: usize, key: u64) -> usize
-    requires { (8 ≤ size) × (header + size * count ≤ length page.now) × (length page.now ≤ pageSize)
-        × (rising (keysIn header size count page.now) ≡ true) }
-    ensures { result ≡ spot_of key (keysIn header size count page.now) }
+    requires { (8 ≤ size) × (header + size * count ≤ length page.now) × (length page.now ≤ page_size)
+        × (rising (keys_in header size count page.now) ≡ true) }
+    ensures { result ≡ spot_of key (keys_in header size count page.now) }
 {
     guess(page, header, size, count, key)
 }
 
 // The spot is not before a number of entries: the last of them is not above the key.
 fn reached(page: &[u8], header: usize, size: usize, count: usize, key: u64, number: usize) -> bool
-    requires { (8 ≤ size) × (header + size * count ≤ length page.now) × (length page.now ≤ pageSize)
-        × (rising (keysIn header size count page.now) ≡ true) × (number ≤ count) }
-    ensures { result ≡ leb number (spot_of key (keysIn header size count page.now)) }
+    requires { (8 ≤ size) × (header + size * count ≤ length page.now) × (length page.now ≤ page_size)
+        × (rising (keys_in header size count page.now) ≡ true) × (number ≤ count) }
+    ensures { result ≡ leb number (spot_of key (keys_in header size count page.now)) }
 {
     if number == 0 {
         return true;
@@ -57,9 +57,9 @@ fn reached(page: &[u8], header: usize, size: usize, count: usize, key: u64, numb
 
 // The number is the spot: it is reached, and the next entry is above the key.
 fn stands(page: &[u8], header: usize, size: usize, count: usize, key: u64, number: usize) -> bool
-    requires { (8 ≤ size) × (header + size * count ≤ length page.now) × (length page.now ≤ pageSize)
-        × (rising (keysIn header size count page.now) ≡ true) }
-    ensures { result ≡ eqb number (spot_of key (keysIn header size count page.now)) }
+    requires { (8 ≤ size) × (header + size * count ≤ length page.now) × (length page.now ≤ page_size)
+        × (rising (keys_in header size count page.now) ≡ true) }
+    ensures { result ≡ eqb number (spot_of key (keys_in header size count page.now)) }
 {
     if number > count {
         return false;
@@ -82,9 +82,9 @@ pub fn confirm(
     key: u64,
     guess: usize,
 ) -> usize
-    requires { (8 ≤ size) × (header + size * count ≤ length page.now) × (length page.now ≤ pageSize)
-        × (rising (keysIn header size count page.now) ≡ true) }
-    ensures { result ≡ spot_of key (keysIn header size count page.now) }
+    requires { (8 ≤ size) × (header + size * count ≤ length page.now) × (length page.now ≤ page_size)
+        × (rising (keys_in header size count page.now) ≡ true) }
+    ensures { result ≡ spot_of key (keys_in header size count page.now) }
 {
     if stands(page, header, size, count, key, guess) {
         return guess;

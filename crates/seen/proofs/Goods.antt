@@ -2,7 +2,7 @@
 use Rattle.std.proofs.Common.{◌≡◌, ℕ, ◌+◌, ◌<◌, ◌≤◌, Bool, true, false, not, ◌&&◌, List, length, get_or, drop, sym, ap, ◌∙◌, add-one, arith, drop_of_length-le, drop-cons}
 use mathlib.Core.Bool.{and-true, and-false}
 use Rattle.seen.specs.declared.Seen.{Seen}
-use Rattle.seen.specs.Note.{apart, goodMarks}
+use Rattle.seen.specs.Note.{apart, good_marks}
 
 -- numbers below i have been compared
 abbrev pub Compared : Seen → ℕ → Type 0
@@ -19,16 +19,16 @@ module _ (s : Seen) (size : ℕ) (c-long : length s.children ≡ size) (s-long :
         let q : i < length s.spared = omega arith in
         rw (drop-cons s.children i false p, drop-cons s.spared i false q, add-one)
 
-    pub both-marked : i < size → (get_or s.children i false && get_or s.spared i false) ≡ true → Compared s i → false ≡ goodMarks s
-    unfolding goodMarks
+    pub both-marked : i < size → (get_or s.children i false && get_or s.spared i false) ≡ true → Compared s i → false ≡ good_marks s
+    unfolding good_marks
     both-marked h b e = sym (ap (λ (x : Bool). s.whole && x) (e ∙ step h ∙ rw b) ∙ and-false s.whole)
 
     pub one_at_most : i < size → (get_or s.children i false && get_or s.spared i false) ≡ false → Compared s i → Compared s (i + 1)
     one_at_most h b e = e ∙ step h ∙ rw b
 
-    pub all-compared : size ≤ i → Compared s i → s.whole ≡ goodMarks s
-    unfolding goodMarks apart
-    all-compared h e =
+    pub all_compared : size ≤ i → Compared s i → s.whole ≡ good_marks s
+    unfolding good_marks apart
+    all_compared h e =
         let p : length s.children ≤ i = omega arith in
         sym
         (ap (λ (x : Bool). s.whole && x)

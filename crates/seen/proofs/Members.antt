@@ -5,9 +5,9 @@ use mathlib.Core.Bool.{or-false}
 use lib.ListN.{length-replicate}
 use borrow.Author.Tests.{eqb-false, not-true}
 use Rattle.rules.specs.Test.{all, mem, distinct}
-use Rattle.rules.proofs.entries.Tests.{and_left, and_right, and-of, fails, not-both, same_test, mem-nil, mem-head, mem-tail, mem-cases, all-mem, all-of-mem, distinct_nil, distinct_head, distinct_tail, distinct_cons}
+use Rattle.rules.proofs.Entries.Tests.{and_left, and_right, and_of, fails, not_both, same_test, mem-nil, mem-head, mem_tail, mem_cases, all-mem, all_of-mem, distinct_nil, distinct_head, distinct_tail, distinct_cons}
 use Rattle.seen.specs.Note.{mark, unmarked, apart}
-use Rattle.seen.proofs.Beyond.{marked-beyond}
+use Rattle.seen.proofs.Beyond.{marked_beyond}
 
 -- ── Members ─────────────────────────────────────────────────────────────────────────────────────────────────────
 
@@ -15,9 +15,9 @@ or_assoc : (a b c : Bool) → ((a || b) || c) ≡ (a || (b || c))
 or_assoc true b c = refl
 or_assoc false b c = refl
 
-or-on : (a : Bool) → (a || true) ≡ true
-or-on true = refl
-or-on false = refl
+or_on : (a : Bool) → (a || true) ≡ true
+or_on true = refl
+or_on false = refl
 
 pub length-mark : (m : List Bool) (xs : List ℕ) → length (mark m xs) ≡ length m
 unfolding mark
@@ -32,7 +32,7 @@ set_at m x i h = go (eqb i x) refl
     go true e =
         ap (λ (j : ℕ). get_or (set m j true) i false) (sym (eqb-true i x e))
         ∙ get_or-set_same m i true false h
-        ∙ sym (ap (λ (b : Bool). get_or m i false || b) e ∙ or-on (get_or m i false))
+        ∙ sym (ap (λ (b : Bool). get_or m i false || b) e ∙ or_on (get_or m i false))
     go false e =
         get_or-set_other m x i true false (eqb-false i x e) ∙ sym (ap (λ (b : Bool). get_or m i false || b) e ∙ or-false (get_or m i false))
 
@@ -51,19 +51,19 @@ unmarked-head : (m : List Bool) (x : ℕ) (xs : List ℕ) → unmarked m (x ∷ 
 unfolding unmarked
 unmarked-head m x xs h = not-true (get_or m x false) (and_left (not (get_or m x false)) (unmarked (set m x true) xs) h)
 
-unmarked-tail : (m : List Bool) (x : ℕ) (xs : List ℕ) → unmarked m (x ∷ xs) ≡ true → unmarked (set m x true) xs ≡ true
+unmarked_tail : (m : List Bool) (x : ℕ) (xs : List ℕ) → unmarked m (x ∷ xs) ≡ true → unmarked (set m x true) xs ≡ true
 unfolding unmarked
-unmarked-tail m x xs h = and_right (not (get_or m x false)) (unmarked (set m x true) xs) h
+unmarked_tail m x xs h = and_right (not (get_or m x false)) (unmarked (set m x true) xs) h
 
 unmarked-cons : (m : List Bool) (x : ℕ) (xs : List ℕ) → get_or m x false ≡ false → unmarked (set m x true) xs ≡ true → unmarked m (x ∷ xs) ≡ true
 unfolding unmarked
-unmarked-cons m x xs h k = and-of (ap not h) k
+unmarked-cons m x xs h k = and_of (ap not h) k
 
 -- a member of a list that was unmarked had no mark
 unmarked-mem : (m : List Bool) (xs : List ℕ) → unmarked m xs ≡ true → (i : ℕ) → mem i xs ≡ true → get_or m i false ≡ false
 unmarked-mem m [] h i p = absurd (mem-nil i p)
 unmarked-mem m (x ∷ xs) h i p =
-    go (mem-cases i x xs p) (eqb i x) refl (unmarked-mem (set m x true) xs (unmarked-tail m x xs h) i)
+    go (mem_cases i x xs p) (eqb i x) refl (unmarked-mem (set m x true) xs (unmarked_tail m x xs h) i)
   where
     go : (i ≡ x) ⊎ (mem i xs ≡ true) → (b : Bool) → eqb i x ≡ b → (mem i xs ≡ true → get_or (set m x true) i false ≡ false) → get_or m i false ≡ false
     go (inl e) b q ih = ap (λ (j : ℕ). get_or m j false) e ∙ unmarked-head m x xs h
@@ -75,8 +75,8 @@ unmarked-distinct m [] r h = distinct_nil
 unmarked-distinct m (x ∷ xs) r h =
     distinct_cons x xs
     (fails (mem x xs)
-    (λ p. not-both (get_or-set_same m x true false (r x (mem-head x xs))) (unmarked-mem (set m x true) xs (unmarked-tail m x xs h) x p)))
-    (unmarked-distinct (set m x true) xs (λ i p. omega (arith, r i (mem-tail i x xs p), length-set m x true)) (unmarked-tail m x xs h))
+    (λ p. not_both (get_or-set_same m x true false (r x (mem-head x xs))) (unmarked-mem (set m x true) xs (unmarked_tail m x xs h) x p)))
+    (unmarked-distinct (set m x true) xs (λ i p. omega (arith, r i (mem_tail i x xs p), length-set m x true)) (unmarked_tail m x xs h))
 
 pub distinct-unmarked : (m : List Bool) (xs : List ℕ) → ((i : ℕ) → mem i xs ≡ true → get_or m i false ≡ false) → distinct xs ≡ true → unmarked m xs ≡ true
 unfolding unmarked
@@ -84,10 +84,10 @@ distinct-unmarked m [] r h = refl
 distinct-unmarked m (x ∷ xs) r h =
     unmarked-cons m x xs (r x (mem-head x xs))
     (distinct-unmarked (set m x true) xs
-    (λ i p. get_or-set_other m x i true false (other i p) ∙ r i (mem-tail i x xs p)) (distinct_tail x xs h))
+    (λ i p. get_or-set_other m x i true false (other i p) ∙ r i (mem_tail i x xs p)) (distinct_tail x xs h))
   where
     other : (i : ℕ) → mem i xs ≡ true → i ≢ x
-    other i p e = not-both (ap (λ (j : ℕ). mem j xs) (sym e) ∙ p) (distinct_head x xs h)
+    other i p e = not_both (ap (λ (j : ℕ). mem j xs) (sym e) ∙ p) (distinct_head x xs h)
 
 -- ── None in both ────────────────────────────────────────────────────────────────────────────────────────────────
 
@@ -106,7 +106,7 @@ apart_of : (xs ys : List Bool) → ((i : ℕ) → (get_or xs i false && get_or y
 unfolding apart
 apart_of [] ys f = refl
 apart_of (x ∷ xs) [] f = refl
-apart_of (x ∷ xs) (y ∷ ys) f = and-of (ap not (f zero)) (apart_of xs ys (λ i. f (suc i)))
+apart_of (x ∷ xs) (y ∷ ys) f = and_of (ap not (f zero)) (apart_of xs ys (λ i. f (suc i)))
 
 -- ── From no marks on ────────────────────────────────────────────────────────────────────────────────────────────
 
@@ -137,12 +137,12 @@ module _ (size : ℕ) where
     where
       there : apart (fresh xs) (fresh ys) ≡ true → all (λ i. not (mem i xs)) ys ≡ true
       there h =
-          all-of-mem (λ i. not (mem i xs)) ys
+          all_of-mem (λ i. not (mem i xs)) ys
           (λ i p. no (mem i xs) (mem i ys)
           (sym (ap (λ (b : Bool). b && mem i ys) (fresh_at xs i (q i p))) ∙ sym (ap (λ (b : Bool). get_or (fresh xs) i false && b) (fresh_at ys i (q i p))) ∙ apart-at (fresh xs) (fresh ys) h i) p)
         where
           no : (a b : Bool) → (a && b) ≡ false → b ≡ true → not a ≡ true
-          no true b e p = absurd (not-both p e)
+          no true b e p = absurd (not_both p e)
           no false b e p = refl
 
       back : all (λ i. not (mem i xs)) ys ≡ true → apart (fresh xs) (fresh ys) ≡ true
@@ -161,4 +161,4 @@ module _ (size : ℕ) where
           one i false e =
               let l = ltb-false i size e in
               let k : length (fresh xs) ≤ i = omega (arith, length-mark (replicate size false) xs, length-replicate size false) in
-              ap (λ (b : Bool). b && get_or (fresh ys) i false) (sym (marked-beyond (fresh xs) i k))
+              ap (λ (b : Bool). b && get_or (fresh ys) i false) (sym (marked_beyond (fresh xs) i k))

@@ -5,14 +5,14 @@ use Rattle.rules.specs.Entry.{Cert}
 use Rattle.rules.specs.Marks.{wraps}
 use Rattle.rules.specs.Tree.{Tree, join, empty, broken}
 use Rattle.seen.specs.declared.Seen.{Seen}
-use Rattle.seen.specs.Note.{countOn, tally, seenOf, mark, unmarked, note, named}
+use Rattle.seen.specs.Note.{count_on, tally, seen_of, mark, unmarked, note, named}
 
 pub same_seen : {a b : Bool} {i j : ℕ} {cs ds xs ys : List Bool} → a ≡ b → i ≡ j → cs ≡ ds → xs ≡ ys
-    → seenOf (tally a i) cs xs ≡ seenOf (tally b j) ds ys
+    → seen_of (tally a i) cs xs ≡ seen_of (tally b j) ds ys
 same_seen p k q r = cc
 
-pub count-append : (total : ℕ) (xs ys : List Cert) → countOn total (xs ++ ys) ≡ countOn (countOn total xs) ys
-unfolding countOn
+pub count-append : (total : ℕ) (xs ys : List Cert) → count_on total (xs ++ ys) ≡ count_on (count_on total xs) ys
+unfolding count_on
 count-append total [] ys = refl
 count-append total (x ∷ xs) ys = count-append (wraps (total + 1)) xs ys
 
@@ -50,11 +50,11 @@ note-join s a b =
     (mark-append s.spared a.spared b.spared)
 
 pub note-empty : (s : Seen) → note s empty ≡ s
-unfolding note empty mark unmarked countOn
+unfolding note empty mark unmarked count_on
 note-empty s = same_seen (and-true s.whole) refl refl refl
 
-pub note-broken : (s : Seen) → seenOf (tally false s.total) s.children s.spared ≡ note s broken
-unfolding note broken mark unmarked countOn
+pub note-broken : (s : Seen) → seen_of (tally false s.total) s.children s.spared ≡ note s broken
+unfolding note broken mark unmarked count_on
 note-broken s = same_seen (sym (and-false s.whole)) refl refl refl
 
 -- trees are noted the same field by field
@@ -74,11 +74,11 @@ module _ (s : Seen) (child page : ℕ) (certs : List Cert) where
   sparing b = mark s.spared (elim b [ true ↦ [] | false ↦ page ∷ [] ])
 
   pub note-child : page ≡ child
-      → seenOf (tally (s.whole && not (get_or s.children child false)) (countOn s.total certs)) (set s.children child true) s.spared ≡ note s (named child page certs)
+      → seen_of (tally (s.whole && not (get_or s.children child false)) (count_on s.total certs)) (set s.children child true) s.spared ≡ note s (named child page certs)
   unfolding note named mark unmarked sparing
   note-child h = same_seen once refl refl (ap sparing (sym (eq-eqb page child h)))
 
   pub note-lost : (page ≡ child → ⊥)
-      → seenOf (tally (s.whole && not (get_or s.children child false)) (countOn s.total certs)) (set s.children child true) (set s.spared page true) ≡ note s (named child page certs)
+      → seen_of (tally (s.whole && not (get_or s.children child false)) (count_on s.total certs)) (set s.children child true) (set s.spared page true) ≡ note s (named child page certs)
   unfolding note named mark unmarked sparing
   note-lost h = same_seen once refl refl (ap sparing (sym (ne_eqb page child h)))

@@ -5,14 +5,14 @@ use Rattle.rules.specs.Test.{all, mem}
 use Rattle.rules.specs.Entry.{Child}
 use Rattle.rules.specs.Page.{View}
 use Rattle.rules.specs.Table.{read}
-use Rattle.rules.specs.Sound.{namesPages}
-use Rattle.rules.specs.Place.{fits, show, kids, cutView, place_of, placesIn, highBefore}
-use Rattle.rules.specs.Tree.{Tree, broken, empty, join, sparedAt, here, treeEach, tree}
+use Rattle.rules.specs.Sound.{names_pages}
+use Rattle.rules.specs.Place.{fits, show, kids, cut_view, place_of, places_in, high_before}
+use Rattle.rules.specs.Tree.{Tree, broken, empty, join, spared_at, here, tree_each, tree}
 use Rattle.rules.specs.declared.Place.{Place}
-use Rattle.rules.proofs.entries.Tests.{mem-nil, mem-cases, mem-append-cases, all_head, all_tail}
-use Rattle.rules.proofs.entries.Entries.{all-cut}
-use Rattle.rules.proofs.entries.Sounds.{names-true}
-use Rattle.rules.proofs.entries.Places.{Shown, fitting, lost, show-some, fits-of}
+use Rattle.rules.proofs.Entries.Tests.{mem-nil, mem_cases, mem-append_cases, all_head, all_tail}
+use Rattle.rules.proofs.Entries.Entries.{all-cut}
+use Rattle.rules.proofs.Entries.Sounds.{names_true}
+use Rattle.rules.proofs.Entries.Places.{Shown, fitting, lost, show-some, fits-of}
 
 pub record Within (n : ℕ) (x : Tree) : Type 0 where
   pub children : (i : ℕ) → mem i x.children ≡ true → i < n
@@ -29,7 +29,7 @@ module _ (n : ℕ) where
 
   both-lists : (xs ys : List ℕ) → ((i : ℕ) → mem i xs ≡ true → i < n) → ((i : ℕ) → mem i ys ≡ true → i < n)
       → (i : ℕ) → mem i (xs ++ ys) ≡ true → i < n
-  both-lists xs ys f g i m = go (mem-append-cases i xs ys m)
+  both-lists xs ys f g i m = go (mem-append_cases i xs ys m)
     where
       go : (mem i xs ≡ true) ⊎ (mem i ys ≡ true) → i < n
       go (inl p) = f i p
@@ -43,44 +43,44 @@ module _ (n : ℕ) where
   }
 
   alone : (j : ℕ) → j < n → (i : ℕ) → mem i (j ∷ []) ≡ true → i < n
-  alone j h i m = go (mem-cases i j [] m)
+  alone j h i m = go (mem_cases i j [] m)
     where
       go : (i ≡ j) ⊎ (mem i [] ≡ true) → i < n
       go (inl p) = omega arith
       go (inr p) = absurd (mem-nil i p)
 
   module _ (t : List ℕ) where
-    fits-spared : (e : Place) → fits n e (read t e.child) ≡ true → sparedAt n t e ≡ []
-    unfolding sparedAt
-    fits-spared e h = rw (sparedAt, h)
+    fits-spared : (e : Place) → fits n e (read t e.child) ≡ true → spared_at n t e ≡ []
+    unfolding spared_at
+    fits-spared e h = rw (spared_at, h)
 
-    lost-spared : (e : Place) → fits n e (read t e.child) ≡ false → sparedAt n t e ≡ e.previous ∷ []
-    unfolding sparedAt
-    lost-spared e h = rw (sparedAt, h)
+    lost-spared : (e : Place) → fits n e (read t e.child) ≡ false → spared_at n t e ≡ e.previous ∷ []
+    unfolding spared_at
+    lost-spared e h = rw (spared_at, h)
 
-    spared-in : (e : Place) (v : View) → Shown n t e v → (i : ℕ) → mem i (sparedAt n t e) ≡ true → i < n
-    spared-in e v (fitting f w) i m = absurd (mem-nil i (ap (mem i) (sym (fits-spared e (fits-of n e (read t e.child) f))) ∙ m))
-    spared-in e v (lost p s w) i m = alone e.previous s.below i (ap (mem i) (sym (lost-spared e p)) ∙ m)
+    spared_in : (e : Place) (v : View) → Shown n t e v → (i : ℕ) → mem i (spared_at n t e) ≡ true → i < n
+    spared_in e v (fitting f w) i m = absurd (mem-nil i (ap (mem i) (sym (fits-spared e (fits-of n e (read t e.child) f))) ∙ m))
+    spared_in e v (lost p s w) i m = alone e.previous s.below i (ap (mem i) (sym (lost-spared e p)) ∙ m)
 
     within-here : (e : Place) (v : View) → e.child < n → show n t e ≡ some v → Within n (here n t e v)
     unfolding here
-    within-here e v h s = record { children = alone e.child h; spared = spared-in e v (show-some n t e v s) }
+    within-here e v h s = record { children = alone e.child h; spared = spared_in e v (show-some n t e v s) }
 
-    within-each : (f : Place → Tree) → ((e : Place) → e.child < n → Within n (f e))
-        → (want high : ℕ) (xs : List Child) → all (namesPages n) xs ≡ true → Within n (treeEach f (placesIn want high xs))
-    unfolding treeEach placesIn place_of
-    within-each f g want high [] a = within-empty
-    within-each f g want high (x ∷ xs) a =
-        within-join (f (place_of want (highBefore high xs) x)) (treeEach f (placesIn want high xs))
-        (g (place_of want (highBefore high xs) x) (names-true n x (all_head (namesPages n) x xs a)).child-below)
-        (within-each f g want high xs (all_tail (namesPages n) x xs a))
+    within_each : (f : Place → Tree) → ((e : Place) → e.child < n → Within n (f e))
+        → (want high : ℕ) (xs : List Child) → all (names_pages n) xs ≡ true → Within n (tree_each f (places_in want high xs))
+    unfolding tree_each places_in place_of
+    within_each f g want high [] a = within-empty
+    within_each f g want high (x ∷ xs) a =
+        within-join (f (place_of want (high_before high xs) x)) (tree_each f (places_in want high xs))
+        (g (place_of want (high_before high xs) x) (names_true n x (all_head (names_pages n) x xs a)).child_below)
+        (within_each f g want high xs (all_tail (names_pages n) x xs a))
 
-    names-shown : (e : Place) (v : View) → Shown n t e v → all (namesPages n) v.children ≡ true
-    unfolding cutView
-    names-shown e v (fitting f w) = ap (λ (x : View). all (namesPages n) x.children) w ∙ f.sound.names
+    names-shown : (e : Place) (v : View) → Shown n t e v → all (names_pages n) v.children ≡ true
+    unfolding cut_view
+    names-shown e v (fitting f w) = ap (λ (x : View). all (names_pages n) x.children) w ∙ f.sound.names
     names-shown e v (lost p s w) =
-        ap (λ (x : View). all (namesPages n) x.children) w
-        ∙ all-cut (namesPages n) e.low e.high (read t e.previous).view.children s.sound.names
+        ap (λ (x : View). all (names_pages n) x.children) w
+        ∙ all-cut (names_pages n) e.low e.high (read t e.previous).view.children s.sound.names
 
     step : (l : ℕ) → ((e : Place) → e.child < n → Within n (tree l n t e)) → (e : Place) → e.child < n → Within n (tree (suc l) n t e)
     unfolding tree kids
@@ -90,8 +90,8 @@ module _ (n : ℕ) where
         go none p = rw (tree, p) within-broken
         go (some v) p =
             rw (tree, p)
-            (within-join (here n t e v) (treeEach (tree l n t) (kids e v)) (within-here e v h p)
-            (within-each (tree l n t) f (v.kind - 1) e.high v.children (names-shown e v (show-some n t e v p))))
+            (within-join (here n t e v) (tree_each (tree l n t) (kids e v)) (within-here e v h p)
+            (within_each (tree l n t) f (v.kind - 1) e.high v.children (names-shown e v (show-some n t e v p))))
 
     pub within-tree : (level : ℕ) (e : Place) → e.child < n → Within n (tree level n t e)
     unfolding tree

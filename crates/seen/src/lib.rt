@@ -8,12 +8,12 @@
 //
 // Below stand `sound`, which tests a page against a place, `head`, which reads headers and entries, and `rules`.
 ghost use Rattle.std.specs.Prelude.{◌≡◌, ℕ, ◌+◌, ◌-◌, ◌*◌, ◌<◌, ◌≤◌, true, false, List, length, slice_index_or, slice_set};
-ghost use Rattle.rules.specs.Layout.{pageSize, innerRoom};
+ghost use Rattle.rules.specs.Layout.{page_size, inner_room};
 ghost use Rattle.rules.specs.Entry.{Cert, cut};
 ghost use Rattle.rules.specs.Table.{read};
-ghost use Rattle.rules.specs.Tree.{tree, tree_of, treeEach};
-ghost use Rattle.seen.specs.Note.{countOn, countIf, tally, seenOf, note, nothing, named, goodMarks};
-ghost use Rattle.seen.specs.Run.{entriesIn, up_to, run_of, shownOf, place_in, places, rest_of, Runs, Roomy, Counts, Lies};
+ghost use Rattle.rules.specs.Tree.{tree, tree_of, tree_each};
+ghost use Rattle.seen.specs.Note.{count_on, count_if, tally, seen_of, note, nothing, named, good_marks};
+ghost use Rattle.seen.specs.Run.{entries_in, up_to, run_of, shown_of, place_in, places, rest_of, Runs, Roomy, Counts, Lies};
 
 use head::{cert_key_at, child_key_at, head_at, kid_at, root_place};
 use rules::{LEAF, LEVELS, MOST, Place};
@@ -55,8 +55,8 @@ pub enum Shown {
 
 // How many entries, from an index on, have keys up to a given one.
 fn up_to(table: &[u8], page: usize, from: usize, count: usize, key: u64) -> usize
-    requires { ((page + 1) * pageSize ≤ length table.now) × ((from ≤ count) × (count ≤ innerRoom)) }
-    ensures { result ≡ up_to key (entriesIn table.now page from (count - from)) }
+    requires { ((page + 1) * page_size ≤ length table.now) × ((from ≤ count) × (count ≤ inner_room)) }
+    ensures { result ≡ up_to key (entries_in table.now page from (count - from)) }
 {
     let mut j = from;
     while j < count {
@@ -102,8 +102,8 @@ pub fn run_in(table: &[u8], page: usize, low: u64, high: u64) -> Run
 }
 
 fn shown_at(table: &[u8], n: usize, e: Place) -> Shown
-    requires { length table.now ≡ n * pageSize }
-    ensures { result ≡ shownOf n table.now e }
+    requires { length table.now ≡ n * page_size }
+    ensures { result ≡ shown_of n table.now e }
 {
     if fits_at(table, e, n) {
         return Shown::Entries(run_in(table, e.child as usize, e.low, e.high));
@@ -143,8 +143,8 @@ fn name_place(
     spared: &mut [bool],
 ) -> bool
     ensures { (total : ℕ) (certs : List Cert)
-        → seenOf (tally result (countOn total certs)) children.new spared.new
-        ≡ note (seenOf (tally whole total) children.old spared.old) (named child page certs) }
+        → seen_of (tally result (count_on total certs)) children.new spared.new
+        ≡ note (seen_of (tally whole total) children.old spared.old) (named child page certs) }
 {
     let still = whole & !marked(children, child);
     mark(children, child);
@@ -157,7 +157,7 @@ fn name_place(
 
 // One certificate more, if its key is in a range.
 fn count_key(low: u64, high: u64, key: u64, total: u32) -> u32
-    ensures { result ≡ countIf low high key total }
+    ensures { result ≡ count_if low high key total }
 {
     if key < low {
         return total;
@@ -170,8 +170,8 @@ fn count_key(low: u64, high: u64, key: u64, total: u32) -> u32
 
 // As many more as a page has; none of an inner page.
 fn count_all(table: &[u8], page: usize, total: u32) -> u32
-    requires { (page + 1) * pageSize ≤ length table.now }
-    ensures { result ≡ countOn total (read table.now page).view.certs }
+    requires { (page + 1) * page_size ≤ length table.now }
+    ensures { result ≡ count_on total (read table.now page).view.certs }
 {
     let head = head_at(table, page);
     if head.kind != LEAF {
@@ -183,7 +183,7 @@ fn count_all(table: &[u8], page: usize, total: u32) -> u32
 // As many more as it has with keys in a range.
 fn count_in(table: &[u8], page: usize, low: u64, high: u64, total: u32) -> u32
     requires { Roomy table.now page }
-    ensures { result ≡ countOn total (cut low high (read table.now page).view.certs) }
+    ensures { result ≡ count_on total (cut low high (read table.now page).view.certs) }
 {
     let head = head_at(table, page);
     if head.kind != LEAF {
@@ -202,7 +202,7 @@ fn count_in(table: &[u8], page: usize, low: u64, high: u64, total: u32) -> u32
 // As many more as a place shows, from the page that shows it: all that its own child has, else those in its range.
 fn count_at(table: &[u8], page: usize, e: Place, total: u32) -> u32
     requires { Counts table.now e page }
-    ensures { result ≡ countOn total (cut e.low e.high (read table.now page).view.certs) }
+    ensures { result ≡ count_on total (cut e.low e.high (read table.now page).view.certs) }
 {
     if page == e.child as usize {
         return count_all(table, page, total);
@@ -212,14 +212,14 @@ fn count_at(table: &[u8], page: usize, e: Place, total: u32) -> u32
 
 // The place that a run's first entry asks for: its range ends before the next entry's key, or with the run's own.
 pub fn place_in(table: &[u8], r: Run, high: u64) -> Place
-    requires { ((r.page + 1) * pageSize ≤ length table.now) × ((r.first + r.left ≤ innerRoom) × (0 < r.left)) }
+    requires { ((r.page + 1) * page_size ≤ length table.now) × ((r.first + r.left ≤ inner_room) × (0 < r.left)) }
     ensures { result ≡ place_in table.now high r }
 {
     kid_at(table, r.page, r.first + r.left, r.first, r.want, high)
 }
 
 pub fn rest_of(r: Run) -> Run
-    requires { (r.first < innerRoom) × (0 < r.left) }
+    requires { (r.first < inner_room) × (0 < r.left) }
     ensures { result ≡ rest_of r }
 {
     Run {
@@ -251,8 +251,8 @@ fn walk_page(
     children: &mut [bool],
     spared: &mut [bool],
 ) -> Tally
-    requires { length table.now ≡ n * pageSize }
-    ensures { seenOf result children.new spared.new ≡ note (seenOf sum children.old spared.old) (tree level n table.now e) }
+    requires { length table.now ≡ n * page_size }
+    ensures { seen_of result children.new spared.new ≡ note (seen_of sum children.old spared.old) (tree level n table.now e) }
 {
     if level == 0 {
         return damaged(sum);
@@ -286,8 +286,8 @@ fn walk_entries(
     children: &mut [bool],
     spared: &mut [bool],
 ) -> Tally
-    requires { (length table.now ≡ n * pageSize) × Lies n r }
-    ensures { seenOf result children.new spared.new ≡ note (seenOf sum children.old spared.old) (treeEach (tree level n table.now) (places table.now high r)) }
+    requires { (length table.now ≡ n * page_size) × Lies n r }
+    ensures { seen_of result children.new spared.new ≡ note (seen_of sum children.old spared.old) (tree_each (tree level n table.now) (places table.now high r)) }
 {
     if r.left == 0 {
         return sum;
@@ -299,7 +299,7 @@ fn walk_entries(
 
 // The whole tree, from the root on.
 pub fn walk(table: &[u8], n: usize) -> Seen
-    requires { (length table.now ≡ n * pageSize) × (0 < n) }
+    requires { (length table.now ≡ n * page_size) × (0 < n) }
     ensures { result ≡ note nothing (tree_of n table.now) }
 {
     let root = root_place(table);
@@ -320,7 +320,7 @@ pub fn walk(table: &[u8], n: usize) -> Seen
 
 // What opening asks of the tree: it is whole, and no child is the previous page of a lost entry.
 pub fn good(s: Seen) -> bool
-    ensures { result ≡ goodMarks s }
+    ensures { result ≡ good_marks s }
 {
     let mut i = 0;
     while i < MOST {

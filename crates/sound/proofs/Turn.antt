@@ -5,37 +5,37 @@ use mathlib.Core.Bool.{and-false, and_assoc}
 use borrow.Author.Tests.{lt-leb, not-true, not-false}
 use Rattle.rules.specs.Test.{all}
 use Rattle.rules.specs.Entry.{Entry, keys, rising}
-use Rattle.rules.specs.Page.{readEach}
-use Rattle.rules.specs.Sound.{inOrder}
+use Rattle.rules.specs.Page.{read_each}
+use Rattle.rules.specs.Sound.{in_order}
 use Rattle.head.proofs.Left.{entry, left, left-all, left-more, left-none}
-use Rattle.sound.proofs.Scan.{risen, one-pass}
+use Rattle.sound.proofs.Scan.{risen, one_pass}
 
 module _ {B : Type 0} (read : List ℕ → Entry B) (header size : ℕ) (good : Entry B → Bool) (b : List ℕ) (count low high : ℕ) where
   -- what a page's entries must pass, and what is left of it after one with the key `last`
   abbrev pub passes : Bool
   passes =
-      inOrder low high (keys (readEach read size count (drop header b)))
-      && all good (readEach read size count (drop header b))
+      in_order low high (keys (read_each read size count (drop header b)))
+      && all good (read_each read size count (drop header b))
 
   abbrev pub after : ℕ → ℕ → Bool
   after last j = risen good high last (left read header size b count j)
 
-  pub no-entries : count ≡ 0 → true ≡ passes
-  unfolding readEach inOrder keys rising all
-  no-entries h = rw (h, readEach)
+  pub no_entries : count ≡ 0 → true ≡ passes
+  unfolding read_each in_order keys rising all
+  no_entries h = rw (h, read_each)
 
   -- an entry, its key and whether it is good, as code has found them
   module _ (j : ℕ) {k : ℕ} {g : Bool} (h : j < count) (e : k ≡ (entry read header size b count j).key) (f : g ≡ good (entry read header size b count j)) where
     first : j ≡ 0 → passes ≡ (leb low k && (g && after k (j + 1)))
     first z =
         rw (e, f, left-all read header size b count, ← z, left-more read header size b count j h)
-        (one-pass good low high (entry read header size b count j) (left read header size b count (j + 1)))
+        (one_pass good low high (entry read header size b count j) (left read header size b count (j + 1)))
 
     pub first-low : j ≡ 0 → k < low → false ≡ passes
     first-low z l = sym (first z ∙ rw (lt-leb low k l))
 
-    pub first-bad : j ≡ 0 → not g ≡ true → false ≡ passes
-    first-bad z n = sym (first z ∙ rw (not-true g n, and-false))
+    pub first_bad : j ≡ 0 → not g ≡ true → false ≡ passes
+    first_bad z n = sym (first z ∙ rw (not-true g n, and-false))
 
     pub first_on : j ≡ 0 → low ≤ k → not g ≡ false → passes ≡ after k (j + 1)
     first_on z l y = first z ∙ rw (le-leb low k l, not-false g y)
@@ -46,8 +46,8 @@ module _ {B : Type 0} (read : List ℕ → Entry B) (header size : ℕ) (good : 
     unfolding risen
     turn = a ∙ rw (q, e, left-more read header size b count j h, risen, and_assoc)
 
-    pub turn-stop : not f ≡ true → false ≡ answer
-    turn-stop n = sym (turn ∙ rw (not-true f n))
+    pub turn_stop : not f ≡ true → false ≡ answer
+    turn_stop n = sym (turn ∙ rw (not-true f n))
 
     pub turn_on : not f ≡ false → answer ≡ after k (j + 1)
     turn_on y = turn ∙ rw (not-false f y)

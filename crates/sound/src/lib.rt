@@ -7,17 +7,17 @@
 //
 // Below stand `head`, which reads headers and entries, and `rules`, the definitions.
 ghost use Rattle.std.specs.Prelude.{◌≡◌, ◌+◌, ◌*◌, ◌≤◌, ◌&&◌, length, drop, nat_lt};
-ghost use Rattle.rules.specs.Layout.{pageSize, leafHeader, innerHeader, certSize, child_size};
-ghost use Rattle.rules.specs.Key.{goodKey};
-ghost use Rattle.rules.specs.Page.{readEach, certIn, childIn, pageIn};
+ghost use Rattle.rules.specs.Layout.{page_size, leaf_header, inner_header, cert_size, child_size};
+ghost use Rattle.rules.specs.Key.{good_key};
+ghost use Rattle.rules.specs.Page.{read_each, cert_in, child_in, page_in};
 ghost use Rattle.rules.specs.Entry.{keys};
 ghost use Rattle.rules.specs.Test.{mem};
 ghost use Rattle.rules.specs.Table.{read};
-ghost use Rattle.rules.specs.Sound.{namesPages, sound};
-ghost use Rattle.rules.specs.Place.{kindAsked, unfit, fits, mendable};
-ghost use Rattle.rules.specs.Report.{reasonAt};
-ghost use Rattle.head.specs.Head.{childAt};
-ghost use Rattle.sound.specs.Pass.{certsPass, childrenPass, namesPrevious, covers};
+ghost use Rattle.rules.specs.Sound.{names_pages, sound};
+ghost use Rattle.rules.specs.Place.{kind_asked, unfit, fits, mendable};
+ghost use Rattle.rules.specs.Report.{reason_at};
+ghost use Rattle.head.specs.Head.{child_at};
+ghost use Rattle.sound.specs.Pass.{certs_pass, children_pass, names_previous, covers};
 
 use head::{cert_key, child_key, child_number, child_previous, read_head};
 use rules::{INNER_ROOM, LEAF, LEAF_ROOM, MODEL, PAGE, Place, Reason, SERIAL, TOP};
@@ -28,7 +28,7 @@ const SERIALS: u64 = 4294967296;
 
 // No part of the key is zero.
 fn good_key(key: u64) -> bool
-    ensures { result ≡ goodKey key }
+    ensures { result ≡ good_key key }
 {
     if key < MODEL {
         return false;
@@ -41,7 +41,7 @@ fn good_key(key: u64) -> bool
 
 // A leaf's key stands behind the one before it, and no part of it is zero.
 fn cert_follows(last: u64, key: u64) -> bool
-    ensures { result ≡ (nat_lt last key && goodKey key) }
+    ensures { result ≡ (nat_lt last key && good_key key) }
 {
     if key <= last {
         return false;
@@ -51,8 +51,8 @@ fn cert_follows(last: u64, key: u64) -> bool
 
 // The leaf's keys rise strictly within low to high, and none has a part that is zero.
 fn certs_pass(page: &[u8], count: usize, low: u64, high: u64) -> bool
-    requires { leafHeader + certSize * count ≤ length page.now }
-    ensures { result ≡ certsPass low high (readEach certIn certSize count (drop leafHeader page.now)) }
+    requires { leaf_header + cert_size * count ≤ length page.now }
+    ensures { result ≡ certs_pass low high (read_each cert_in cert_size count (drop leaf_header page.now)) }
 {
     if count == 0 {
         return true;
@@ -89,8 +89,8 @@ fn certs_pass(page: &[u8], count: usize, low: u64, high: u64) -> bool
 // A child is a page other than page 0, and its previous is a page or 0. One less, page 0 is the largest number, so a
 // single comparison tests both ends of the child's range: every entry of every inner page on a way comes here.
 fn names_pages(page: &[u8], j: usize, n: usize) -> bool
-    requires { innerHeader + child_size * (j + 1) ≤ length page.now }
-    ensures { result ≡ namesPages n (childAt page.now j) }
+    requires { inner_header + child_size * (j + 1) ≤ length page.now }
+    ensures { result ≡ names_pages n (child_at page.now j) }
 {
     let child = child_number(page, j) as usize;
     if wrapping_sub_usize(child, 1) >= wrapping_sub_usize(n, 1) {
@@ -101,8 +101,8 @@ fn names_pages(page: &[u8], j: usize, n: usize) -> bool
 
 // An inner page's key stands behind the one before it, and its entry names pages.
 fn child_follows(page: &[u8], j: usize, last: u64, key: u64, n: usize) -> bool
-    requires { innerHeader + child_size * (j + 1) ≤ length page.now }
-    ensures { result ≡ (nat_lt last key && namesPages n (childAt page.now j)) }
+    requires { inner_header + child_size * (j + 1) ≤ length page.now }
+    ensures { result ≡ (nat_lt last key && names_pages n (child_at page.now j)) }
 {
     if key <= last {
         return false;
@@ -112,8 +112,8 @@ fn child_follows(page: &[u8], j: usize, last: u64, key: u64, n: usize) -> bool
 
 // The inner page's first key is its low, its keys rise strictly up to high, and every entry names pages.
 fn children_pass(page: &[u8], count: usize, low: u64, high: u64, n: usize) -> bool
-    requires { innerHeader + child_size * count ≤ length page.now }
-    ensures { result ≡ childrenPass n low high (readEach childIn child_size count (drop innerHeader page.now)) }
+    requires { inner_header + child_size * count ≤ length page.now }
+    ensures { result ≡ children_pass n low high (read_each child_in child_size count (drop inner_header page.now)) }
 {
     if count == 0 {
         return false;
@@ -149,8 +149,8 @@ fn children_pass(page: &[u8], count: usize, low: u64, high: u64, n: usize) -> bo
 
 // The page is sound, whoever asks for it.
 pub fn sound(page: &[u8], n: usize) -> bool
-    requires { pageSize ≤ length page.now }
-    ensures { result ≡ sound n (pageIn page.now) }
+    requires { page_size ≤ length page.now }
+    ensures { result ≡ sound n (page_in page.now) }
 {
     let head = read_head(page);
     if head.low > head.high {
@@ -176,7 +176,7 @@ pub fn sound(page: &[u8], n: usize) -> bool
 
 // A place asks for one kind, or for any.
 fn kind_asked(want: u16, kind: u16) -> bool
-    ensures { result ≡ kindAsked want kind }
+    ensures { result ≡ kind_asked want kind }
 {
     if want == 0 {
         return true;
@@ -187,8 +187,8 @@ fn kind_asked(want: u16, kind: u16) -> bool
 // The first test of a place that the page fails, in the paper's order. A page that fails none is the one asked for; any
 // other is lost.
 pub fn unfit(page: &[u8], e: Place, n: usize) -> Reason
-    requires { pageSize ≤ length page.now }
-    ensures { result ≡ unfit n e (pageIn page.now) }
+    requires { page_size ≤ length page.now }
+    ensures { result ≡ unfit n e (page_in page.now) }
 {
     let head = read_head(page);
     if !sound(page, n) {
@@ -211,8 +211,8 @@ pub fn unfit(page: &[u8], e: Place, n: usize) -> Reason
 
 // A number beyond the table names no page, so nothing sound is there.
 pub fn unfit_at(table: &[u8], e: Place, n: usize) -> Reason
-    requires { length table.now ≡ n * pageSize }
-    ensures { result ≡ reasonAt n table.now e }
+    requires { length table.now ≡ n * page_size }
+    ensures { result ≡ reason_at n table.now e }
 {
     let child = e.child as usize;
     if child >= n {
@@ -225,7 +225,7 @@ pub fn unfit_at(table: &[u8], e: Place, n: usize) -> Reason
 
 // For those who do not ask why.
 pub fn fits_at(table: &[u8], e: Place, n: usize) -> bool
-    requires { length table.now ≡ n * pageSize }
+    requires { length table.now ≡ n * page_size }
     ensures { result ≡ fits n e (read table.now e.child) }
 {
     unfit_at(table, e, n).is_none()
@@ -233,8 +233,8 @@ pub fn fits_at(table: &[u8], e: Place, n: usize) -> bool
 
 // An entry of the inner page has this key.
 fn has_key(page: &[u8], count: usize, key: u64) -> bool
-    requires { innerHeader + child_size * count ≤ length page.now }
-    ensures { result ≡ mem key (keys (readEach childIn child_size count (drop innerHeader page.now))) }
+    requires { inner_header + child_size * count ≤ length page.now }
+    ensures { result ≡ mem key (keys (read_each child_in child_size count (drop inner_header page.now))) }
 {
     let mut j = 0;
     while j < count {
@@ -248,7 +248,7 @@ fn has_key(page: &[u8], count: usize, key: u64) -> bool
 
 // The place names a previous page, and it is another than the child.
 fn names_previous(e: Place, n: usize) -> bool
-    ensures { result ≡ namesPrevious n e }
+    ensures { result ≡ names_previous n e }
 {
     if e.previous == 0 {
         return false;
@@ -261,8 +261,8 @@ fn names_previous(e: Place, n: usize) -> bool
 
 // The previous page is sound, of the kind asked for, spans the range, and if inner has an entry that starts it.
 fn covers(page: &[u8], e: Place, n: usize) -> bool
-    requires { pageSize ≤ length page.now }
-    ensures { result ≡ covers n e (pageIn page.now) }
+    requires { page_size ≤ length page.now }
+    ensures { result ≡ covers n e (page_in page.now) }
 {
     let head = read_head(page);
     if !kind_asked(e.want, head.kind) {
@@ -286,7 +286,7 @@ fn covers(page: &[u8], e: Place, n: usize) -> bool
 // A lost child can be mended from its previous page. If not, the place is damaged. The page is looked at only where the
 // place names one.
 pub fn mendable_at(table: &[u8], e: Place, n: usize) -> bool
-    requires { length table.now ≡ n * pageSize }
+    requires { length table.now ≡ n * page_size }
     ensures { result ≡ mendable n e (read table.now e.previous) }
 {
     if !names_previous(e, n) {

@@ -4,58 +4,58 @@ use mathlib.Core.Path.{◌≡◌, refl}
 use mathlib.Core.Bool.{true, false}
 use lib.Dec.{eqb}
 use borrow.Author.Tests.{eq-eqb, ne_eqb, lt-ltb, le-ltb}
-use Rattle.rules.specs.Layout.{leafKind}
-use Rattle.rules.specs.Page.{Page, isLeaf}
+use Rattle.rules.specs.Layout.{leaf_kind}
+use Rattle.rules.specs.Page.{Page, is_leaf}
 use Rattle.rules.specs.Marks.{freed, waits}
 use Rattle.rules.specs.Walk as rules
-use Rattle.rules.specs.Insert.{heirs, previousOf, retire, rootPrevious}
+use Rattle.rules.specs.Insert.{heirs, previous_of, retire, root_previous}
 use Rattle.rules.specs.declared.Place.{Place}
 use Rattle.rules.specs.declared.Session.{Session}
 use Rattle.head.specs.declared.Head.{Head}
 use Rattle.head.proofs.Headers.{head_of}
-use Rattle.split.specs.Split.{heirsBy, previousBy, freesBy, retireBy, rootPreviousBy, side_of}
+use Rattle.split.specs.Split.{heirs_by, previous_by, frees_by, retire_by, root_previous_by, side_of}
 
 -- ── The tests, as the code makes them ───────────────────────────────────────────────────────────────────────────
 
-pub heirs-leaf : (c : ℕ) (h : Head) → h.kind ≡ leafKind → eqb h.built c ≡ heirsBy c h
-unfolding heirsBy
-heirs-leaf c h e = rw (eq-eqb h.kind leafKind e)
+pub heirs-leaf : (c : ℕ) (h : Head) → h.kind ≡ leaf_kind → eqb h.built c ≡ heirs_by c h
+unfolding heirs_by
+heirs-leaf c h e = rw (eq-eqb h.kind leaf_kind e)
 
-pub heirs-inner : (c : ℕ) (h : Head) → (h.kind ≡ leafKind → ⊥) → false ≡ heirsBy c h
-unfolding heirsBy
-heirs-inner c h e = rw (ne_eqb h.kind leafKind e)
+pub heirs-inner : (c : ℕ) (h : Head) → (h.kind ≡ leaf_kind → ⊥) → false ≡ heirs_by c h
+unfolding heirs_by
+heirs-inner c h e = rw (ne_eqb h.kind leaf_kind e)
 
-pub previous-heir : (c : ℕ) (e : Place) (h : Head) → heirsBy c h ≡ true → e.previous ≡ previousBy c e h
-unfolding previousBy
-previous-heir c e h q = rw (q, previousBy)
+pub previous_heir : (c : ℕ) (e : Place) (h : Head) → heirs_by c h ≡ true → e.previous ≡ previous_by c e h
+unfolding previous_by
+previous_heir c e h q = rw (q, previous_by)
 
-pub previous-self : (c : ℕ) (e : Place) (h : Head) → heirsBy c h ≡ false → e.child ≡ previousBy c e h
-unfolding previousBy
-previous-self c e h q = rw (q, previousBy)
+pub previous_self : (c : ℕ) (e : Place) (h : Head) → heirs_by c h ≡ false → e.child ≡ previous_by c e h
+unfolding previous_by
+previous_self c e h q = rw (q, previous_by)
 
-pub frees-heir : (c : ℕ) (h : Head) → heirsBy c h ≡ true → eqb h.birth c ≡ freesBy c h
-unfolding freesBy
-frees-heir c h q = rw q
+pub frees_heir : (c : ℕ) (h : Head) → heirs_by c h ≡ true → eqb h.birth c ≡ frees_by c h
+unfolding frees_by
+frees_heir c h q = rw q
 
-pub frees-none : (c : ℕ) (h : Head) → heirsBy c h ≡ false → false ≡ freesBy c h
-unfolding freesBy
+pub frees-none : (c : ℕ) (h : Head) → heirs_by c h ≡ false → false ≡ frees_by c h
+unfolding frees_by
 frees-none c h q = rw q
 
-pub root-built : (c : ℕ) (e : Place) (h : Head) → h.built ≡ c → e.previous ≡ rootPreviousBy c e h
-unfolding rootPreviousBy
-root-built c e h q = rw (eq-eqb h.built c q, rootPreviousBy)
+pub root-built : (c : ℕ) (e : Place) (h : Head) → h.built ≡ c → e.previous ≡ root_previous_by c e h
+unfolding root_previous_by
+root-built c e h q = rw (eq-eqb h.built c q, root_previous_by)
 
-pub root-older : (c : ℕ) (e : Place) (h : Head) → (h.built ≡ c → ⊥) → e.child ≡ rootPreviousBy c e h
-unfolding rootPreviousBy
-root-older c e h q = rw (ne_eqb h.built c q, rootPreviousBy)
+pub root_older : (c : ℕ) (e : Place) (h : Head) → (h.built ≡ c → ⊥) → e.child ≡ root_previous_by c e h
+unfolding root_previous_by
+root_older c e h q = rw (ne_eqb h.built c q, root_previous_by)
 
-pub retire-free : (c i : ℕ) (h : Head) (s : Session) → freesBy c h ≡ true → freed i s ≡ retireBy c i h s
-unfolding retireBy
-retire-free c i h s q = rw (q, retireBy)
+pub retire-free : (c i : ℕ) (h : Head) (s : Session) → frees_by c h ≡ true → freed i s ≡ retire_by c i h s
+unfolding retire_by
+retire-free c i h s q = rw (q, retire_by)
 
-pub retire-wait : (c i : ℕ) (h : Head) (s : Session) → freesBy c h ≡ false → waits i s ≡ retireBy c i h s
-unfolding retireBy
-retire-wait c i h s q = rw (q, retireBy)
+pub retire-wait : (c i : ℕ) (h : Head) (s : Session) → frees_by c h ≡ false → waits i s ≡ retire_by c i h s
+unfolding retire_by
+retire-wait c i h s q = rw (q, retire_by)
 
 pub side-lower : (k middle lower upper : ℕ) → k < middle → lower ≡ side_of k middle lower upper
 unfolding side_of
@@ -71,14 +71,14 @@ module _ (c : ℕ) (e : Place) (p : Page) where
   abbrev step : rules.Step
   step = record { place = e; page = p }
 
-  pub previousBy-of : previousBy c e (head_of p) ≡ previousOf c step
-  unfolding previousBy heirsBy head_of previousOf heirs isLeaf
-  previousBy-of = refl
+  pub previous_by-of : previous_by c e (head_of p) ≡ previous_of c step
+  unfolding previous_by heirs_by head_of previous_of heirs is_leaf
+  previous_by-of = refl
 
-  pub retireBy-of : (s : Session) → retireBy c e.child (head_of p) s ≡ retire c step s
-  unfolding retireBy freesBy heirsBy head_of retire heirs isLeaf
-  retireBy-of s = refl
+  pub retire_by-of : (s : Session) → retire_by c e.child (head_of p) s ≡ retire c step s
+  unfolding retire_by frees_by heirs_by head_of retire heirs is_leaf
+  retire_by-of s = refl
 
-  pub rootPreviousBy-of : rootPreviousBy c e (head_of p) ≡ rootPrevious c step
-  unfolding rootPreviousBy head_of rootPrevious
-  rootPreviousBy-of = refl
+  pub root_previous_by-of : root_previous_by c e (head_of p) ≡ root_previous c step
+  unfolding root_previous_by head_of root_previous
+  root_previous_by-of = refl

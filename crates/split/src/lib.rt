@@ -9,18 +9,18 @@
 // Below stand `build`, which makes the new pages, `edit`, which makes one entry two, `head`, which names the new root
 // in page 0, and the session's own moves.
 ghost use Rattle.std.specs.Prelude.{◌≡◌, ◌<◌};
-ghost use Rattle.rules.specs.Layout.{mostPages};
+ghost use Rattle.rules.specs.Layout.{most_pages};
 ghost use Rattle.rules.specs.Marks.{taken};
 ghost use Rattle.rules.specs.Insert.{making, grow, halve};
 ghost use Rattle.rules.specs.declared.Session.{Session};
-ghost use Rattle.split.specs.Split.{stepAt, heirsBy, previousBy, freesBy, retireBy, rootPreviousBy, side_of, Halves, Grows};
+ghost use Rattle.split.specs.Split.{step_at, heirs_by, previous_by, frees_by, retire_by, root_previous_by, side_of, Halves, Grows};
 
 use head::Head;
 use rules::{LEAF, Place, Session};
 
 // A leaf that was built since the last sync or opening is nobody's previous page.
 fn heirs(c: u32, head: Head) -> bool
-    ensures { result ≡ heirsBy c head }
+    ensures { result ≡ heirs_by c head }
 {
     if head.kind == LEAF {
         return head.built == c;
@@ -30,7 +30,7 @@ fn heirs(c: u32, head: Head) -> bool
 
 // The previous page of both halves.
 fn previous_of(c: u32, e: Place, head: Head) -> u16
-    ensures { result ≡ previousBy c e head }
+    ensures { result ≡ previous_by c e head }
 {
     if heirs(c, head) {
         return e.previous;
@@ -40,7 +40,7 @@ fn previous_of(c: u32, e: Place, head: Head) -> u16
 
 // A split page that was born and built since the last sync or opening is in no stable table's way.
 fn frees(c: u32, head: Head) -> bool
-    ensures { result ≡ freesBy c head }
+    ensures { result ≡ frees_by c head }
 {
     if heirs(c, head) {
         return head.birth == c;
@@ -50,8 +50,8 @@ fn frees(c: u32, head: Head) -> bool
 
 // The split page is free at once, or waits for the next sync.
 fn retire(session: Session, c: u32, child: u16, head: Head) -> Session
-    requires { child < mostPages }
-    ensures { result ≡ retireBy c child head session }
+    requires { child < most_pages }
+    ensures { result ≡ retire_by c child head session }
 {
     if frees(c, head) {
         return session.release(child as usize);
@@ -61,8 +61,8 @@ fn retire(session: Session, c: u32, child: u16, head: Head) -> Session
 
 // The halves' pages are taken, then the split page retires.
 pub fn mark(session: Session, c: u32, child: u16, head: Head, lower: u16, upper: u16) -> Session
-    requires { (child < mostPages) × (lower < mostPages) × (upper < mostPages) }
-    ensures { result ≡ retireBy c child head (taken upper (taken lower session)) }
+    requires { (child < most_pages) × (lower < most_pages) × (upper < most_pages) }
+    ensures { result ≡ retire_by c child head (taken upper (taken lower session)) }
 {
     let lower_taken = session.take(lower as usize);
     let both_taken = lower_taken.take(upper as usize);
@@ -91,8 +91,8 @@ pub fn halve(
     at: u16,
 ) -> u16
     requires { Halves table.old e head lower upper at }
-    ensures { (s : Session) → making table.new (retireBy c e.child head (taken upper (taken lower s))) result
-        ≡ halve c key (stepAt table.old e) lower upper (making table.old s at) }
+    ensures { (s : Session) → making table.new (retire_by c e.child head (taken upper (taken lower s))) result
+        ≡ halve c key (step_at table.old e) lower upper (making table.old s at) }
 {
     let from = e.child as usize;
     let middle = build::middle_at(table, from);
@@ -113,7 +113,7 @@ pub fn halve(
 
 // Page 0's previous: the old root, or what stands there if that was built since the last sync or opening.
 fn root_previous(c: u32, e: Place, head: Head) -> u16
-    ensures { result ≡ rootPreviousBy c e head }
+    ensures { result ≡ root_previous_by c e head }
 {
     if head.built == c {
         return e.previous;
@@ -125,7 +125,7 @@ fn root_previous(c: u32, e: Place, head: Head) -> u16
 pub fn grow(table: &mut [u8], c: u32, e: Place, head: Head, new: u16)
     requires { Grows table.old e head new }
     ensures { (s : Session) → making table.new (taken new s) new
-        ≡ grow c (stepAt table.old e) new (making table.old s 0) }
+        ≡ grow c (step_at table.old e) new (making table.old s 0) }
 {
     build::build_root(
         table,

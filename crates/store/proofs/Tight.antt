@@ -1,5 +1,5 @@
--- No second outcome satisfies a contract of this crate. That of `batch` has no plain reading, so `batch-ensures-is` says that it is the
--- one that `batch-tight` of the crate `batch` speaks of. Assumes nothing.
+-- No second outcome satisfies a contract of this crate. That of `batch` has no plain reading, so `batch_ensures_is` says that it is the
+-- one that `batch_tight` of the crate `batch` speaks of. Assumes nothing.
 use mathlib.Core.Path.{◌≡◌, refl, sym, ◌∙◌}
 use mathlib.Core.List.{[]}
 use Rattle.rules.specs.Marks.{begun}
@@ -18,95 +18,95 @@ use Rattle.tight.specs.Tight.{Tight}
 use Rattle.batch.proofs.Tight as below
 use Rattle.store.proofs as this
 
-pub format-tight : Tight this.format.Kinds.ps this.format.Kinds.r this.format.Reads.Pre this.format.Reads.Post
-format-tight κs a pre z z' l l' p q =
+pub format_tight : Tight this.format.Kinds.ps this.format.Kinds.r this.format.Reads.Pre this.format.Reads.Post
+format_tight κs a pre z z' l l' p q =
     let e = p ∙ sym q in
     ((λ i. (e i).answer), (λ i. (l.0, ((e i).stable, l.1.1))))
 
-pub open-tight : Tight this.open.Kinds.ps this.open.Kinds.r this.open.Reads.Pre this.open.Reads.Post
-open-tight κs a pre z z' l l' p q =
+pub open_tight : Tight this.open.Kinds.ps this.open.Kinds.r this.open.Reads.Pre this.open.Reads.Post
+open_tight κs a pre z z' l l' p q =
     let e = p ∙ sym q in
     ((λ i. record { answer = (e i).answer; session = (e i).session }), (λ i. ((e i).working, ((e i).stable, l.1.1))))
 
-pub insert-tight : Tight this.insert.Kinds.ps this.insert.Kinds.r this.insert.Reads.Pre this.insert.Reads.Post
-insert-tight κs a pre z z' l l' p q =
+pub insert_tight : Tight this.insert.Kinds.ps this.insert.Kinds.r this.insert.Reads.Pre this.insert.Reads.Post
+insert_tight κs a pre z z' l l' p q =
     let e = p ∙ sym q in
     ((λ i. record { answer = (e i).left.answer; report = (e i).report; session = (e i).left.session }), (λ i. ((e i).left.working, l.1)))
 
-pub withdraw-tight : Tight this.withdraw.Kinds.ps this.withdraw.Kinds.r this.withdraw.Reads.Pre this.withdraw.Reads.Post
-withdraw-tight κs a pre z z' l l' p q =
+pub withdraw_tight : Tight this.withdraw.Kinds.ps this.withdraw.Kinds.r this.withdraw.Reads.Pre this.withdraw.Reads.Post
+withdraw_tight κs a pre z z' l l' p q =
     let e = p ∙ sym q in
     ((λ i. record { answer = (e i).left.answer; report = (e i).report; session = (e i).left.session }), (λ i. ((e i).left.working, l.1)))
 
-pub batch-ensures-is : {M : Type 1} {𝓤 : Ura M} (𝓛 : Logic 𝓤) (mem : Memory → SProp 𝓤) (run : Routine → Fun 𝓤)
+pub batch_ensures_is : {M : Type 1} {𝓤 : Ura M} (𝓛 : Logic 𝓤) (mem : Memory → SProp 𝓤) (run : Routine → Fun 𝓤)
     (κs : Lfts 3) (a : Args this.batch.signature κs) (z : Batching) (l : Lasts this.batch.ended κs a)
     → (this.batch.clauses 𝓛 mem run κs a).ensures tt z (at_exit this.batch.ended κs a l) ≡ fact 𝓤 (below.Post κs a z l)
-batch-ensures-is 𝓛 mem run κs a z l = refl
+batch_ensures_is 𝓛 mem run κs a z l = refl
 
-pub batch-tight : (κs : Lfts 3) (a : Args this.batch.signature κs) (z z' : Batching) (l l' : Lasts this.batch.ended κs a)
+pub batch_tight : (κs : Lfts 3) (a : Args this.batch.signature κs) (z z' : Batching) (l l' : Lasts this.batch.ended κs a)
     → below.Post κs a z l → below.Post κs a z' l' → (z ≡ z') × (l ≡ l')
-batch-tight = below.batch-tight
+batch_tight = below.batch_tight
 
-pub read-file-tight : Tight this.read_file.Kinds.ps this.read_file.Kinds.r this.read_file.Reads.Pre this.read_file.Reads.Post
-read-file-tight κs a pre z z' l l' p q =
+pub read_file_tight : Tight this.read_file.Kinds.ps this.read_file.Kinds.r this.read_file.Reads.Pre this.read_file.Reads.Post
+read_file_tight κs a pre z z' l l' p q =
     let e = p ∙ sym q in
     ((λ i. record { answer = (e i).left.answer; report = (e i).report; session = (e i).left.session }), (λ i. ((e i).left.working, l.1)))
 
-pub lookup-tight : Tight this.lookup.Kinds.ps this.lookup.Kinds.r this.lookup.Reads.Pre this.lookup.Reads.Post
-lookup-tight κs a pre z z' l l' p q =
+pub lookup_tight : Tight this.lookup.Kinds.ps this.lookup.Kinds.r this.lookup.Reads.Pre this.lookup.Reads.Post
+lookup_tight κs a pre z z' l l' p q =
     let e = p ∙ sym q in
     ((λ i. record { answer = (e i).left.answer; report = (e i).report; session = (e i).left.session }), (λ i. ((e i).left.working, l.1)))
 
-pub newest-tight : Tight this.newest.Kinds.ps this.newest.Kinds.r this.newest.Reads.Pre this.newest.Reads.Post
-newest-tight κs a pre z z' l l' p q =
+pub newest_tight : Tight this.newest.Kinds.ps this.newest.Kinds.r this.newest.Reads.Pre this.newest.Reads.Post
+newest_tight κs a pre z z' l l' p q =
     let e = p ∙ sym q in
     ((λ i. record { answer = (e i).left.answer; report = (e i).report; session = (e i).left.session }), (λ i. ((e i).left.working, l.1)))
 
-pub has-any-tight : Tight this.has_any.Kinds.ps this.has_any.Kinds.r this.has_any.Reads.Pre this.has_any.Reads.Post
-has-any-tight κs a pre z z' l l' p q =
+pub has_any_tight : Tight this.has_any.Kinds.ps this.has_any.Kinds.r this.has_any.Reads.Pre this.has_any.Reads.Post
+has_any_tight κs a pre z z' l l' p q =
     let e = p ∙ sym q in
     ((λ i. record { answer = (e i).left.answer; report = (e i).report; session = (e i).left.session }), (λ i. ((e i).left.working, l.1)))
 
-pub list-tight : Tight this.list.Kinds.ps this.list.Kinds.r this.list.Reads.Pre this.list.Reads.Post
-list-tight κs a pre z z' l l' p q =
+pub list_tight : Tight this.list.Kinds.ps this.list.Kinds.r this.list.Reads.Pre this.list.Reads.Post
+list_tight κs a pre z z' l l' p q =
     let e = p ∙ sym q in
     let rest = l.1.1.1.1.1.1 in (
       (λ i. record { answer = (e i).left.answer; report = (e i).report; session = (e i).left.session }),
       (λ i. ((e i).left.working, (l.1.0, (l.1.1.0, (l.1.1.1.0, ((e i).left.keys, ((e i).left.records, rest))))))),
     )
 
-pub write-file-tight : Tight this.write_file.Kinds.ps this.write_file.Kinds.r this.write_file.Reads.Pre this.write_file.Reads.Post
-write-file-tight κs a pre z z' l l' p q =
+pub write_file_tight : Tight this.write_file.Kinds.ps this.write_file.Kinds.r this.write_file.Reads.Pre this.write_file.Reads.Post
+write_file_tight κs a pre z z' l l' p q =
     let e = p ∙ sym q in (
       (λ i. record { answer = (e i).left.answer; report = (e i).report; session = (e i).left.session }),
       (λ i. ((e i).left.working, (l.1.0, (l.1.1.0, ((e i).left.out, l.1.1.1.1))))),
     )
 
-pub sync-tight : Tight this.sync.Kinds.ps this.sync.Kinds.r this.sync.Reads.Pre this.sync.Reads.Post
-sync-tight κs a pre z z' l l' p q =
+pub sync_tight : Tight this.sync.Kinds.ps this.sync.Kinds.r this.sync.Reads.Pre this.sync.Reads.Post
+sync_tight κs a pre z z' l l' p q =
     let e = p ∙ sym q in
     ((λ i. record { answer = (e i).answer; session = (e i).session }), (λ i. ((e i).working, ((e i).stable, l.1.1))))
 
-pub lean-lookup-tight : Tight this.lean_lookup.Kinds.ps this.lean_lookup.Kinds.r this.lean_lookup.Reads.Pre this.lean_lookup.Reads.Post
-lean-lookup-tight κs a pre z z' l l' p q =
+pub lean_lookup_tight : Tight this.lean_lookup.Kinds.ps this.lean_lookup.Kinds.r this.lean_lookup.Reads.Pre this.lean_lookup.Reads.Post
+lean_lookup_tight κs a pre z z' l l' p q =
     let s : Session = begun a.1.1.0 a.1.1.1.0 0 [] [] in
     let e = p s refl refl ∙ sym (q s refl refl) in
     ((λ i. record { answer = (e i).left.answer; report = (e i).report }), (λ i. ((e i).left.working, l.1)))
 
-pub lean-newest-tight : Tight this.lean_newest.Kinds.ps this.lean_newest.Kinds.r this.lean_newest.Reads.Pre this.lean_newest.Reads.Post
-lean-newest-tight κs a pre z z' l l' p q =
+pub lean_newest_tight : Tight this.lean_newest.Kinds.ps this.lean_newest.Kinds.r this.lean_newest.Reads.Pre this.lean_newest.Reads.Post
+lean_newest_tight κs a pre z z' l l' p q =
     let s : Session = begun a.1.1.0 a.1.1.1.0 0 [] [] in
     let e = p s refl refl ∙ sym (q s refl refl) in
     ((λ i. record { answer = (e i).left.answer; report = (e i).report }), (λ i. ((e i).left.working, l.1)))
 
-pub lean-has-any-tight : Tight this.lean_has_any.Kinds.ps this.lean_has_any.Kinds.r this.lean_has_any.Reads.Pre this.lean_has_any.Reads.Post
-lean-has-any-tight κs a pre z z' l l' p q =
+pub lean_has_any_tight : Tight this.lean_has_any.Kinds.ps this.lean_has_any.Kinds.r this.lean_has_any.Reads.Pre this.lean_has_any.Reads.Post
+lean_has_any_tight κs a pre z z' l l' p q =
     let s : Session = begun a.1.1.0 a.1.1.1.0 0 [] [] in
     let e = p s refl refl ∙ sym (q s refl refl) in
     ((λ i. record { answer = (e i).left.answer; report = (e i).report }), (λ i. ((e i).left.working, l.1)))
 
-pub lean-list-tight : Tight this.lean_list.Kinds.ps this.lean_list.Kinds.r this.lean_list.Reads.Pre this.lean_list.Reads.Post
-lean-list-tight κs a pre z z' l l' p q =
+pub lean_list_tight : Tight this.lean_list.Kinds.ps this.lean_list.Kinds.r this.lean_list.Reads.Pre this.lean_list.Reads.Post
+lean_list_tight κs a pre z z' l l' p q =
     let s : Session = begun a.1.1.0 a.1.1.1.0 0 [] [] in
     let e = p s refl refl ∙ sym (q s refl refl) in
     let rest = l.1.1.1.1.1.1.1 in (
@@ -114,8 +114,8 @@ lean-list-tight κs a pre z z' l l' p q =
       (λ i. ((e i).left.working, (l.1.0, (l.1.1.0, (l.1.1.1.0, (l.1.1.1.1.0, ((e i).left.keys, ((e i).left.records, rest)))))))),
     )
 
-pub lean-write-file-tight : Tight this.lean_write_file.Kinds.ps this.lean_write_file.Kinds.r this.lean_write_file.Reads.Pre this.lean_write_file.Reads.Post
-lean-write-file-tight κs a pre z z' l l' p q =
+pub lean_write_file_tight : Tight this.lean_write_file.Kinds.ps this.lean_write_file.Kinds.r this.lean_write_file.Reads.Pre this.lean_write_file.Reads.Post
+lean_write_file_tight κs a pre z z' l l' p q =
     let s : Session = begun a.1.1.0 a.1.1.1.0 0 [] [] in
     let e = p s refl refl ∙ sym (q s refl refl) in
     let rest = l.1.1.1.1.1 in (

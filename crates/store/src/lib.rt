@@ -50,7 +50,7 @@ ghost use Rattle.std.specs.Prelude.{◌≡◌};
 ghost use Rattle.rules.specs.Batch;
 ghost use Rattle.rules.specs.Format;
 ghost use Rattle.rules.specs.Open;
-ghost use Rattle.rules.specs.Reports.{insertReported, withdrawReported, lookupReported, newestReported, hasAnyReported, listReported};
+ghost use Rattle.rules.specs.Reports.{insert_reported, withdraw_reported, lookup_reported, newest_reported, has_any_reported, list_reported};
 ghost use Rattle.rules.specs.Sync;
 ghost use Rattle.rules.specs.declared.Session.{Session};
 ghost use Rattle.format.specs.Formats;
@@ -58,13 +58,13 @@ ghost use Rattle.opening.specs.Opens;
 ghost use Rattle.insert.specs.Inserts;
 ghost use Rattle.withdraw.specs.Withdraws;
 ghost use Rattle.batch.specs.Turns;
-ghost use Rattle.exchange.specs.ReadFile.{readFile};
+ghost use Rattle.exchange.specs.ReadFile.{read_file};
 ghost use Rattle.read.specs.Readings;
 ghost use Rattle.lookup.specs.Looks;
 ghost use Rattle.newest.specs.Newests;
 ghost use Rattle.any.specs.Anys;
 ghost use Rattle.list.specs.Lists;
-ghost use Rattle.write.specs.WriteFile.{writeReported};
+ghost use Rattle.write.specs.WriteFile.{write_reported};
 ghost use Rattle.write.specs.Calls;
 ghost use Rattle.sync.specs.Syncs;
 
@@ -103,7 +103,7 @@ pub fn insert(
     value: u32,
 ) -> Inserting
     ensures { Inserts.leaving result working.new stable.now
-        ≡ insertReported working.old stable.now session model serial issue value }
+        ≡ insert_reported working.old stable.now session model serial issue value }
 {
     insert::insert(working, stable, session, model, serial, issue, value)
 }
@@ -118,7 +118,7 @@ pub fn withdraw(
     issue: u16,
 ) -> Withdrawing
     ensures { Withdraws.leaving result working.new stable.now
-        ≡ withdrawReported working.old stable.now session model serial issue }
+        ≡ withdraw_reported working.old stable.now session model serial issue }
 {
     withdraw::withdraw(working, stable, session, model, serial, issue)
 }
@@ -136,7 +136,7 @@ pub fn batch(working: &mut [u8], stable: &[u8], session: Session, items: &mut [I
 // begins.
 pub fn read_file(working: &mut [u8], stable: &[u8], session: Session, file: &[u8]) -> Reading
     ensures { Readings.leaving result working.new stable.now
-        ≡ readFile working.old stable.now session file.now }
+        ≡ read_file working.old stable.now session file.now }
 {
     read::read_file(working, stable, session, file)
 }
@@ -151,7 +151,7 @@ pub fn lookup(
     issue: u16,
 ) -> Looking
     ensures { Looks.leaving result working.new stable.now
-        ≡ lookupReported working.old stable.now session model serial issue }
+        ≡ lookup_reported working.old stable.now session model serial issue }
 {
     lookup::lookup(working, stable, session, model, serial, issue)
 }
@@ -165,7 +165,7 @@ pub fn newest(
     serial: u32,
 ) -> NewestOf
     ensures { Newests.leaving result working.new stable.now
-        ≡ newestReported working.old stable.now session model serial }
+        ≡ newest_reported working.old stable.now session model serial }
 {
     newest::newest(working, stable, session, model, serial)
 }
@@ -180,7 +180,7 @@ pub fn has_any(
     serial: u32,
 ) -> AnyOf
     ensures { Anys.leaving result working.new stable.now
-        ≡ hasAnyReported working.old stable.now session model serial }
+        ≡ has_any_reported working.old stable.now session model serial }
 {
     any::has_any(working, stable, session, model, serial)
 }
@@ -196,7 +196,7 @@ pub fn list(
     records: &mut [u32],
 ) -> Listing
     ensures { Lists.leaving result working.new stable.now keys.new records.new
-        ≡ listReported working.old stable.now session start keys.old records.old }
+        ≡ list_reported working.old stable.now session start keys.old records.old }
 {
     list::list(working, stable, session, start, keys, records)
 }
@@ -204,7 +204,7 @@ pub fn list(
 // Answers Done with the file's length, Length, Damaged or Short.
 pub fn write_file(working: &mut [u8], stable: &[u8], session: Session, out: &mut [u8]) -> Writing
     ensures { Calls.leaving result working.new stable.now out.new
-        ≡ writeReported working.old stable.now session out.old }
+        ≡ write_reported working.old stable.now session out.old }
 {
     write::write_file(working, stable, session, out)
 }
@@ -228,7 +228,7 @@ pub fn lean_lookup(
     issue: u16,
 ) -> lookup::Sought
     ensures { (s : Session) → s.n ≡ n → s.c ≡ c → Looks.leaving (Looks.beside s result) working.new stable.now
-        ≡ lookupReported working.old stable.now s model serial issue }
+        ≡ lookup_reported working.old stable.now s model serial issue }
 {
     lookup::lean(working, stable, n, c, model, serial, issue)
 }
@@ -243,7 +243,7 @@ pub fn lean_newest(
     serial: u32,
 ) -> newest::Sought
     ensures { (s : Session) → s.n ≡ n → s.c ≡ c → Newests.leaving (Newests.beside s result) working.new stable.now
-        ≡ newestReported working.old stable.now s model serial }
+        ≡ newest_reported working.old stable.now s model serial }
 {
     newest::lean(working, stable, n, c, model, serial)
 }
@@ -258,7 +258,7 @@ pub fn lean_has_any(
     serial: u32,
 ) -> any::Sought
     ensures { (s : Session) → s.n ≡ n → s.c ≡ c → Anys.leaving (Anys.beside s result) working.new stable.now
-        ≡ hasAnyReported working.old stable.now s model serial }
+        ≡ has_any_reported working.old stable.now s model serial }
 {
     any::lean(working, stable, n, c, model, serial)
 }
@@ -275,7 +275,7 @@ pub fn lean_list(
 ) -> list::Sought
     ensures { (s : Session) → s.n ≡ n → s.c ≡ c
         → Lists.leaving (Lists.beside s result) working.new stable.now keys.new records.new
-        ≡ listReported working.old stable.now s start keys.old records.old }
+        ≡ list_reported working.old stable.now s start keys.old records.old }
 {
     list::lean(working, stable, n, c, start, keys, records)
 }
@@ -290,7 +290,7 @@ pub fn lean_write_file(
 ) -> write::Sought
     ensures { (s : Session) → s.n ≡ n → s.c ≡ c
         → Calls.leaving (Calls.beside s result) working.new stable.now out.new
-        ≡ writeReported working.old stable.now s out.old }
+        ≡ write_reported working.old stable.now s out.old }
 {
     write::lean(working, stable, n, c, out)
 }

@@ -12,14 +12,14 @@ abbrev pub front : List ℕ → List ℕ → ℕ → List ℕ
 front old new i = take i new ++ drop i old
 
 module _ (old new : List ℕ) (same : length new ≡ length old) where
-  pub front-more : (i : ℕ) → i < length new → set (front old new i) i (get_or new i 0) ≡ front old new (i + 1)
-  front-more i h = rw add-one (simp zero-add at (paste-suc old 0 new i 0 (omega arith) h))
+  pub front_more : (i : ℕ) → i < length new → set (front old new i) i (get_or new i 0) ≡ front old new (i + 1)
+  front_more i h = rw add-one (simp zero-add at (paste-suc old 0 new i 0 (omega arith) h))
 
   pub length_front : (i : ℕ) → i ≤ length new → length (front old new i) ≡ length old
   length_front i h = rw (length-append, length-take-le i new h, length-drop) (omega arith)
 
-  pub front-all : (i : ℕ) → length new ≤ i → front old new i ≡ new
-  front-all i h =
+  pub front_all : (i : ℕ) → length new ≤ i → front old new i ≡ new
+  front_all i h =
       let l : length old ≤ i = omega arith in
       rw (take_all i new h, drop_of_length-le old l, append-nil)
 
@@ -27,9 +27,9 @@ module _ (old new : List ℕ) (same : length new ≡ length old) where
 abbrev pub zeros : List ℕ → List ℕ
 zeros old = replicate (length old) 0
 
-pub length-zeros : (old : List ℕ) → length (zeros old) ≡ length old
-length-zeros old = length-replicate (length old) 0
+pub length_zeros : (old : List ℕ) → length (zeros old) ≡ length old
+length_zeros old = length-replicate (length old) 0
 
-pub zeros-more : (old : List ℕ) (i : ℕ) → i < length old → set (front old (zeros old) i) i 0 ≡ front old (zeros old) (i + 1)
-zeros-more old i h =
-    rw (get_or-replicate {A = ℕ} (length old) i 0 0 h) at (front-more old (zeros old) (length-zeros old) i (rw length-zeros h))
+pub zeros_more : (old : List ℕ) (i : ℕ) → i < length old → set (front old (zeros old) i) i 0 ≡ front old (zeros old) (i + 1)
+zeros_more old i h =
+    rw (get_or-replicate {A = ℕ} (length old) i 0 0 h) at (front_more old (zeros old) (length_zeros old) i (rw length_zeros h))

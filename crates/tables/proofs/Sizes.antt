@@ -4,12 +4,12 @@ use mathlib.Core.Bool.{Bool, true}
 use mathlib.Core.List.{List, []}
 use Prim.Native.Nat.{ℕ}
 use Rattle.rules.specs.Table.{Tables}
-use Rattle.rules.specs.Call.{lengthsFor}
+use Rattle.rules.specs.Call.{lengths_for}
 use Rattle.rules.specs.Marks.{begun}
 use Rattle.rules.specs.declared.Session.{Session}
-use Rattle.rules.proofs.bytes.Lengths.{lengthsFor-true}
+use Rattle.rules.proofs.Bytes.Lengths.{lengths_for_true}
 
-pub sized : (n : ℕ) (w t : List ℕ) (b : Bool) → ((s : Session) → s.n ≡ n → b ≡ lengthsFor s w t) → b ≡ true → Tables n w t
+pub sized : (n : ℕ) (w t : List ℕ) (b : Bool) → ((s : Session) → s.n ≡ n → b ≡ lengths_for s w t) → b ≡ true → Tables n w t
 sized n w t b tells h =
     let s : Session = begun n 0 0 [] [] in
-    lengthsFor-true s w t (sym (tells s refl) ∙ h)
+    lengths_for_true s w t (sym (tells s refl) ∙ h)

@@ -6,16 +6,16 @@ use Rattle.rules.specs.declared.Session.{Session}
 use Rattle.tight.specs.Tight.{Tight}
 use Rattle.tables.proofs as this
 
-pub good-lengths-tight : Tight this.good_lengths.Kinds.ps this.good_lengths.Kinds.r this.good_lengths.Reads.Pre this.good_lengths.Reads.Post
-good-lengths-tight κs a pre z z' l l' p q = (p ∙ sym q, refl)
+pub good_lengths_tight : Tight this.good_lengths.Kinds.ps this.good_lengths.Kinds.r this.good_lengths.Reads.Pre this.good_lengths.Reads.Post
+good_lengths_tight κs a pre z z' l l' p q = (p ∙ sym q, refl)
 
-pub lengths-for-tight : Tight this.lengths_for.Kinds.ps this.lengths_for.Kinds.r this.lengths_for.Reads.Pre this.lengths_for.Reads.Post
-lengths-for-tight κs a pre z z' l l' p q =
+pub lengths_for_tight : Tight this.lengths_for.Kinds.ps this.lengths_for.Kinds.r this.lengths_for.Reads.Pre this.lengths_for.Reads.Post
+lengths_for_tight κs a pre z z' l l' p q =
     let s : Session = begun a.0 0 0 [] [] in
     (p s refl ∙ sym (q s refl), refl)
 
-pub copy-tight : Tight this.copy.Kinds.ps this.copy.Kinds.r this.copy.Reads.Pre this.copy.Reads.Post
-copy-tight κs a pre z z' l l' p q = (refl, λ i. ((p ∙ sym q) i, l.1))
+pub copy_tight : Tight this.copy.Kinds.ps this.copy.Kinds.r this.copy.Reads.Pre this.copy.Reads.Post
+copy_tight κs a pre z z' l l' p q = (refl, λ i. ((p ∙ sym q) i, l.1))
 
-pub clear-tight : Tight this.clear.Kinds.ps this.clear.Kinds.r this.clear.Reads.Pre this.clear.Reads.Post
-clear-tight κs a pre z z' l l' p q = (refl, λ i. ((p ∙ sym q) i, l.1))
+pub clear_tight : Tight this.clear.Kinds.ps this.clear.Kinds.r this.clear.Reads.Pre this.clear.Reads.Post
+clear_tight κs a pre z z' l l' p q = (refl, λ i. ((p ∙ sym q) i, l.1))

@@ -5,15 +5,15 @@
 //
 // Below stands `rules`.
 ghost use Rattle.std.specs.Prelude.{◌≡◌, length, replicate};
-ghost use Rattle.rules.specs.Table.{goodLengths};
-ghost use Rattle.rules.specs.Call.{lengthsFor};
+ghost use Rattle.rules.specs.Table.{good_lengths};
+ghost use Rattle.rules.specs.Call.{lengths_for};
 ghost use Rattle.rules.specs.declared.Session.{Session};
 
 use rules::{FEWEST, MOST, PAGE};
 
 // Two tables of the same length, of 4 to 128 whole pages.
 pub fn good_lengths(working: &[u8], stable: &[u8]) -> bool
-    ensures { result ≡ goodLengths working.now stable.now }
+    ensures { result ≡ good_lengths working.now stable.now }
 {
     let bytes = working.len();
     if bytes != stable.len() {
@@ -28,7 +28,7 @@ pub fn good_lengths(working: &[u8], stable: &[u8]) -> bool
 
 // The same with a session's number of pages.
 pub fn lengths_for(n: u16, working: &[u8], stable: &[u8]) -> bool
-    ensures { (s : Session) → s.n ≡ n → result ≡ lengthsFor s working.now stable.now }
+    ensures { (s : Session) → s.n ≡ n → result ≡ lengths_for s working.now stable.now }
 {
     if good_lengths(working, stable) {
         return n as usize == working.len() / PAGE;

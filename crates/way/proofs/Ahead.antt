@@ -4,38 +4,38 @@ use mathlib.Core.List.{List}
 use Prim.Native.Nat.{ℕ, ◌≤◌, ◌<◌}
 use native.Mathlib.Omega.{arith}
 use borrow.Author.Tests.{eq-eqb, ne_eqb, lt-ltb, le-ltb}
-use Rattle.fields.specs.Field.{leAt}
-use Rattle.rules.specs.Layout.{leafKind, leafHeader, innerHeader, certSize, child_size, leafRoom, innerRoom}
-use Rattle.entries.specs.Spot.{keysIn}
-use Rattle.seek.specs.Guess.{guessOf}
-use Rattle.way.specs.Ahead.{aheadIn, ahead_of}
+use Rattle.fields.specs.Field.{le_at}
+use Rattle.rules.specs.Layout.{leaf_kind, leaf_header, inner_header, cert_size, child_size, leaf_room, inner_room}
+use Rattle.entries.specs.Spot.{keys_in}
+use Rattle.seek.specs.Guess.{guess_of}
+use Rattle.way.specs.Ahead.{ahead_in, ahead_of}
 
-module _ (b : List ℕ) (count : ℕ) (n : count ≡ leAt b 2 2) (room header size k : ℕ) where
-  ahead-many : room < count → 0 ≡ aheadIn room header size k b
-  unfolding aheadIn
-  ahead-many h = rw (lt-ltb room (leAt b 2 2) (omega (arith, n)), aheadIn)
+module _ (b : List ℕ) (count : ℕ) (n : count ≡ le_at b 2 2) (room header size k : ℕ) where
+  ahead-many : room < count → 0 ≡ ahead_in room header size k b
+  unfolding ahead_in
+  ahead-many h = rw (lt-ltb room (le_at b 2 2) (omega (arith, n)), ahead_in)
 
-  ahead-few : count ≤ room → guessOf k (keysIn header size count b) ≡ aheadIn room header size k b
-  unfolding aheadIn
-  ahead-few h = rw (le-ltb room (leAt b 2 2) (omega (arith, n)), aheadIn) (ap (λ (x : ℕ). guessOf k (keysIn header size x b)) n)
+  ahead-few : count ≤ room → guess_of k (keys_in header size count b) ≡ ahead_in room header size k b
+  unfolding ahead_in
+  ahead-few h = rw (le-ltb room (le_at b 2 2) (omega (arith, n)), ahead_in) (ap (λ (x : ℕ). guess_of k (keys_in header size x b)) n)
 
-module _ (key upto : ℕ) (b : List ℕ) (kind count : ℕ) (m : kind ≡ leAt b 0 2) (n : count ≡ leAt b 2 2) where
-  as-leaf : kind ≡ leafKind → aheadIn leafRoom leafHeader certSize upto b ≡ ahead_of key upto b
+module _ (key upto : ℕ) (b : List ℕ) (kind count : ℕ) (m : kind ≡ le_at b 0 2) (n : count ≡ le_at b 2 2) where
+  as_leaf : kind ≡ leaf_kind → ahead_in leaf_room leaf_header cert_size upto b ≡ ahead_of key upto b
   unfolding ahead_of
-  as-leaf h = rw (eq-eqb (leAt b 0 2) leafKind (sym m ∙ h), ahead_of)
+  as_leaf h = rw (eq-eqb (le_at b 0 2) leaf_kind (sym m ∙ h), ahead_of)
 
-  as-inner : (kind ≡ leafKind → ⊥) → aheadIn innerRoom innerHeader child_size key b ≡ ahead_of key upto b
+  as_inner : (kind ≡ leaf_kind → ⊥) → ahead_in inner_room inner_header child_size key b ≡ ahead_of key upto b
   unfolding ahead_of
-  as-inner h = rw (ne_eqb (leAt b 0 2) leafKind (λ q. h (m ∙ q)), ahead_of)
+  as_inner h = rw (ne_eqb (le_at b 0 2) leaf_kind (λ q. h (m ∙ q)), ahead_of)
 
-  pub leaf-many : kind ≡ leafKind → leafRoom < count → 0 ≡ ahead_of key upto b
-  leaf-many h o = ahead-many b count n leafRoom leafHeader certSize upto o ∙ as-leaf h
+  pub leaf-many : kind ≡ leaf_kind → leaf_room < count → 0 ≡ ahead_of key upto b
+  leaf-many h o = ahead-many b count n leaf_room leaf_header cert_size upto o ∙ as_leaf h
 
-  pub leaf-few : kind ≡ leafKind → count ≤ leafRoom → guessOf upto (keysIn leafHeader certSize count b) ≡ ahead_of key upto b
-  leaf-few h o = ahead-few b count n leafRoom leafHeader certSize upto o ∙ as-leaf h
+  pub leaf-few : kind ≡ leaf_kind → count ≤ leaf_room → guess_of upto (keys_in leaf_header cert_size count b) ≡ ahead_of key upto b
+  leaf-few h o = ahead-few b count n leaf_room leaf_header cert_size upto o ∙ as_leaf h
 
-  pub inner-many : (kind ≡ leafKind → ⊥) → innerRoom < count → 0 ≡ ahead_of key upto b
-  inner-many h o = ahead-many b count n innerRoom innerHeader child_size key o ∙ as-inner h
+  pub inner-many : (kind ≡ leaf_kind → ⊥) → inner_room < count → 0 ≡ ahead_of key upto b
+  inner-many h o = ahead-many b count n inner_room inner_header child_size key o ∙ as_inner h
 
-  pub inner-few : (kind ≡ leafKind → ⊥) → count ≤ innerRoom → guessOf key (keysIn innerHeader child_size count b) ≡ ahead_of key upto b
-  inner-few h o = ahead-few b count n innerRoom innerHeader child_size key o ∙ as-inner h
+  pub inner-few : (kind ≡ leaf_kind → ⊥) → count ≤ inner_room → guess_of key (keys_in inner_header child_size count b) ≡ ahead_of key upto b
+  inner-few h o = ahead-few b count n inner_room inner_header child_size key o ∙ as_inner h

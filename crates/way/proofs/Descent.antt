@@ -10,28 +10,28 @@ use native.Mathlib.Numerals.{add-one}
 use lib.ListN.{length}
 use borrow.Author.Tests.{ne_eqb}
 use Rattle.fields.specs.Field.{Bytes}
-use Rattle.rules.specs.Layout.{pageSize, leafKind, lastKey}
+use Rattle.rules.specs.Layout.{page_size, leaf_kind, last_key}
 use Rattle.rules.specs.Test.{mem}
-use Rattle.rules.specs.Page.{Page, isLeaf}
-use Rattle.rules.specs.Sound.{startsAt}
+use Rattle.rules.specs.Page.{Page, is_leaf}
+use Rattle.rules.specs.Sound.{starts_at}
 use Rattle.rules.specs.Table.{read, fit0}
-use Rattle.rules.specs.Place.{rootPlace, kids, pick}
+use Rattle.rules.specs.Place.{root_place, kids, pick}
 use Rattle.rules.specs.Enter as entry
-use Rattle.rules.specs.Report.{adds, reasonAt}
+use Rattle.rules.specs.Report.{adds, reason_at}
 use Rattle.rules.specs.Walk as rules
 use Rattle.rules.specs.declared.Place.{Place}
 use Rattle.rules.specs.declared.Reason.{Reason}
 use Rattle.rules.specs.declared.Report.{Report}
-use Rattle.rules.proofs.entries.Views.{Shaped, leaf-of-kind, inner-of-kind, shaped-read}
-use Rattle.rules.proofs.entries.Asks.{pick-leaf}
+use Rattle.rules.proofs.Entries.Views.{Shaped, leaf_of-kind, inner-of-kind, shaped-read}
+use Rattle.rules.proofs.Entries.Asks.{pick-leaf}
 use Rattle.head.specs.declared.Head.{Head}
 use Rattle.head.proofs.Headers.{head_of}
-use Rattle.rules.proofs.demand1.WalkSteps.{descend-damaged, descend-ends, descend-below, report-damaged, report-ends, report-below}
+use Rattle.rules.proofs.Demand1.WalkSteps.{descend-damaged, descend-ends, descend-below, report-damaged, report-ends, report-below}
 use Rattle.enter.specs.Entering as enters
 use Rattle.enter.specs.declared.Entered.{Entered}
 use Rattle.enter.specs.declared.Above.{Above}
 use Rattle.enter.proofs.Told.{enter-same, told-table, told-page, told-damaged}
-use Rattle.way.specs.Ways.{placesBelow, Leads, Holds, step_of, wayFor, thenOf, aboveIn, walking, wayOr, told, reported, went}
+use Rattle.way.specs.Ways.{places_below, Leads, Holds, step_of, way_for, then_of, above_in, walking, way_or, told, reported, went}
 use Rattle.way.specs.declared.Step.{Step}
 use Rattle.way.specs.declared.Way.{Way}
 use Rattle.way.proofs.Inner.{places-kids}
@@ -40,7 +40,7 @@ use Rattle.way.proofs.Stood.{Ready, ready-root, ready-next, Stood, stood-here}
 -- ── The numbers above, as the code keeps them ───────────────────────────────────────────────────────────────────
 
 numbers-above : (ss : List rules.Step) (i : ℕ) → length ss ≤ 2 → 1 ≤ i
-    → mem i (enters.above_of (aboveIn (wayFor ss))) ≡ mem i (rules.numbers ss)
+    → mem i (enters.above_of (above_in (way_for ss))) ≡ mem i (rules.numbers ss)
 unfolding mem rules.numbers
 numbers-above [] i h o = rw (ne_eqb i 0 (λ q. omega arith))
 numbers-above (s ∷ []) i h o = rw (ne_eqb i 0 (λ q. omega arith))
@@ -48,100 +48,100 @@ numbers-above (s ∷ (u ∷ [])) i h o = refl
 numbers-above (s ∷ (u ∷ (v ∷ ss))) i h o = absurd (omega arith)
 
 -- one step more of the rules' is one step more of the code's
-then-for : (ss : List rules.Step) (s : rules.Step) → thenOf (wayFor ss) (step_of s) ≡ wayFor (s ∷ ss)
-then-for ss s = rw add-one
+then_for : (ss : List rules.Step) (s : rules.Step) → then_of (way_for ss) (step_of s) ≡ way_for (s ∷ ss)
+then_for ss s = rw add-one
 
 -- ── Where the loop stands ───────────────────────────────────────────────────────────────────────────────────────
 
 pub record Descent (n c k : ℕ) (t₀ t : List ℕ) (w : Way) (e : Place) (level : ℕ) (x₀ x : Report) : Type 0 where
   pub above : List rules.Step
-  pub way : w ≡ wayFor above
+  pub way : w ≡ way_for above
   pub rest : rules.way_of n c k t₀ ≡ rules.descend level n c k above t e
-  pub reports : rules.wayReport n c k t₀ x₀ ≡ rules.descendReport level n c k above t e x
+  pub reports : rules.way_report n c k t₀ x₀ ≡ rules.descend_report level n c k above t e x
   pub deep : level + length above ≡ 3
   pub ready : Ready n c k t e
 
 -- what the code hands back with a report is what the rules do
 abbrev pub Handed : ℕ → ℕ → ℕ → List ℕ → Report → List ℕ → Way → Report → Type 0
-Handed n c k t₀ x₀ u w x = went u (record { way = w; report = x }) ≡ reported (told (rules.way_of n c k t₀)) (rules.wayReport n c k t₀ x₀)
+Handed n c k t₀ x₀ u w x = went u (record { way = w; report = x }) ≡ reported (told (rules.way_of n c k t₀)) (rules.way_report n c k t₀ x₀)
 
 both : {A : Type 0} {a b : A} {x y : Report} → a ≡ b → x ≡ y → reported a x ≡ reported b y
 both p q = cc
 
 -- at the root
-pub begins : (n c k : ℕ) (t : List ℕ) (e : Place) (w : Way) (x₀ x : Report) → length t ≡ n * pageSize → fit0 n t ≡ true → Bytes t
-    → e ≡ rootPlace t → w ≡ wayFor [] → x ≡ x₀ → c < 256 ^ 4 → k ≤ lastKey → Descent n c k t t w e 3 x₀ x
-unfolding rules.way_of rules.wayReport
+pub begins : (n c k : ℕ) (t : List ℕ) (e : Place) (w : Way) (x₀ x : Report) → length t ≡ n * page_size → fit0 n t ≡ true → Bytes t
+    → e ≡ root_place t → w ≡ way_for [] → x ≡ x₀ → c < 256 ^ 4 → k ≤ last_key → Descent n c k t t w e 3 x₀ x
+unfolding rules.way_of rules.way_report
 begins n c k t e w x₀ x l f b g v y m h = record {
   above = [];
   way = v;
   rest = ap (rules.descend 3 n c k [] t) (sym g);
-  reports = ap (λ (d : Place). rules.descendReport 3 n c k [] t d x₀) (sym g) ∙ ap (rules.descendReport 3 n c k [] t e) (sym y);
+  reports = ap (λ (d : Place). rules.descend_report 3 n c k [] t d x₀) (sym g) ∙ ap (rules.descend_report 3 n c k [] t e) (sym y);
   deep = refl;
   ready = subst (Ready n c k t) (sym g) (ready-root n c k t l f b m h);
 }
 
 -- below the last level, where nothing can stand
 module _ {n c k : ℕ} {t₀ t : List ℕ} {w : Way} {e : Place} {level : ℕ} {x₀ x : Report} (d : Descent n c k t₀ t w e level x₀ x) (z : level ≡ 0) where
-  pub out-way : rules.way_of n c k t₀ ≡ rules.noWay t
+  pub out-way : rules.way_of n c k t₀ ≡ rules.no_way t
   unfolding rules.descend
   out-way = d.rest ∙ ap (λ (l : ℕ). rules.descend l n c k d.above t e) z
 
-  pub out-report : rules.wayReport n c k t₀ x₀ ≡ x
-  unfolding rules.descendReport
-  out-report = d.reports ∙ ap (λ (l : ℕ). rules.descendReport l n c k d.above t e x) z
+  pub out-report : rules.way_report n c k t₀ x₀ ≡ x
+  unfolding rules.descend_report
+  out-report = d.reports ∙ ap (λ (l : ℕ). rules.descend_report l n c k d.above t e x) z
 
-  runs-out : walking t (wayFor []) ≡ told (rules.way_of n c k t₀)
-  unfolding told wayOr
-  runs-out = sym (ap told out-way)
+  runs_out : walking t (way_for []) ≡ told (rules.way_of n c k t₀)
+  unfolding told way_or
+  runs_out = sym (ap told out-way)
 
-  pub runs-out-reported : Handed n c k t₀ x₀ t (wayFor []) x
-  runs-out-reported = both runs-out (sym out-report)
+  pub runs_out-reported : Handed n c k t₀ x₀ t (way_for []) x
+  runs_out-reported = both runs_out (sym out-report)
 
 -- ── One turn of the loop ────────────────────────────────────────────────────────────────────────────────────────
 
-module _ {n c k : ℕ} {t₀ t : List ℕ} {w : Way} {e : Place} {level : ℕ} {x₀ x : Report} (d : Descent n c k t₀ t w e level x₀ x) (o : 0 < level) (a : Above) (g : a ≡ aboveIn w) where
+module _ {n c k : ℕ} {t₀ t : List ℕ} {w : Way} {e : Place} {level : ℕ} {x₀ x : Report} (d : Descent n c k t₀ t w e level x₀ x) (o : 0 < level) (a : Above) (g : a ≡ above_in w) where
   -- what the code enters by is what the rules enter by
-  as-rules : entry.enter n c (enters.above_of a) t e ≡ entry.enter n c (rules.numbers d.above) t e
-  as-rules =
-      ap (λ (b : Above). entry.enter n c (enters.above_of b) t e) (g ∙ ap aboveIn d.way)
-      ∙ enter-same n c (enters.above_of (aboveIn (wayFor d.above))) (rules.numbers d.above) t e
-      (numbers-above d.above e.child (omega (arith, d.deep)) d.ready.child-from)
+  as_rules : entry.enter n c (enters.above_of a) t e ≡ entry.enter n c (rules.numbers d.above) t e
+  as_rules =
+      ap (λ (b : Above). entry.enter n c (enters.above_of b) t e) (g ∙ ap above_in d.way)
+      ∙ enter-same n c (enters.above_of (above_in (way_for d.above))) (rules.numbers d.above) t e
+      (numbers-above d.above e.child (omega (arith, d.deep)) d.ready.child_from)
 
-  report-level : rules.descendReport level n c k d.above t e x ≡ rules.descendReport (suc (level - 1)) n c k d.above t e x
-  report-level = let q : level ≡ suc (level - 1) = omega arith in ap (λ (l : ℕ). rules.descendReport l n c k d.above t e x) q
+  report-level : rules.descend_report level n c k d.above t e x ≡ rules.descend_report (suc (level - 1)) n c k d.above t e x
+  report-level = let q : level ≡ suc (level - 1) = omega arith in ap (λ (l : ℕ). rules.descend_report l n c k d.above t e x) q
 
   one-level : rules.descend level n c k d.above t e ≡ rules.descend (suc (level - 1)) n c k d.above t e
   one-level = let q : level ≡ suc (level - 1) = omega arith in ap (λ (l : ℕ). rules.descend l n c k d.above t e) q
 
-  module _ (u : List ℕ) (h : enters.entering u Entered.Damaged ≡ enters.told (reasonAt n t e) (entry.enter n c (enters.above_of a) t e)) where
-    pub damaged-way : rules.way_of n c k t₀ ≡ rules.noWay u
+  module _ (u : List ℕ) (h : enters.entering u Entered.Damaged ≡ enters.told (reason_at n t e) (entry.enter n c (enters.above_of a) t e)) where
+    pub damaged-way : rules.way_of n c k t₀ ≡ rules.no_way u
     damaged-way =
         let y = entry.enter n c (rules.numbers d.above) t e in
-        let i = h ∙ ap (enters.told (reasonAt n t e)) as-rules in
+        let i = h ∙ ap (enters.told (reason_at n t e)) as_rules in
         d.rest
-        ∙ (one-level ∙ (descend-damaged (level - 1) n c k d.above t e (told-damaged (reasonAt n t e) y i) ∙ ap rules.noWay (sym (told-table (reasonAt n t e) y i))))
+        ∙ (one-level ∙ (descend-damaged (level - 1) n c k d.above t e (told-damaged (reason_at n t e) y i) ∙ ap rules.no_way (sym (told-table (reason_at n t e) y i))))
 
-    damaged : walking u (wayFor []) ≡ told (rules.way_of n c k t₀)
-    unfolding told wayOr
+    damaged : walking u (way_for []) ≡ told (rules.way_of n c k t₀)
+    unfolding told way_or
     damaged = sym (ap told damaged-way)
 
-    pub damaged-report : rules.wayReport n c k t₀ x₀ ≡ x
+    pub damaged-report : rules.way_report n c k t₀ x₀ ≡ x
     damaged-report =
         d.reports
         ∙ (report-level
         ∙ report-damaged (level - 1) n c k d.above t e x
-        (told-damaged (reasonAt n t e) (entry.enter n c (rules.numbers d.above) t e) (h ∙ ap (enters.told (reasonAt n t e)) as-rules)))
+        (told-damaged (reason_at n t e) (entry.enter n c (rules.numbers d.above) t e) (h ∙ ap (enters.told (reason_at n t e)) as_rules)))
 
-    pub damaged-reported : Handed n c k t₀ x₀ u (wayFor []) x
+    pub damaged-reported : Handed n c k t₀ x₀ u (way_for []) x
     damaged-reported = both damaged (sym damaged-report)
 
-  module _ (u : List ℕ) (h : Head) (why : Reason) (f : enters.entering u (Entered.Page h why) ≡ enters.told (reasonAt n t e) (entry.enter n c (enters.above_of a) t e)) where
-    page : (p : Page) × ((entry.enter n c (rules.numbers d.above) t e).page ≡ some p) × (h ≡ head_of p) × (why ≡ reasonAt n t e)
-    page = told-page (reasonAt n t e) h why (entry.enter n c (rules.numbers d.above) t e) (f ∙ ap (enters.told (reasonAt n t e)) as-rules)
+  module _ (u : List ℕ) (h : Head) (why : Reason) (f : enters.entering u (Entered.Page h why) ≡ enters.told (reason_at n t e) (entry.enter n c (enters.above_of a) t e)) where
+    page : (p : Page) × ((entry.enter n c (rules.numbers d.above) t e).page ≡ some p) × (h ≡ head_of p) × (why ≡ reason_at n t e)
+    page = told-page (reason_at n t e) h why (entry.enter n c (rules.numbers d.above) t e) (f ∙ ap (enters.told (reason_at n t e)) as_rules)
 
     table : u ≡ (entry.enter n c (rules.numbers d.above) t e).table
-    table = told-table (reasonAt n t e) (entry.enter n c (rules.numbers d.above) t e) (f ∙ ap (enters.told (reasonAt n t e)) as-rules)
+    table = told-table (reason_at n t e) (entry.enter n c (rules.numbers d.above) t e) (f ∙ ap (enters.told (reason_at n t e)) as_rules)
 
     stood : Stood n k (entry.enter n c (rules.numbers d.above) t e).table (record { place = e; page = page.0 })
     stood = stood-here d.ready (rules.numbers d.above) page.0 page.1
@@ -157,53 +157,53 @@ module _ {n c k : ℕ} {t₀ t : List ℕ} {w : Way} {e : Place} {level : ℕ} {
     unfolding head_of
     kind-here = ap (λ (x : Head). x.kind) page.2
 
-    then-here : thenOf w (record { place = e; head = h }) ≡ wayFor (record { place = e; page = read u e.child } ∷ d.above)
+    then-here : then_of w (record { place = e; head = h }) ≡ way_for (record { place = e; page = read u e.child } ∷ d.above)
     then-here =
-        ap (λ (x : Way). thenOf x (record { place = e; head = h })) d.way
-        ∙ (ap (λ (x : Head). thenOf (wayFor d.above) (record { place = e; head = x })) head-here
-        ∙ then-for d.above (record { place = e; page = read u e.child }))
+        ap (λ (x : Way). then_of x (record { place = e; head = h })) d.way
+        ∙ (ap (λ (x : Head). then_of (way_for d.above) (record { place = e; head = x })) head-here
+        ∙ then_for d.above (record { place = e; page = read u e.child }))
 
     -- what is reported with this page
-    pub more : (y : Report) → y ≡ adds why x → y ≡ adds (reasonAt n t e) x
+    pub more : (y : Report) → y ≡ adds why x → y ≡ adds (reason_at n t e) x
     more y g = g ∙ ap (λ (r : Reason). adds r x) page.3
 
     -- a leaf ends the way
-    no-kid : h.kind ≡ leafKind → pick k (kids e page.0.view) ≡ none
-    no-kid q =
+    no_kid : h.kind ≡ leaf_kind → pick k (kids e page.0.view) ≡ none
+    no_kid q =
         let v = page.0.view in
-        pick-leaf k e v (subst (λ (z : Page). Shaped z.view) here (shaped-read u e.child)) (leaf-of-kind v (sym kind-here ∙ q))
+        pick-leaf k e v (subst (λ (z : Page). Shaped z.view) here (shaped-read u e.child)) (leaf_of-kind v (sym kind-here ∙ q))
 
-    pub leaf-way : h.kind ≡ leafKind
+    pub leaf-way : h.kind ≡ leaf_kind
         → rules.way_of n c k t₀ ≡ record { table = u; steps = some (record { place = e; page = read u e.child } ∷ d.above) }
     leaf-way q =
         d.rest
         ∙ (one-level
-        ∙ (descend-ends (level - 1) n c k d.above t e page.0 page.1 (no-kid q)
+        ∙ (descend-ends (level - 1) n c k d.above t e page.0 page.1 (no_kid q)
         ∙ (ap (λ (x : List ℕ). record { table = x; steps = some (record { place = e; page = page.0 } ∷ d.above) }) (sym table)
         ∙ ap (λ (x : Page). record { table = u; steps = some (record { place = e; page = x } ∷ d.above) }) (sym here))))
 
-    ends : h.kind ≡ leafKind → walking u (thenOf w (record { place = e; head = h })) ≡ told (rules.way_of n c k t₀)
-    unfolding told wayOr
+    ends : h.kind ≡ leaf_kind → walking u (then_of w (record { place = e; head = h })) ≡ told (rules.way_of n c k t₀)
+    unfolding told way_or
     ends q = ap (walking u) then-here ∙ sym (ap told (leaf-way q))
 
-    pub leaf-report : h.kind ≡ leafKind → rules.wayReport n c k t₀ x₀ ≡ adds (reasonAt n t e) x
-    leaf-report q = d.reports ∙ (report-level ∙ report-ends (level - 1) n c k d.above t e page.0 page.1 x (no-kid q))
+    pub leaf-report : h.kind ≡ leaf_kind → rules.way_report n c k t₀ x₀ ≡ adds (reason_at n t e) x
+    leaf-report q = d.reports ∙ (report-level ∙ report-ends (level - 1) n c k d.above t e page.0 page.1 x (no_kid q))
 
-    pub ends-reported : h.kind ≡ leafKind → (y : Report) → y ≡ adds why x → Handed n c k t₀ x₀ u (thenOf w (record { place = e; head = h })) y
+    pub ends-reported : h.kind ≡ leaf_kind → (y : Report) → y ≡ adds why x → Handed n c k t₀ x₀ u (then_of w (record { place = e; head = h })) y
     ends-reported q y g = both (ends q) (more y g ∙ sym (leaf-report q))
 
-    pub holds : h.kind ≡ leafKind → Holds (read u e.child).view
+    pub holds : h.kind ≡ leaf_kind → Holds (read u e.child).view
     holds q =
         let s = stood.fits.sound in
         let l : Holds page.0.view = record {
-          leaf = leaf-of-kind page.0.view (sym kind-here ∙ q);
-          room = s.certs-room;
-          rise = s.certs-rise;
+          leaf = leaf_of-kind page.0.view (sym kind-here ∙ q);
+          room = s.certs_room;
+          rise = s.certs_rise;
         } in
         subst (λ (x : Page). Holds x.view) (sym here) l
 
-    module _ (q : h.kind ≡ leafKind → ⊥) where
-      inner-here : isLeaf page.0.view ≡ false
+    module _ (q : h.kind ≡ leaf_kind → ⊥) where
+      inner-here : is_leaf page.0.view ≡ false
       inner-here = inner-of-kind page.0.view (λ r. q (kind-here ∙ r))
 
       low-here : h.low ≡ e.low
@@ -222,18 +222,18 @@ module _ {n c k : ℕ} {t₀ t : List ℕ} {w : Way} {e : Place} {level : ℕ} {
           let l : Leads k h page.0.view = record {
             inner = inner-here;
             kind = kind-here;
-            from = s.kind-from;
+            from = s.kind_from;
             count = ap (λ (x : Head). x.count) page.2;
-            room = s.children-room;
-            rise = s.children-rise;
-            starts = ap (λ (x : ℕ). startsAt x page.0.view.children) low-here ∙ s.starts inner-here;
+            room = s.children_room;
+            rise = s.children_rise;
+            starts = ap (λ (x : ℕ). starts_at x page.0.view.children) low-here ∙ s.starts inner-here;
             low = omega (arith, low-here, d.ready.low);
             high = omega (arith, high-here, d.ready.high);
           } in
           subst (λ (x : Page). Leads k h x.view) (sym here) l
 
-      pub goes_on : (b : Place) → pick k (placesBelow h (read u e.child).view) ≡ some b
-          → (y : Report) → y ≡ adds why x → Descent n c k t₀ u (thenOf w (record { place = e; head = h })) b (level - 1) x₀ y
+      pub goes_on : (b : Place) → pick k (places_below h (read u e.child).view) ≡ some b
+          → (y : Report) → y ≡ adds why x → Descent n c k t₀ u (then_of w (record { place = e; head = h })) b (level - 1) x₀ y
       goes_on b r y v =
           let q' : pick k (kids e page.0.view) ≡ some b = ap (λ (x : Page). pick k (kids e x.view)) (sym here)
           ∙ (ap (pick k) (sym (places-kids e h (read u e.child).view high-here)) ∙ r) in
@@ -244,9 +244,9 @@ module _ {n c k : ℕ} {t₀ t : List ℕ} {w : Way} {e : Place} {level : ℕ} {
                 ∙ (ap (λ (x : List ℕ). rules.descend (level - 1) n c k (record { place = e; page = page.0 } ∷ d.above) x b) (sym table)
                 ∙ ap (λ (x : Page). rules.descend (level - 1) n c k (record { place = e; page = x } ∷ d.above) u b) (sym here))));
             reports = d.reports ∙ (report-level ∙ (report-below (level - 1) n c k d.above t e page.0 page.1 x b q'
-                ∙ (ap (λ (z : List ℕ). rules.descendReport (level - 1) n c k (record { place = e; page = page.0 } ∷ d.above) z b (adds (reasonAt n t e) x)) (sym table)
-                ∙ (ap (λ (z : Page). rules.descendReport (level - 1) n c k (record { place = e; page = z } ∷ d.above) u b (adds (reasonAt n t e) x)) (sym here)
-                ∙ ap (rules.descendReport (level - 1) n c k (record { place = e; page = read u e.child } ∷ d.above) u b) (sym (more y v))))));
+                ∙ (ap (λ (z : List ℕ). rules.descend_report (level - 1) n c k (record { place = e; page = page.0 } ∷ d.above) z b (adds (reason_at n t e) x)) (sym table)
+                ∙ (ap (λ (z : Page). rules.descend_report (level - 1) n c k (record { place = e; page = z } ∷ d.above) u b (adds (reason_at n t e) x)) (sym here)
+                ∙ ap (rules.descend_report (level - 1) n c k (record { place = e; page = read u e.child } ∷ d.above) u b) (sym (more y v))))));
             deep = omega (arith, d.deep);
             ready = subst (λ (x : List ℕ). Ready n c k x b) (sym table) (ready-next d.ready (rules.numbers d.above) page.0 page.1 b q');
           }

@@ -5,43 +5,43 @@ use mathlib.Core.List.{List}
 use Prim.Native.Nat.{ℕ, ◌≤◌}
 use native.Mathlib.Omega.{arith}
 use lib.ListN.{length, drop}
-use Rattle.fields.specs.Field.{leAt}
-use Rattle.rules.specs.Layout.{leafHeader, certSize, leafRoom}
+use Rattle.fields.specs.Field.{le_at}
+use Rattle.rules.specs.Layout.{leaf_header, cert_size, leaf_room}
 use Rattle.rules.specs.Entry.{Cert, keys, rising}
-use Rattle.rules.specs.Page.{View, readEach, certIn, viewIn, pageIn}
-use Rattle.rules.proofs.bytes.Each.{length-readEach}
-use Rattle.rules.proofs.entries.Views.{leaf-kind}
+use Rattle.rules.specs.Page.{View, read_each, cert_in, view_in, page_in}
+use Rattle.rules.proofs.Bytes.Each.{length-read_each}
+use Rattle.rules.proofs.Entries.Views.{leaf_kind_lem}
 use Rattle.head.specs.declared.Head.{Head}
 use Rattle.head.proofs.Headers.{head_of, view-leaf, kind-view, count-view}
-use Rattle.entries.specs.Spot.{keysIn, spot_of}
+use Rattle.entries.specs.Spot.{keys_in, spot_of}
 use Rattle.entries.proofs.KeysIn.{keys-certs}
-use Rattle.way.specs.Ways.{Holds, noStep, spotAt}
+use Rattle.way.specs.Ways.{Holds, no_step, spot_at}
 
 -- the first so many certificates of a leaf
-abbrev pub certsIn : ℕ → List ℕ → List Cert
-certsIn count b = readEach certIn certSize count (drop leafHeader b)
+abbrev pub certs_in : ℕ → List ℕ → List Cert
+certs_in count b = read_each cert_in cert_size count (drop leaf_header b)
 
-module _ (b : List ℕ) (h : Head) (f : h ≡ head_of (pageIn b)) (l : Holds (viewIn b)) where
-  count-is : h.count ≡ leAt b 2 2
-  unfolding head_of pageIn
+module _ (b : List ℕ) (h : Head) (f : h ≡ head_of (page_in b)) (l : Holds (view_in b)) where
+  count-is : h.count ≡ le_at b 2 2
+  unfolding head_of page_in
   count-is = ap (λ (x : Head). x.count) f ∙ count-view b
 
-  pub certs-are : (viewIn b).certs ≡ certsIn h.count b
+  pub certs-are : (view_in b).certs ≡ certs_in h.count b
   certs-are =
-      ap (λ (v : View). v.certs) (view-leaf b (sym (kind-view b) ∙ leaf-kind (viewIn b) l.leaf))
-      ∙ ap (λ (n : ℕ). certsIn n b) (sym count-is)
+      ap (λ (v : View). v.certs) (view-leaf b (sym (kind-view b) ∙ leaf_kind_lem (view_in b) l.leaf))
+      ∙ ap (λ (n : ℕ). certs_in n b) (sym count-is)
 
-  pub holds-room : h.count ≤ leafRoom
+  pub holds-room : h.count ≤ leaf_room
   holds-room =
-      omega (arith, ap length certs-are, length-readEach certIn certSize h.count (drop leafHeader b), l.room)
+      omega (arith, ap length certs-are, length-read_each cert_in cert_size h.count (drop leaf_header b), l.room)
 
-  pub holds-rise : rising (keys (certsIn h.count b)) ≡ true
+  pub holds-rise : rising (keys (certs_in h.count b)) ≡ true
   holds-rise = rw certs-are at l.rise
 
-  pub holds-keys : rising (keysIn leafHeader certSize h.count b) ≡ true
+  pub holds-keys : rising (keys_in leaf_header cert_size h.count b) ≡ true
   holds-keys = rw (keys-certs h.count b) at holds-rise
 
 -- no step has no keys
-pub spot-nowhere : (k : ℕ) (t : List ℕ) → spotAt k t noStep ≡ 0
-unfolding spotAt keysIn readEach spot_of
+pub spot-nowhere : (k : ℕ) (t : List ℕ) → spot_at k t no_step ≡ 0
+unfolding spot_at keys_in read_each spot_of
 spot-nowhere k t = refl

@@ -9,21 +9,21 @@ use mathlib.Core.Option.{Option, some, none, some-injective, none-ne-some}
 use borrow.Author.Tests.{ltb-true}
 use lib.ListN.{length}
 use Rattle.fields.specs.Field.{Bytes}
-use Rattle.rules.specs.Layout.{pageSize, lastKey}
+use Rattle.rules.specs.Layout.{page_size, last_key}
 use Rattle.rules.specs.Test.{mem}
 use Rattle.rules.specs.Page.{Page}
 use Rattle.rules.specs.Table.{previous0, fit0}
-use Rattle.rules.specs.Place.{rootPlace, kids, pick}
+use Rattle.rules.specs.Place.{root_place, kids, pick}
 use Rattle.rules.specs.Enter as entry
 use Rattle.rules.specs.Walk.{Step, numbers, descend, way_of}
 use Rattle.rules.specs.declared.Place.{Place}
-use Rattle.rules.proofs.entries.Tests.{every_true}
-use Rattle.rules.proofs.entries.Asks.{kids-pick, kids-names}
+use Rattle.rules.proofs.Entries.Tests.{every_true}
+use Rattle.rules.proofs.Entries.Asks.{kids-pick, kids-names}
 use Rattle.way.proofs.Stood.{Ready, ready-root, ready-next, stood-here}
 
 -- a place is asked for by the first page above it, or it is the root's
 abbrev pub AskedBy : ℕ → Place → List Step → Type 0
-AskedBy k e [] = (e.low ≡ 0) × (e.high ≡ lastKey)
+AskedBy k e [] = (e.low ≡ 0) × (e.high ≡ last_key)
 AskedBy k e (u ∷ above) = pick k (kids u.place u.page.view) ≡ some e
 
 pub record Linked (n k : ℕ) (s : Step) (above : List Step) : Type 0 where
@@ -47,9 +47,9 @@ enter-apart n c above t e p h = go (mem e.child above) refl
     go true q = absurd (none-ne-some p (rw (entry.enter, q) at h))
     go false q = q
 
-root-previous : (n : ℕ) (t : List ℕ) → fit0 n t ≡ true → (rootPlace t).previous < n
-unfolding fit0 rootPlace
-root-previous n t f = ltb-true (previous0 t) n (every_true _ f).1.1.1.0
+root_previous_lem : (n : ℕ) (t : List ℕ) → fit0 n t ≡ true → (root_place t).previous < n
+unfolding fit0 root_place
+root_previous_lem n t f = ltb-true (previous0 t) n (every_true _ f).1.1.1.0
 
 -- ── The whole way ───────────────────────────────────────────────────────────────────────────────────────────────
 
@@ -85,7 +85,7 @@ descend-linked (suc level) n c k above t e r i a l steps h =
     below p f (some b) q ih =
         let s = (stood-here r (numbers above) p f).fits.sound in
         let m = kids-names e s b (kids-pick e s k b q) in
-        let z = ih (record { place = e; page = p } ∷ above) b (ready-next r (numbers above) p f b q) m.previous-below q (here p f) steps
+        let z = ih (record { place = e; page = p } ∷ above) b (ready-next r (numbers above) p f b q) m.previous_below q (here p f) steps
         (rw (descend, f, q) at h) in
         record { linked = z.linked; short = omega (arith, z.short) }
 
@@ -93,8 +93,8 @@ descend-linked (suc level) n c k above t e r i a l steps h =
     found none f ih = absurd (none-ne-some steps (rw (descend, f) at h))
     found (some p) f ih = below p f (pick k (kids e p.view)) refl ih
 
-pub way-linked : (n c k : ℕ) (t : List ℕ) → length t ≡ n * pageSize → fit0 n t ≡ true → Bytes t → c < 256 ^ 4 → k ≤ lastKey
+pub way-linked : (n c k : ℕ) (t : List ℕ) → length t ≡ n * page_size → fit0 n t ≡ true → Bytes t → c < 256 ^ 4 → k ≤ last_key
     → (steps : List Step) → (way_of n c k t).steps ≡ some steps → WayLinked n k 3 steps
-unfolding way_of rootPlace
+unfolding way_of root_place
 way-linked n c k t l f b m h steps q =
-    descend-linked 3 n c k [] t (rootPlace t) (ready-root n c k t l f b m h) (root-previous n t f) (refl, refl) tt steps q
+    descend-linked 3 n c k [] t (root_place t) (ready-root n c k t l f b m h) (root_previous_lem n t f) (refl, refl) tt steps q

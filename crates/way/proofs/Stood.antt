@@ -8,22 +8,22 @@ use Prim.Native.Nat.{ℕ, zero, suc, ◌-◌, ◌*◌, ◌^◌, ◌≤◌, ◌<�
 use native.Mathlib.Omega.{arith}
 use lib.ListN.{length}
 use Rattle.fields.specs.Field.{Bytes}
-use Rattle.fields.proofs.Field.{leAt-bound}
-use Rattle.rules.specs.Layout.{pageSize, lastKey}
+use Rattle.fields.proofs.Field.{le_at-bound}
+use Rattle.rules.specs.Layout.{page_size, last_key}
 use Rattle.rules.specs.Test.{mem}
-use Rattle.rules.specs.Page.{Page, isLeaf}
+use Rattle.rules.specs.Page.{Page, is_leaf}
 use Rattle.rules.specs.Table.{read, root0, birth0, fit0}
-use Rattle.rules.specs.Place.{rootPlace, kids, pick}
+use Rattle.rules.specs.Place.{root_place, kids, pick}
 use Rattle.rules.specs.Enter as entry
 use Rattle.rules.specs.Walk.{Step, numbers, descend, way_of}
 use Rattle.rules.specs.declared.Place.{Place}
-use Rattle.rules.proofs.bytes.All.{All, nil, cons}
-use Rattle.rules.proofs.bytes.Pages.{Wide}
-use Rattle.rules.proofs.bytes.Tables.{wide_read}
-use Rattle.rules.proofs.entries.Tests.{every_true, between-low, between-high, mem-head, mem-tail}
-use Rattle.rules.proofs.entries.Places.{Fits}
-use Rattle.rules.proofs.entries.Picks.{belowOf, pick-holds}
-use Rattle.rules.proofs.entries.Asks.{kids-pick, kids-names, kids-total}
+use Rattle.rules.proofs.Bytes.All.{All, nil, cons}
+use Rattle.rules.proofs.Bytes.Pages.{Wide}
+use Rattle.rules.proofs.Bytes.Tables.{wide_read}
+use Rattle.rules.proofs.Entries.Tests.{every_true, between-low, between-high, mem-head, mem_tail}
+use Rattle.rules.proofs.Entries.Places.{Fits}
+use Rattle.rules.proofs.Entries.Picks.{below_of, pick-holds}
+use Rattle.rules.proofs.Entries.Asks.{kids-pick, kids-names, kids-total}
 use Rattle.enter.proofs.Finds.{wide-find}
 use Rattle.enter.proofs.Mended.{Narrow}
 use Rattle.enter.proofs.Stands.{comes, stands, stays, stays-long, stays-bytes, found-fits}
@@ -31,18 +31,18 @@ use Rattle.enter.proofs.Stands.{comes, stands, stays, stays-long, stays-bytes, f
 -- ── A place ready to be entered ─────────────────────────────────────────────────────────────────────────────────
 
 pub record Ready (n c k : ℕ) (t : List ℕ) (e : Place) : Type 0 where
-  pub long : length t ≡ n * pageSize
+  pub long : length t ≡ n * page_size
   pub bytes : Bytes t
   pub narrow : Narrow c e
-  pub child-from : 1 ≤ e.child
-  pub child-below : e.child < n
+  pub child_from : 1 ≤ e.child
+  pub child_below : e.child < n
   pub low : e.low ≤ k
   pub high : k ≤ e.high
 
 -- the root, where page 0 is fit
-pub ready-root : (n c k : ℕ) (t : List ℕ) → length t ≡ n * pageSize → fit0 n t ≡ true → Bytes t → c < 256 ^ 4 → k ≤ lastKey
-    → Ready n c k t (rootPlace t)
-unfolding fit0 rootPlace birth0
+pub ready-root : (n c k : ℕ) (t : List ℕ) → length t ≡ n * page_size → fit0 n t ≡ true → Bytes t → c < 256 ^ 4 → k ≤ last_key
+    → Ready n c k t (root_place t)
+unfolding fit0 root_place birth0
 ready-root n c k t l f b m h =
     let r = (every_true _ f).1.1.0 in
     let from = between-low 1 (n - 1) (root0 t) r in
@@ -50,9 +50,9 @@ ready-root n c k t l f b m h =
     record {
       long = l;
       bytes = b;
-      narrow = record { counter = m; birth = leAt-bound t 12 4 b; low = omega arith; high = omega arith };
-      child-from = from;
-      child-below = omega arith;
+      narrow = record { counter = m; birth = le_at-bound t 12 4 b; low = omega arith; high = omega arith };
+      child_from = from;
+      child_below = omega arith;
       low = omega arith;
       high = h;
     }
@@ -62,28 +62,28 @@ ready-root n c k t l f b m h =
 pub record Stood (n k : ℕ) (u : List ℕ) (s : Step) : Type 0 where
   pub here : read u s.place.child ≡ s.page
   pub fits : Fits n s.place s.page
-  pub child-from : 1 ≤ s.place.child
-  pub child-below : s.place.child < n
+  pub child_from : 1 ≤ s.place.child
+  pub child_below : s.place.child < n
   pub low : s.place.low ≤ k
   pub high : k ≤ s.place.high
 
 module _ {n c k : ℕ} {t : List ℕ} {e : Place} (r : Ready n c k t e) (above : List ℕ) where
-  pub ready-long : length (entry.enter n c above t e).table ≡ n * pageSize
-  ready-long = stays-long r.bytes r.narrow r.long r.child-below (entry.enter n c above t e) (comes n c above t e)
+  pub ready-long : length (entry.enter n c above t e).table ≡ n * page_size
+  ready-long = stays-long r.bytes r.narrow r.long r.child_below (entry.enter n c above t e) (comes n c above t e)
 
   pub ready-bytes : Bytes (entry.enter n c above t e).table
   ready-bytes = stays-bytes r.bytes (entry.enter n c above t e) (comes n c above t e)
 
   pub ready-stays : (j : ℕ) → mem j above ≡ true → read (entry.enter n c above t e).table j ≡ read t j
-  ready-stays = stays r.bytes r.narrow r.long r.child-below (entry.enter n c above t e) (comes n c above t e)
+  ready-stays = stays r.bytes r.narrow r.long r.child_below (entry.enter n c above t e) (comes n c above t e)
 
   module _ (p : Page) (h : (entry.enter n c above t e).page ≡ some p) where
     pub stood-here : Stood n k (entry.enter n c above t e).table (record { place = e; page = p })
     stood-here = record {
-      here = stands r.bytes r.narrow r.long r.child-below (entry.enter n c above t e) (comes n c above t e) p h;
+      here = stands r.bytes r.narrow r.long r.child_below (entry.enter n c above t e) (comes n c above t e) p h;
       fits = found-fits (omega (arith, r.low, r.high)) (entry.enter n c above t e) (comes n c above t e) p h;
-      child-from = r.child-from;
-      child-below = r.child-below;
+      child_from = r.child_from;
+      child_below = r.child_below;
       low = r.low;
       high = r.high;
     }
@@ -101,21 +101,21 @@ module _ {n c k : ℕ} {t : List ℕ} {e : Place} (r : Ready n c k t e) (above :
           bytes = ready-bytes;
           narrow = record {
             counter = r.narrow.counter;
-            birth = (wide-find b.low (belowOf b) w.view.children x.entry).birth;
+            birth = (wide-find b.low (below_of b) w.view.children x.entry).birth;
             low = omega (arith, r.narrow.high, x.within, x.range);
             high = omega (arith, r.narrow.high, x.within);
           };
-          child-from = i.child-from;
-          child-below = i.child-below;
+          child_from = i.child_from;
+          child_below = i.child_below;
           low = z.0;
           high = z.1;
         }
 
     -- where no place is asked for, a leaf stands
-    pub leaf-here : pick k (kids e p.view) ≡ none → isLeaf p.view ≡ true
-    leaf-here q = go (isLeaf p.view) refl
+    pub leaf-here : pick k (kids e p.view) ≡ none → is_leaf p.view ≡ true
+    leaf-here q = go (is_leaf p.view) refl
       where
-        go : (l : Bool) → isLeaf p.view ≡ l → isLeaf p.view ≡ true
+        go : (l : Bool) → is_leaf p.view ≡ l → is_leaf p.view ≡ true
         go true f = f
         go false f =
             let m = kids-total e stood-here.fits.sound k f r.low r.high in
@@ -127,7 +127,7 @@ pub record WayStands (n k : ℕ) (u : List ℕ) (steps : List Step) : Type 0 whe
   pub leaf : Step
   pub rest : List Step
   pub are : steps ≡ leaf ∷ rest
-  pub ends : isLeaf leaf.page.view ≡ true
+  pub ends : is_leaf leaf.page.view ≡ true
   pub all : All (Stood n k u) steps
 
 still : (n k : ℕ) (t u : List ℕ) (ss : List Step) → ((j : ℕ) → mem j (numbers ss) ≡ true → read u j ≡ read t j)
@@ -138,12 +138,12 @@ still n k t u (s ∷ ss) f (cons h m) =
     cons record {
       here = f s.place.child (mem-head s.place.child (numbers ss)) ∙ h.here;
       fits = h.fits;
-      child-from = h.child-from;
-      child-below = h.child-below;
+      child_from = h.child_from;
+      child_below = h.child_below;
       low = h.low;
       high = h.high;
     }
-    (still n k t u ss (λ j i. f j (mem-tail j s.place.child (numbers ss) i)) m)
+    (still n k t u ss (λ j i. f j (mem_tail j s.place.child (numbers ss) i)) m)
 
 pub descend-stands : (level n c k : ℕ) (above : List Step) (t : List ℕ) (e : Place) → Ready n c k t e → All (Stood n k t) above
     → (steps : List Step) → (descend level n c k above t e).steps ≡ some steps
@@ -185,7 +185,7 @@ descend-stands (suc level) n c k above t e r a steps h =
     found none f ih = absurd (none-ne-some steps (rw (descend, f) at h))
     found (some p) f ih = below p f (pick k (kids e p.view)) refl ih
 
-pub way-stands : (n c k : ℕ) (t : List ℕ) → length t ≡ n * pageSize → fit0 n t ≡ true → Bytes t → c < 256 ^ 4 → k ≤ lastKey
+pub way-stands : (n c k : ℕ) (t : List ℕ) → length t ≡ n * page_size → fit0 n t ≡ true → Bytes t → c < 256 ^ 4 → k ≤ last_key
     → (steps : List Step) → (way_of n c k t).steps ≡ some steps → WayStands n k (way_of n c k t).table steps
 unfolding way_of
-way-stands n c k t l f b m h steps q = descend-stands 3 n c k [] t (rootPlace t) (ready-root n c k t l f b m h) nil steps q
+way-stands n c k t l f b m h steps q = descend-stands 3 n c k [] t (root_place t) (ready-root n c k t l f b m h) nil steps q

@@ -4,18 +4,18 @@ use mathlib.Core.Option.{some-injective}
 use Rattle.tight.specs.Tight.{Tight}
 use Rattle.way.proofs as this
 
-pub way-of-tight : Tight this.way_of.Kinds.ps this.way_of.Kinds.r this.way_of.Reads.Pre this.way_of.Reads.Post
-way-of-tight κs a pre z z' l l' p q =
+pub way_of_tight : Tight this.way_of.Kinds.ps this.way_of.Kinds.r this.way_of.Reads.Pre this.way_of.Reads.Post
+way_of_tight κs a pre z z' l l' p q =
     let e = p ∙ sym q in
     ((λ i. record { way = (e i).left.way; report = (e i).report }), (λ i. ((e i).left.table, l.1)))
 
-pub leaf-of-tight : Tight this.leaf_of.Kinds.ps this.leaf_of.Kinds.r this.leaf_of.Reads.Pre this.leaf_of.Reads.Post
-leaf-of-tight κs a pre z z' l l' p q =
+pub leaf_of_tight : Tight this.leaf_of.Kinds.ps this.leaf_of.Kinds.r this.leaf_of.Reads.Pre this.leaf_of.Reads.Post
+leaf_of_tight κs a pre z z' l l' p q =
     let e = p ∙ sym q in
     ((λ i. record { end = (e i).left.end; report = (e i).report }), (λ i. ((e i).left.table, l.1)))
 
-pub look-ahead-tight : Tight this.look_ahead.Kinds.ps this.look_ahead.Kinds.r this.look_ahead.Reads.Pre this.look_ahead.Reads.Post
-look-ahead-tight κs a pre z z' l l' p q = (p ∙ sym q, refl)
+pub look_ahead_tight : Tight this.look_ahead.Kinds.ps this.look_ahead.Kinds.r this.look_ahead.Reads.Pre this.look_ahead.Reads.Post
+look_ahead_tight κs a pre z z' l l' p q = (p ∙ sym q, refl)
 
-pub place-below-tight : Tight this.place_below.Kinds.ps this.place_below.Kinds.r this.place_below.Reads.Pre this.place_below.Reads.Post
-place-below-tight κs a pre z z' l l' p q = (some-injective z z' (sym p ∙ q), refl)
+pub place_below_tight : Tight this.place_below.Kinds.ps this.place_below.Kinds.r this.place_below.Reads.Pre this.place_below.Reads.Post
+place_below_tight κs a pre z z' l l' p q = (some-injective z z' (sym p ∙ q), refl)

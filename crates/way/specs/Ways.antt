@@ -1,19 +1,19 @@
 -- The rules' way as the code hands it back: each step by its place and its page's header, at most three.
 use Rattle.std.specs.Prelude.{ℕ, ◌+◌, ◌-◌, ◌≤◌, ◌≡◌, true, false, List, [], ◌∷◌, length}
 use Rattle.std.proofs.Math.Option.{Option, some, none}
-use Rattle.rules.specs.Layout.{leafHeader, certSize, leafRoom, innerRoom}
+use Rattle.rules.specs.Layout.{leaf_header, cert_size, leaf_room, inner_room}
 use Rattle.rules.specs.Entry.{keys, rising}
-use Rattle.rules.specs.Page.{View, isLeaf, count}
-use Rattle.rules.specs.Sound.{startsAt}
-use Rattle.rules.specs.Table.{pageAt}
-use Rattle.rules.specs.Place.{placesIn}
+use Rattle.rules.specs.Page.{View, is_leaf, count}
+use Rattle.rules.specs.Sound.{starts_at}
+use Rattle.rules.specs.Table.{page_at}
+use Rattle.rules.specs.Place.{places_in}
 use Rattle.rules.specs.Report.{Reported}
 use Rattle.rules.specs.Walk as rules
 use Rattle.rules.specs.declared.Place.{Place}
 use Rattle.rules.specs.declared.Report.{Report}
 use Rattle.head.specs.declared.Head.{Head}
 use Rattle.head.proofs.Headers.{head_of}
-use Rattle.entries.specs.Spot.{keysIn, spot_of}
+use Rattle.entries.specs.Spot.{keys_in, spot_of}
 use Rattle.enter.specs.declared.Above.{Above}
 use Rattle.way.specs.declared.Step.{Step}
 use Rattle.way.specs.declared.Way.{Way}
@@ -21,8 +21,8 @@ use Rattle.way.specs.declared.End.{End}
 use Rattle.way.specs.declared.Went.{Went}
 use Rattle.way.specs.declared.Ended.{Ended}
 
-abbrev pub noStep : Step
-noStep = record {
+abbrev pub no_step : Step
+no_step = record {
   place = record { child = 0; previous = 0; birth = 0; low = 0; high = 0; want = 0 };
   head = record { kind = 0; count = 0; birth = 0; built = 0; touched = 0; low = 0; high = 0 };
 }
@@ -31,7 +31,7 @@ abbrev pub step_of : rules.Step → Step
 step_of s = record { place = s.place; head = head_of s.page }
 
 abbrev pub first_of : List rules.Step → Step
-first_of [] = noStep
+first_of [] = no_step
 first_of (s ∷ ss) = step_of s
 
 abbrev pub rest_of : List rules.Step → List rules.Step
@@ -39,16 +39,16 @@ rest_of [] = []
 rest_of (s ∷ ss) = ss
 
 -- steps, leaf first
-abbrev pub wayFor : List rules.Step → Way
-wayFor ss = record { len = length ss; leaf = first_of ss; parent = first_of (rest_of ss); top = first_of (rest_of (rest_of ss)) }
+abbrev pub way_for : List rules.Step → Way
+way_for ss = record { len = length ss; leaf = first_of ss; parent = first_of (rest_of ss); top = first_of (rest_of (rest_of ss)) }
 
 -- one step more
-abbrev pub thenOf : Way → Step → Way
-thenOf w s = record { len = w.len + 1; leaf = s; parent = w.leaf; top = w.parent }
+abbrev pub then_of : Way → Step → Way
+then_of w s = record { len = w.len + 1; leaf = s; parent = w.leaf; top = w.parent }
 
 -- what stands above the next step
-abbrev pub aboveIn : Way → Above
-aboveIn w = record { parent = w.leaf.place.child; top = w.parent.place.child }
+abbrev pub above_in : Way → Above
+above_in w = record { parent = w.leaf.place.child; top = w.parent.place.child }
 
 -- ── What is left and handed back ────────────────────────────────────────────────────────────────────────────────
 
@@ -60,21 +60,21 @@ abbrev pub walking : List ℕ → Way → Walking
 walking t w = record { table = t; way = w }
 
 -- no steps: a damaged place was met
-unfoldable pub wayOr : Option (List rules.Step) → Way
-wayOr none = wayFor []
-wayOr (some ss) = wayFor ss
+unfoldable pub way_or : Option (List rules.Step) → Way
+way_or none = way_for []
+way_or (some ss) = way_for ss
 
 unfoldable pub told : rules.Way → Walking
-told w = record { table = w.table; way = wayOr w.steps }
+told w = record { table = w.table; way = way_or w.steps }
 
 -- ── The end of a way alone ──────────────────────────────────────────────────────────────────────────────────────
 
-abbrev pub noEnd : End
-noEnd = record { len = 0; leaf = noStep; spot = 0 }
+abbrev pub no_end : End
+no_end = record { len = 0; leaf = no_step; spot = 0 }
 
 -- how many keys of the leaf of a step stand before the first one above k; of no step none
-unfoldable pub spotAt : ℕ → List ℕ → Step → ℕ
-spotAt k t s = spot_of k (keysIn leafHeader certSize s.head.count (pageAt t s.place.child))
+unfoldable pub spot_at : ℕ → List ℕ → Step → ℕ
+spot_at k t s = spot_of k (keys_in leaf_header cert_size s.head.count (page_at t s.place.child))
 
 pub record Ending : Type 0 where
   pub table : List ℕ
@@ -84,7 +84,7 @@ abbrev pub ending : List ℕ → End → Ending
 ending t e = record { table = t; end = e }
 
 abbrev pub end_in : ℕ → Walking → Ending
-end_in k w = ending w.table (record { len = w.way.len; leaf = w.way.leaf; spot = spotAt k w.table w.way.leaf })
+end_in k w = ending w.table (record { len = w.way.len; leaf = w.way.leaf; spot = spot_at k w.table w.way.leaf })
 
 -- ── With a report ───────────────────────────────────────────────────────────────────────────────────────────────
 
@@ -101,24 +101,24 @@ ended t e = reported (ending t e.end) e.report
 
 -- what a leaf must be for its keys to be sought by halving, as every sound leaf is
 pub record Holds (v : View) : Type 0 where
-  pub leaf : isLeaf v ≡ true
-  pub room : length v.certs ≤ leafRoom
+  pub leaf : is_leaf v ≡ true
+  pub room : length v.certs ≤ leaf_room
   pub rise : rising (keys v.certs) ≡ true
 
 -- ── An inner page that leads on ─────────────────────────────────────────────────────────────────────────────────
 
 -- the places that the entries of a page ask for, by its header
-unfoldable pub placesBelow : Head → View → List Place
-placesBelow h v = placesIn (v.kind - 1) h.high v.children
+unfoldable pub places_below : Head → View → List Place
+places_below h v = places_in (v.kind - 1) h.high v.children
 
 -- what an inner page must be for a key of its range to lead further down
 pub record Leads (k : ℕ) (h : Head) (v : View) : Type 0 where
-  pub inner : isLeaf v ≡ false
+  pub inner : is_leaf v ≡ false
   pub kind : h.kind ≡ v.kind
   pub from : 1 ≤ v.kind
   pub count : h.count ≡ count v
-  pub room : length v.children ≤ innerRoom
+  pub room : length v.children ≤ inner_room
   pub rise : rising (keys v.children) ≡ true
-  pub starts : startsAt h.low v.children ≡ true
+  pub starts : starts_at h.low v.children ≡ true
   pub low : h.low ≤ k
   pub high : k ≤ h.high

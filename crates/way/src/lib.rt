@@ -10,17 +10,17 @@
 // Below stand `enter`, which enters one place, and `seek`, which finds a key on a page.
 ghost use Rattle.std.specs.Prelude.{◌≡◌, true, [], ◌+◌, ◌*◌, ◌-◌, ◌≤◌, ◌<◌, length, drop};
 ghost use Rattle.std.proofs.Math.Option.{some};
-ghost use Rattle.rules.specs.Layout.{pageSize, innerHeader, child_size};
+ghost use Rattle.rules.specs.Layout.{page_size, inner_header, child_size};
 ghost use Rattle.rules.specs.Entry.{keys, rising};
-ghost use Rattle.rules.specs.Page.{readEach, childIn};
-ghost use Rattle.rules.specs.Table.{pageAt, read, fit0};
-ghost use Rattle.rules.specs.Place.{placesIn, pick};
+ghost use Rattle.rules.specs.Page.{read_each, child_in};
+ghost use Rattle.rules.specs.Table.{page_at, read, fit0};
+ghost use Rattle.rules.specs.Place.{places_in, pick};
 ghost use Rattle.rules.specs.Report.{nothing};
-ghost use Rattle.rules.specs.Walk.{way_of, wayReport};
-ghost use Rattle.entries.specs.Spot.{keysIn, spot_of};
+ghost use Rattle.rules.specs.Walk.{way_of, way_report};
+ghost use Rattle.entries.specs.Spot.{keys_in, spot_of};
 ghost use Rattle.head.proofs.Headers.{head_of};
 ghost use Rattle.way.specs.Ahead.{ahead_of};
-ghost use Rattle.way.specs.Ways.{placesBelow, Leads, Holds, noStep, wayFor, thenOf, aboveIn, told, noEnd, spotAt, end_in, reported, went, ended};
+ghost use Rattle.way.specs.Ways.{places_below, Leads, Holds, no_step, way_for, then_of, above_in, told, no_end, spot_at, end_in, reported, went, ended};
 
 use enter::{Above, Entered};
 use head::Head;
@@ -70,7 +70,7 @@ pub struct Ended {
 }
 
 fn no_step() -> Step
-    ensures { result ≡ noStep }
+    ensures { result ≡ no_step }
 {
     Step {
         place: Place {
@@ -95,7 +95,7 @@ fn no_step() -> Step
 
 // A way of no pages.
 fn no_way() -> Way
-    ensures { result ≡ wayFor [] }
+    ensures { result ≡ way_for [] }
 {
     let none = no_step();
     Way {
@@ -109,7 +109,7 @@ fn no_way() -> Way
 // One page more.
 fn then(way: Way, step: Step) -> Way
     requires { way.len < 3 }
-    ensures { result ≡ thenOf way step }
+    ensures { result ≡ then_of way step }
 {
     let parent = way.leaf;
     let top = way.parent;
@@ -123,7 +123,7 @@ fn then(way: Way, step: Step) -> Way
 
 // The pages above the next one.
 fn above(way: Way) -> Above
-    ensures { result ≡ aboveIn way }
+    ensures { result ≡ above_in way }
 {
     Above {
         parent: way.leaf.place.child,
@@ -134,7 +134,7 @@ fn above(way: Way) -> Above
 // Where halving ends on a page that nobody has tested: in an inner page for the key of the way, in a leaf for the last
 // key wanted there. A page that is not sound may give any number, so every use of it begins with its confirmation.
 fn look_in(page: &[u8], key: u64, upto: u64) -> usize
-    requires { length page.now ≡ pageSize }
+    requires { length page.now ≡ page_size }
     ensures { result ≡ ahead_of key upto page.now }
 {
     let count = fields::get16(page, AT_COUNT);
@@ -152,8 +152,8 @@ fn look_in(page: &[u8], key: u64, upto: u64) -> usize
 
 // The same on page i of a table.
 pub fn look_ahead(table: &[u8], i: u16, key: u64, upto: u64) -> usize
-    requires { (i + 1) * pageSize ≤ length table.now }
-    ensures { result ≡ ahead_of key upto (pageAt table.now i) }
+    requires { (i + 1) * page_size ≤ length table.now }
+    ensures { result ≡ ahead_of key upto (page_at table.now i) }
 {
     let from = i as usize * PAGE;
     let to = from + PAGE;
@@ -162,10 +162,10 @@ pub fn look_ahead(table: &[u8], i: u16, key: u64, upto: u64) -> usize
 
 // The place that an inner page's entries ask for at a key.
 fn place_in(page: &[u8], kind: u16, count: usize, high: u64, key: u64, guess: usize) -> Place
-    requires { (1 ≤ kind) × (innerHeader + child_size * count ≤ length page.now) × (length page.now ≤ pageSize)
-        × (rising (keys (readEach childIn child_size count (drop innerHeader page.now))) ≡ true) × (key ≤ high)
-        × (1 ≤ spot_of key (keysIn innerHeader child_size count page.now)) }
-    ensures { pick key (placesIn (kind - 1) high (readEach childIn child_size count (drop innerHeader page.now)))
+    requires { (1 ≤ kind) × (inner_header + child_size * count ≤ length page.now) × (length page.now ≤ page_size)
+        × (rising (keys (read_each child_in child_size count (drop inner_header page.now))) ≡ true) × (key ≤ high)
+        × (1 ≤ spot_of key (keys_in inner_header child_size count page.now)) }
+    ensures { pick key (places_in (kind - 1) high (read_each child_in child_size count (drop inner_header page.now)))
         ≡ some result }
 {
     let spot = seek::confirm(page, INNER_HEADER, CHILD, count, key, guess);
@@ -174,8 +174,8 @@ fn place_in(page: &[u8], kind: u16, count: usize, high: u64, key: u64, guess: us
 
 // The same below a page that was entered, by its header.
 pub fn place_below(table: &[u8], i: u16, head: Head, key: u64, guess: usize) -> Place
-    requires { ((i + 1) * pageSize ≤ length table.now) × Leads key head (read table.now i).view }
-    ensures { pick key (placesBelow head (read table.now i).view) ≡ some result }
+    requires { ((i + 1) * page_size ≤ length table.now) × Leads key head (read table.now i).view }
+    ensures { pick key (places_below head (read table.now i).view) ≡ some result }
 {
     let from = i as usize * PAGE;
     let to = from + PAGE;
@@ -191,9 +191,9 @@ pub fn place_below(table: &[u8], i: u16, head: Head, key: u64, guess: usize) -> 
 
 // How many of a leaf's keys are not above this one, in a leaf that was entered.
 fn spot_at(table: &[u8], leaf: Step, key: u64, guess: usize) -> usize
-    requires { ((leaf.place.child + 1) * pageSize ≤ length table.now)
+    requires { ((leaf.place.child + 1) * page_size ≤ length table.now)
         × (leaf.head ≡ head_of (read table.now leaf.place.child)) × (Holds (read table.now leaf.place.child).view) }
-    ensures { result ≡ spotAt key table.now leaf }
+    ensures { result ≡ spot_at key table.now leaf }
 {
     let from = leaf.place.child as usize * PAGE;
     let to = from + PAGE;
@@ -208,9 +208,9 @@ fn spot_at(table: &[u8], leaf: Step, key: u64, guess: usize) -> usize
 }
 
 pub fn way_of(t: &mut [u8], n: usize, c: u32, key: u64) -> Went
-    requires { (length t.old ≡ n * pageSize) × (fit0 n t.old ≡ true) }
+    requires { (length t.old ≡ n * page_size) × (fit0 n t.old ≡ true) }
     ensures { went t.new result
-        ≡ reported (told (way_of n c key t.old)) (wayReport n c key t.old nothing) }
+        ≡ reported (told (way_of n c key t.old)) (way_report n c key t.old nothing) }
 {
     let mut way = no_way();
     let mut report = Report::nothing();
@@ -240,7 +240,7 @@ pub fn way_of(t: &mut [u8], n: usize, c: u32, key: u64) -> Went
 
 // An end of no pages.
 fn no_end() -> End
-    ensures { result ≡ noEnd }
+    ensures { result ≡ no_end }
 {
     let leaf = no_step();
     End {
@@ -253,9 +253,9 @@ fn no_end() -> End
 // The same way for those who want its leaf alone: of the pages above only the numbers are kept, since a way has 272
 // bytes, and a lookup would build and pass on all of them.
 pub fn leaf_of(t: &mut [u8], n: usize, c: u32, key: u64) -> Ended
-    requires { (length t.old ≡ n * pageSize) × (fit0 n t.old ≡ true) }
+    requires { (length t.old ≡ n * page_size) × (fit0 n t.old ≡ true) }
     ensures { ended t.new result
-        ≡ reported (end_in key (told (way_of n c key t.old))) (wayReport n c key t.old nothing) }
+        ≡ reported (end_in key (told (way_of n c key t.old))) (way_report n c key t.old nothing) }
 {
     let mut above = Above { parent: 0, top: 0 };
     let mut report = Report::nothing();

@@ -7,23 +7,23 @@ use Prim.Native.Nat.{ℕ, ◌≤◌}
 use native.Mathlib.Omega.{arith}
 use denote.Enum.Declared.{tag_of}
 use types.Run.{OneOf}
-use Rattle.rules.specs.Layout.{leafHeader, certSize, leafRoom, lastKey}
+use Rattle.rules.specs.Layout.{leaf_header, cert_size, leaf_room, last_key}
 use Rattle.rules.specs.Entry.{Cert, keys, find}
-use Rattle.rules.specs.Page.{Page, pageIn}
-use Rattle.rules.specs.Table.{pageAt, read}
+use Rattle.rules.specs.Page.{Page, page_in}
+use Rattle.rules.specs.Table.{page_at, read}
 use Rattle.rules.specs.Walk as rules
-use Rattle.rules.specs.Walk.{certsAt, leafAt}
+use Rattle.rules.specs.Walk.{certs_at, leaf_at}
 use Rattle.rules.specs.Report.{nothing}
 use Rattle.rules.specs.Marks.{uncounted}
 use Rattle.rules.specs.Call.{Left}
-use Rattle.rules.specs.Withdraw.{removed, withdrawRefused, withdrawDone, withdrawAlong, withdrawKey}
+use Rattle.rules.specs.Withdraw.{removed, withdraw_refused, withdraw_done, withdraw_along, withdraw_key}
 use Rattle.rules.specs.declared.Session.{Session}
 use Rattle.rules.specs.declared.Report.{Report}
 use Rattle.rules.specs.declared.Looked.{Looked}
 use Rattle.rules.specs.declared.Withdrawn.{Withdrawn}
 use Rattle.rules.specs.contracts.Looked as looks
 use Rattle.head.proofs.Headers.{head_of}
-use Rattle.entries.specs.Spot.{keysIn, spot_of}
+use Rattle.entries.specs.Spot.{keys_in, spot_of}
 use Rattle.entries.proofs.KeysIn.{keys-certs}
 use Rattle.way.specs.Ways.{reported}
 use Rattle.way.proofs.Leaf.{certs-are}
@@ -32,21 +32,21 @@ use Rattle.leaves.specs.Cursors.{nexting, next_of}
 use Rattle.leaves.specs.declared.Leaf.{Leaf}
 use Rattle.leaves.specs.declared.Stepped.{Stepped}
 use Rattle.leaves.proofs.Loops.{next-damaged, Reached, next-leaf}
-use Rattle.lookup.specs.Looks.{foundBefore, lookedIn}
+use Rattle.lookup.specs.Looks.{found_before, looked_in}
 use Rattle.lookup.proofs.Leaf.{spot-room, found-leaf}
 use Rattle.edit.specs.Takes.{HasCert}
-use Rattle.edit.proofs.Callers.{has-cert}
+use Rattle.edit.proofs.Callers.{has_cert}
 use Rattle.withdraw.specs.Withdraws.{left}
 
 -- what is left and what is reported, together
-pub reported-too : {a b : Left Withdrawn} {x y : Report} → x ≡ y → a ≡ b → reported a x ≡ reported b y
-reported-too p q = cc
+pub reported_too : {a b : Left Withdrawn} {x y : Report} → x ≡ y → a ≡ b → reported a x ≡ reported b y
+reported_too p q = cc
 
 -- ── What was found ──────────────────────────────────────────────────────────────────────────────────────────────
 
-module _ (o : Option ℕ) (r : Looked) (e : r ≡ lookedIn o) where
+module _ (o : Option ℕ) (r : Looked) (e : r ≡ looked_in o) where
   pub none_found : OneOf (1 ∷ (2 ∷ (3 ∷ (4 ∷ [])))) (tag_of looks.the_type r) → o ≡ none
-  unfolding lookedIn
+  unfolding looked_in
   none_found h = go o refl
     where
       other : OneOf (1 ∷ (2 ∷ (3 ∷ (4 ∷ [])))) 0 → ⊥
@@ -58,44 +58,44 @@ module _ (o : Option ℕ) (r : Looked) (e : r ≡ lookedIn o) where
       go : (p : Option ℕ) → o ≡ p → o ≡ none
       go none q = q
       go (some v) q =
-          let f : r ≡ Looked.Found v = e ∙ ap lookedIn q in
+          let f : r ≡ Looked.Found v = e ∙ ap looked_in q in
           absurd (other (subst (λ (y : Looked). OneOf (1 ∷ (2 ∷ (3 ∷ (4 ∷ [])))) (tag_of looks.the_type y)) f h))
 
   pub one_found : (x : ℕ) → r ≡ Looked.Found x → (v : ℕ) × (o ≡ some v)
-  unfolding lookedIn
+  unfolding looked_in
   one_found x f = go o refl
     where
       go : (p : Option ℕ) → o ≡ p → (v : ℕ) × (o ≡ some v)
       go none q =
-          let m : Looked.Found x ≡ Looked.Missing = sym f ∙ (e ∙ ap lookedIn q) in
+          let m : Looked.Found x ≡ Looked.Missing = sym f ∙ (e ∙ ap looked_in q) in
           let z : ◌≡◌ {A = ℕ} 0 1 = cc in absurd (omega arith)
       go (some v) q = (v, q)
 
 -- ── Behind the step ─────────────────────────────────────────────────────────────────────────────────────────────
 
 -- the rule of a key by the way that was gone
-unfoldable alongWay : ℕ → Session → List ℕ → rules.Way → Left Withdrawn
-alongWay k s stable x =
+unfoldable along_way : ℕ → Session → List ℕ → rules.Way → Left Withdrawn
+along_way k s stable x =
     elim x.steps [
-      | none ↦ withdrawRefused Withdrawn.Damaged s x.table stable
-      | some steps ↦ withdrawAlong k s steps x.table stable
+      | none ↦ withdraw_refused Withdrawn.Damaged s x.table stable
+      | some steps ↦ withdraw_along k s steps x.table stable
     ]
 
 -- the step's report begins with nothing
 pub from_nothing : (n c k : ℕ) (t u : List ℕ) (r : Stepped) (x : Report) → x ≡ nothing
-    → nexting u r ≡ next_of k (rules.way_of n c k t) (rules.wayReport n c k t x)
-    → nexting u r ≡ next_of k (rules.way_of n c k t) (rules.wayReport n c k t nothing)
-from_nothing n c k t u r x o f = f ∙ ap (λ (y : Report). next_of k (rules.way_of n c k t) (rules.wayReport n c k t y)) o
+    → nexting u r ≡ next_of k (rules.way_of n c k t) (rules.way_report n c k t x)
+    → nexting u r ≡ next_of k (rules.way_of n c k t) (rules.way_report n c k t nothing)
+from_nothing n c k t u r x o f = f ∙ ap (λ (y : Report). next_of k (rules.way_of n c k t) (rules.way_report n c k t y)) o
 
-module _ (s : Session) (k : ℕ) (t u : List ℕ) (g : Ground s.n s.c t) (h : k ≤ lastKey) {r : Stepped}
-    (f : nexting u r ≡ next_of k (rules.way_of s.n s.c k t) (rules.wayReport s.n s.c k t nothing)) where
+module _ (s : Session) (k : ℕ) (t u : List ℕ) (g : Ground s.n s.c t) (h : k ≤ last_key) {r : Stepped}
+    (f : nexting u r ≡ next_of k (rules.way_of s.n s.c k t) (rules.way_report s.n s.c k t nothing)) where
   -- a damaged place was met
   pub damaged : {y : Report} → r ≡ Stepped.Damaged y → (stable : List ℕ)
-      → reported (left Withdrawn.Damaged s u stable) y ≡ reported (withdrawKey k s t stable) (rules.wayReport s.n s.c k t nothing)
-  unfolding withdrawKey withdrawRefused alongWay
+      → reported (left Withdrawn.Damaged s u stable) y ≡ reported (withdraw_key k s t stable) (rules.way_report s.n s.c k t nothing)
+  unfolding withdraw_key withdraw_refused along_way
   damaged {y} e stable =
       let q = next-damaged g h k nothing y (ap (nexting u) (sym e) ∙ f) in
-      reported-too q.1 (sym (ap (alongWay k s stable) q.0))
+      reported_too q.1 (sym (ap (along_way k s stable) q.0))
 
   module _ {l : Leaf} (e : r ≡ Stepped.Leaf l) where
     pub reached : Reached s.n s.c k k nothing t u l
@@ -104,52 +104,52 @@ module _ (s : Session) (k : ℕ) (t u : List ℕ) (g : Ground s.n s.c t) (h : k 
     abbrev steps : List rules.Step
     steps = reached.leaf ∷ reached.above
 
-    along : (stable : List ℕ) → withdrawAlong k s steps u stable ≡ withdrawKey k s t stable
-    unfolding withdrawKey alongWay
-    along stable = sym (ap (alongWay k s stable) reached.way)
+    along : (stable : List ℕ) → withdraw_along k s steps u stable ≡ withdraw_key k s t stable
+    unfolding withdraw_key along_way
+    along stable = sym (ap (along_way k s stable) reached.way)
 
     -- the leaf's certificates, as the rules have them at the end of the way
-    certs : (read u l.child).view.certs ≡ certsAt steps
-    unfolding certsAt
+    certs : (read u l.child).view.certs ≡ certs_at steps
+    unfolding certs_at
     certs = ap (λ (p : Page). p.view.certs) reached.here
 
-    spot : l.spot ≡ spot_of k (keysIn leafHeader certSize (head_of (pageIn (pageAt u l.child))).count (pageAt u l.child))
-    unfolding read pageIn certsAt
+    spot : l.spot ≡ spot_of k (keys_in leaf_header cert_size (head_of (page_in (page_at u l.child))).count (page_at u l.child))
+    unfolding read page_in certs_at
     spot =
-        let b = pageAt u l.child in
+        let b = page_at u l.child in
         reached.spot
-        ∙ (ap (λ (xs : List Cert). spot_of k (keys xs)) (sym certs ∙ certs-are b (head_of (pageIn b)) refl reached.holds)
-        ∙ ap (spot_of k) (keys-certs (head_of (pageIn b)).count b))
+        ∙ (ap (λ (xs : List Cert). spot_of k (keys xs)) (sym certs ∙ certs-are b (head_of (page_in b)) refl reached.holds)
+        ∙ ap (spot_of k) (keys-certs (head_of (page_in b)).count b))
 
-    pub spot-within : l.spot ≤ leafRoom
-    unfolding read pageIn
-    spot-within = spot-room (pageAt u l.child) (head_of (pageIn (pageAt u l.child))) refl reached.holds k l.spot spot
+    pub spot-within : l.spot ≤ leaf_room
+    unfolding read page_in
+    spot-within = spot-room (page_at u l.child) (head_of (page_in (page_at u l.child))) refl reached.holds k l.spot spot
 
-    pub found_as : {x : Looked} → x ≡ foundBefore k l.spot (pageAt u l.child) → x ≡ lookedIn (find k (certsAt steps))
-    unfolding read pageIn
+    pub found_as : {x : Looked} → x ≡ found_before k l.spot (page_at u l.child) → x ≡ looked_in (find k (certs_at steps))
+    unfolding read page_in
     found_as q =
-        q ∙ (found-leaf (pageAt u l.child) (head_of (pageIn (pageAt u l.child))) refl reached.holds k l.spot spot
-        ∙ ap (λ (xs : List Cert). lookedIn (find k xs)) certs)
+        q ∙ (found-leaf (page_at u l.child) (head_of (page_in (page_at u l.child))) refl reached.holds k l.spot spot
+        ∙ ap (λ (xs : List Cert). looked_in (find k xs)) certs)
 
-    pub missing : find k (certsAt steps) ≡ none → (stable : List ℕ)
+    pub missing : find k (certs_at steps) ≡ none → (stable : List ℕ)
         → reported (left Withdrawn.Missing s u stable) l.report
-        ≡ reported (withdrawKey k s t stable) (rules.wayReport s.n s.c k t nothing)
-    unfolding withdrawAlong withdrawRefused
-    missing q stable = reported-too reached.report (rw (withdrawAlong, q) at (along stable))
+        ≡ reported (withdraw_key k s t stable) (rules.way_report s.n s.c k t nothing)
+    unfolding withdraw_along withdraw_refused
+    missing q stable = reported_too reached.report (rw (withdraw_along, q) at (along stable))
 
     -- the leaf has it
-    pub has : (v : ℕ) → find k (certsAt steps) ≡ some v → HasCert k (read u l.child).view
+    pub has : (v : ℕ) → find k (certs_at steps) ≡ some v → HasCert k (read u l.child).view
     has v q =
         let x = reached.holds in
-        has-cert k v (read u l.child).view x.leaf x.room x.rise (ap (find k) certs ∙ q)
+        has_cert k v (read u l.child).view x.leaf x.room x.rise (ap (find k) certs ∙ q)
 
-    pub taken_out : (v : ℕ) → find k (certsAt steps) ≡ some v → (stable w : List ℕ) → w ≡ removed s.c k u l.child
+    pub taken_out : (v : ℕ) → find k (certs_at steps) ≡ some v → (stable w : List ℕ) → w ≡ removed s.c k u l.child
         → (s' : Session) → s' ≡ uncounted s
         → reported (left Withdrawn.Done s' w stable) l.report
-        ≡ reported (withdrawKey k s t stable) (rules.wayReport s.n s.c k t nothing)
-    unfolding withdrawAlong withdrawDone leafAt
+        ≡ reported (withdraw_key k s t stable) (rules.way_report s.n s.c k t nothing)
+    unfolding withdraw_along withdraw_done leaf_at
     taken_out v q stable w d s' z =
-        reported-too reached.report
+        reported_too reached.report
         (ap (λ (y : Session). left Withdrawn.Done y w stable) z
         ∙ (ap (λ (y : List ℕ). left Withdrawn.Done (uncounted s) y stable) (d ∙ ap (removed s.c k u) reached.child)
-        ∙ (rw (withdrawAlong, q) at (along stable))))
+        ∙ (rw (withdraw_along, q) at (along stable))))

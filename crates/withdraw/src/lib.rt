@@ -2,19 +2,19 @@
 //
 // `withdraw` asks nothing and tests everything, in document 01's order: lengths, the key's parts, page 0, the way of the
 // key, whether the key is there. Only then does it write. Answer, report, session and every byte lent are those of the
-// rules' `withdrawReported`; what the walk mended stays mended, also behind a refusal. The leaf stays, even if it is
+// rules' `withdraw_reported`; what the walk mended stays mended, also behind a refusal. The leaf stays, even if it is
 // empty, and so does every page above it: a withdrawal takes no page and gives none back.
 //
 // Below stand `tables`, which tests lengths, `keys`, `leaves`, which goes down to the key's leaf, `lookup`, which finds
 // a key in a leaf, and `edit`, which takes the entry out. A lookup goes down by `way` instead: what two calls share is a
 // function of its own in the object code, and lookup would pay for that.
 ghost use Rattle.std.specs.Prelude.{◌≡◌, true, List, ℕ, ◌*◌, length};
-ghost use Rattle.rules.specs.Layout.{pageSize};
+ghost use Rattle.rules.specs.Layout.{page_size};
 ghost use Rattle.rules.specs.Table.{fit0};
 ghost use Rattle.rules.specs.Report.{nothing};
-ghost use Rattle.rules.specs.Walk.{wayReport};
-ghost use Rattle.rules.specs.Withdraw.{withdrawKey};
-ghost use Rattle.rules.specs.Reports.{withdrawReported};
+ghost use Rattle.rules.specs.Walk.{way_report};
+ghost use Rattle.rules.specs.Withdraw.{withdraw_key};
+ghost use Rattle.rules.specs.Reports.{withdraw_reported};
 ghost use Rattle.way.specs.Ways.{reported};
 ghost use Rattle.withdraw.specs.Withdraws.{leaving};
 
@@ -23,9 +23,9 @@ use rules::{Looked, Report, Session, Withdrawing, Withdrawn};
 
 // A key's certificate taken out of the leaf at the end of its way.
 fn take_out(t: &mut [u8], session: Session, key: u64) -> Withdrawing
-    requires { (length t.old ≡ session.n * pageSize) × (fit0 session.n t.old ≡ true) }
+    requires { (length t.old ≡ session.n * page_size) × (fit0 session.n t.old ≡ true) }
     ensures { (stable : List ℕ) → leaving result t.new stable
-        ≡ reported (withdrawKey key session t.old stable) (wayReport session.n session.c key t.old nothing) }
+        ≡ reported (withdraw_key key session t.old stable) (way_report session.n session.c key t.old nothing) }
 {
     let n = session.n as usize;
     let first = leaves::start();
@@ -66,7 +66,7 @@ pub fn withdraw(
     issue: u16,
 ) -> Withdrawing
     ensures { leaving result working.new stable.now
-        ≡ withdrawReported working.old stable.now session model serial issue }
+        ≡ withdraw_reported working.old stable.now session model serial issue }
 {
     if !tables::lengths_for(session.n, working, stable) {
         return Withdrawing {

@@ -9,8 +9,8 @@ use Rattle.words.specs.declared.Text.{Text}
 abbrev pub done : List ℕ
 done = 100 ∷ 111 ∷ 110 ∷ 101 ∷ []
 
-abbrev pub badLength : List ℕ
-badLength = 108 ∷ 101 ∷ 110 ∷ 103 ∷ 116 ∷ 104 ∷ []
+abbrev pub bad_length : List ℕ
+bad_length = 108 ∷ 101 ∷ 110 ∷ 103 ∷ 116 ∷ 104 ∷ []
 
 abbrev pub badkey : List ℕ
 badkey = 98 ∷ 97 ∷ 100 ∷ 107 ∷ 101 ∷ 121 ∷ []
@@ -48,7 +48,7 @@ newline = 10
 -- the nine answers' words, from number 0 on
 unfoldable pub nine : List (List ℕ)
 nine =
-    done ∷ badLength ∷ badkey ∷ damaged ∷ none ∷ present ∷ syncfirst ∷ full ∷ spent ∷ []
+    done ∷ bad_length ∷ badkey ∷ damaged ∷ none ∷ present ∷ syncfirst ∷ full ∷ spent ∷ []
 
 unfoldable pub word_of : ℕ → List ℕ
 word_of n = get_or nine n []
@@ -59,42 +59,42 @@ abbrev pub digit : ℕ → ℕ
 digit d = 48 + d
 
 -- the decimal digits of a number of so many digits at most, with no zero in front
-unfoldable pub digitsOf : ℕ → ℕ → List ℕ
-digitsOf zero n = []
-digitsOf (suc places) n =
-    elim (ltb n 10) [ true ↦ digit n ∷ [] | false ↦ digitsOf places (n / 10) ++ (digit (n % 10) ∷ []) ]
+unfoldable pub digits_of : ℕ → ℕ → List ℕ
+digits_of zero n = []
+digits_of (suc places) n =
+    elim (ltb n 10) [ true ↦ digit n ∷ [] | false ↦ digits_of places (n / 10) ++ (digit (n % 10) ∷ []) ]
 
 -- a record has 32 bits, so ten digits at most
 unfoldable pub decimal : ℕ → List ℕ
-decimal n = digitsOf 10 n
+decimal n = digits_of 10 n
 
 -- ── A line out ──────────────────────────────────────────────────────────────────────────────────────────────────
 
-unfoldable pub answerLine : Reply → List ℕ
-answerLine Reply.Silent = []
-answerLine (Reply.Answer n) = word_of n ++ (newline ∷ [])
-answerLine (Reply.Record x) = (done ++ (space ∷ decimal x)) ++ (newline ∷ [])
-answerLine Reply.Line = line ++ (newline ∷ [])
+unfoldable pub answer_line : Reply → List ℕ
+answer_line Reply.Silent = []
+answer_line (Reply.Answer n) = word_of n ++ (newline ∷ [])
+answer_line (Reply.Record x) = (done ++ (space ∷ decimal x)) ++ (newline ∷ [])
+answer_line Reply.Line = line ++ (newline ∷ [])
 
 -- ── A text in its array ─────────────────────────────────────────────────────────────────────────────────────────
 
 -- the longest line is `done 4294967295` with its newline
-abbrev pub textSize : ℕ
-textSize = 16
+abbrev pub text_size : ℕ
+text_size = 16
 
 -- the first so many of some bytes
-abbrev pub textIn : List ℕ → ℕ → Text
-textIn bytes len = record { bytes = bytes; len = len }
+abbrev pub text_in : List ℕ → ℕ → Text
+text_in bytes len = record { bytes = bytes; len = len }
 
 -- the bytes, and zeros behind them
 unfoldable pub text_of : List ℕ → Text
-text_of s = record { bytes = s ++ replicate (textSize - length s) 0; len = length s }
+text_of s = record { bytes = s ++ replicate (text_size - length s) 0; len = length s }
 
 -- one byte more
 abbrev pub pushed : Text → ℕ → Text
 pushed t b = record { bytes = set t.bytes t.len b; len = t.len + 1 }
 
 -- some bytes more
-unfoldable pub pushedAll : Text → List ℕ → Text
-pushedAll t [] = t
-pushedAll t (b ∷ bs) = pushedAll (pushed t b) bs
+unfoldable pub pushed_all : Text → List ℕ → Text
+pushed_all t [] = t
+pushed_all t (b ∷ bs) = pushed_all (pushed t b) bs

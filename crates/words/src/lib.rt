@@ -1,11 +1,11 @@
 // What the bench program prints for a line: one of the nine words, a record behind `done`, or `line`.
 //
-// `spell` turns a reply into bytes. Its contract is one equation with `answerLine` of specs/Words.antt, which spells the
+// `spell` turns a reply into bytes. Its contract is one equation with `answer_line` of specs/Words.antt, which spells the
 // words of document 01 letter by letter.
 //
 // Nothing stands below.
 ghost use Rattle.std.specs.Prelude.{◌≡◌, ◌+◌, ◌≤◌, ◌<◌};
-ghost use Rattle.words.specs.Words.{textSize, answerLine, digitsOf, textIn, text_of, pushed, pushedAll};
+ghost use Rattle.words.specs.Words.{text_size, answer_line, digits_of, text_in, text_of, pushed, pushed_all};
 
 // The decimal digits of a 32-bit number are ten at most.
 const PLACES: usize = 10;
@@ -29,13 +29,13 @@ pub struct Text {
 impl Text {
     // A text of these bytes, of which the first `len` are the line.
     fn of(bytes: [u8; 16], len: usize) -> Self
-        ensures { result ≡ textIn bytes len }
+        ensures { result ≡ text_in bytes len }
     {
         Text { bytes, len }
     }
 
     fn push(mut self, b: u8) -> Self
-        requires { self.len < textSize }
+        requires { self.len < text_size }
         ensures { result ≡ pushed self b }
     {
         let at = self.len;
@@ -46,7 +46,7 @@ impl Text {
 }
 
 fn word(number: u32) -> Text
-    ensures { result ≡ text_of (answerLine (Reply.Answer number)) }
+    ensures { result ≡ text_of (answer_line (Reply.Answer number)) }
 {
     match number {
         0 => Text::of(*b"done\n\0\0\0\0\0\0\0\0\0\0\0", 5),
@@ -64,8 +64,8 @@ fn word(number: u32) -> Text
 
 // The digits of a number behind a text, in so many places at most.
 fn put_digits(t: Text, places: usize, n: u32) -> Text
-    requires { t.len + places ≤ textSize }
-    ensures { result ≡ pushedAll t (digitsOf places n) }
+    requires { t.len + places ≤ text_size }
+    ensures { result ≡ pushed_all t (digits_of places n) }
 {
     if places == 0 {
         return t;
@@ -78,14 +78,14 @@ fn put_digits(t: Text, places: usize, n: u32) -> Text
 }
 
 fn found(x: u32) -> Text
-    ensures { result ≡ text_of (answerLine (Reply.Record x)) }
+    ensures { result ≡ text_of (answer_line (Reply.Record x)) }
 {
     let done = Text::of(*b"done \0\0\0\0\0\0\0\0\0\0\0", 5);
     put_digits(done, PLACES, x).push(b'\n')
 }
 
 pub fn spell(reply: Reply) -> Text
-    ensures { result ≡ text_of (answerLine reply) }
+    ensures { result ≡ text_of (answer_line reply) }
 {
     match reply {
         Reply::Silent => Text::of([0; 16], 0),

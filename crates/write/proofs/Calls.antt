@@ -7,15 +7,15 @@ use lib.Dec.{leb}
 use lib.ListN.{length}
 use Rattle.rules.specs.Table.{fit0}
 use Rattle.rules.specs.Report.{Reported, nothing}
-use Rattle.rules.specs.Reports.{onceTested}
+use Rattle.rules.specs.Reports.{once_tested}
 use Rattle.rules.specs.Walk.{Walked, walk_of}
-use Rattle.rules.specs.Call.{lengthsFor}
+use Rattle.rules.specs.Call.{lengths_for}
 use Rattle.rules.specs.declared.Session.{Session}
 use Rattle.rules.specs.declared.Report.{Report}
-use Rattle.rules.proofs.demand1.Tested.{tested-length, tested-zero, tested-done}
-use Rattle.exchange.specs.Written.{fileOf}
+use Rattle.rules.proofs.Demand1.Tested.{tested-length, tested-zero, tested-done}
+use Rattle.exchange.specs.Written.{file_of}
 use Rattle.counts.specs.Tally.{everything}
-use Rattle.write.specs.WriteFile.{WriteLeft, writeRefused, writeDone, writeWhole, writeWalked, writeFile, writeReported}
+use Rattle.write.specs.WriteFile.{WriteLeft, write_refused, write_done, write_whole, write_walked, write_file, write_reported}
 use Rattle.write.specs.Calls.{Told, telling, told}
 use Rattle.write.specs.declared.Written.{Written}
 use Rattle.write.specs.declared.Sought.{Sought}
@@ -42,52 +42,52 @@ module _ (w t : List ℕ) (s : Session) {n c : ℕ} (same-n : s.n ≡ n) (same-c
   along : Report
   along = (walk_of s.n s.c everything w).report
 
-  hands : (x : Told) → left s t x ≡ writeFile w t s out → x.report ≡ onceTested s w t true along → handed s t x ≡ writeReported w t s out
-  unfolding writeReported along
+  hands : (x : Told) → left s t x ≡ write_file w t s out → x.report ≡ once_tested s w t true along → handed s t x ≡ write_reported w t s out
+  unfolding write_reported along
   hands x p q = cc
 
-  pub bad-length : (y : Report) → y ≡ nothing → lengthsFor s w t ≡ false → handed s t (refused Written.Length y w out) ≡ writeReported w t s out
-  unfolding writeFile writeRefused
-  bad-length y q h = hands (refused Written.Length y w out) (rw (writeFile, h)) (q ∙ sym (tested-length s w t true along h))
+  pub bad_length_lem : (y : Report) → y ≡ nothing → lengths_for s w t ≡ false → handed s t (refused Written.Length y w out) ≡ write_reported w t s out
+  unfolding write_file write_refused
+  bad_length_lem y q h = hands (refused Written.Length y w out) (rw (write_file, h)) (q ∙ sym (tested-length s w t true along h))
 
-  module _ (h : lengthsFor s w t ≡ true) where
+  module _ (h : lengths_for s w t ≡ true) where
     fit0-same : {b : Bool} → fit0 n w ≡ b → fit0 s.n w ≡ b
     fit0-same z = ap (λ (m : ℕ). fit0 m w) same-n ∙ z
 
-    pub bad-zero : (y : Report) → y ≡ nothing → fit0 n w ≡ false → handed s t (refused Written.Damaged y w out) ≡ writeReported w t s out
-    unfolding writeFile writeRefused
-    bad-zero y q z' =
+    pub bad_zero : (y : Report) → y ≡ nothing → fit0 n w ≡ false → handed s t (refused Written.Damaged y w out) ≡ write_reported w t s out
+    unfolding write_file write_refused
+    bad_zero y q z' =
         let z = fit0-same z' in
-        hands (refused Written.Damaged y w out) (rw (writeFile, h, z)) (q ∙ sym (tested-zero s w t true along h refl z))
+        hands (refused Written.Damaged y w out) (rw (write_file, h, z)) (q ∙ sym (tested-zero s w t true along h refl z))
 
     module _ (z' : fit0 n w ≡ true) where
       z : fit0 s.n w ≡ true
       z = fit0-same z'
 
-      goes : writeWalked s t (walk_of s.n s.c everything w) out ≡ writeFile w t s out
-      unfolding writeFile
-      goes = rw (writeFile, h, z)
+      goes : write_walked s t (walk_of s.n s.c everything w) out ≡ write_file w t s out
+      unfolding write_file
+      goes = rw (write_file, h, z)
 
-      walks : (v : Walked) → left s t (told out v) ≡ writeWalked s t v out
-      unfolding told writeWalked writeWhole writeRefused writeDone
-      walks v = go v.whole refl (leb (length (fileOf v.found)) (length out)) refl
+      walks : (v : Walked) → left s t (told out v) ≡ write_walked s t v out
+      unfolding told write_walked write_whole write_refused write_done
+      walks v = go v.whole refl (leb (length (file_of v.found)) (length out)) refl
         where
-          go : (a : Bool) → v.whole ≡ a → (b : Bool) → leb (length (fileOf v.found)) (length out) ≡ b → left s t (told out v) ≡ writeWalked s t v out
-          go false p b q = rw (told, writeWalked, p)
-          go true p true q = rw (told, writeWalked, p, writeWhole, q)
-          go true p false q = rw (told, writeWalked, p, writeWhole, q)
+          go : (a : Bool) → v.whole ≡ a → (b : Bool) → leb (length (file_of v.found)) (length out) ≡ b → left s t (told out v) ≡ write_walked s t v out
+          go false p b q = rw (told, write_walked, p)
+          go true p true q = rw (told, write_walked, p, write_whole, q)
+          go true p false q = rw (told, write_walked, p, write_whole, q)
 
       reports : (v : Walked) → (told out v).report ≡ v.report
       unfolding told
-      reports v = go v.whole refl (leb (length (fileOf v.found)) (length out)) refl
+      reports v = go v.whole refl (leb (length (file_of v.found)) (length out)) refl
         where
-          go : (a : Bool) → v.whole ≡ a → (b : Bool) → leb (length (fileOf v.found)) (length out) ≡ b → (told out v).report ≡ v.report
+          go : (a : Bool) → v.whole ≡ a → (b : Bool) → leb (length (file_of v.found)) (length out) ≡ b → (told out v).report ≡ v.report
           go false p b q = rw (told, p)
           go true p true q = rw (told, p, q)
           go true p false q = rw (told, p, q)
 
       pub answers : (u next : List ℕ) (r : Sought) → telling r u next ≡ told out (walk_of n c everything w)
-          → handed s t (telling r u next) ≡ writeReported w t s out
+          → handed s t (telling r u next) ≡ write_reported w t s out
       unfolding along
       answers u next r f =
           let v = walk_of s.n s.c everything w in

@@ -10,16 +10,16 @@ use lib.Dec.{ltb, leb}
 use lib.ListN.{length, length-append}
 use lib.Seq.{take_all}
 use borrow.Author.Tests.{lt-ltb}
-use Rattle.rules.specs.Layout.{topKind}
+use Rattle.rules.specs.Layout.{top_kind}
 use Rattle.rules.specs.Test.{every}
 use Rattle.rules.specs.Entry.{Cert, cut}
 use Rattle.rules.specs.Page.{Page, View}
-use Rattle.rules.specs.Place.{rootPlace, kids}
+use Rattle.rules.specs.Place.{root_place, kids}
 use Rattle.rules.specs.Enter.{enter}
-use Rattle.rules.specs.Walk.{Walked, unwalked, noted, enters, finds, walkEach, walk, walk_of}
+use Rattle.rules.specs.Walk.{Walked, unwalked, noted, enters, finds, walk_each, walk, walk_of}
 use Rattle.rules.specs.declared.Place.{Place}
 use Rattle.rules.specs.declared.Asked.{Asked}
-use Rattle.rules.proofs.entries.Entries.{length_cut}
+use Rattle.rules.proofs.Entries.Entries.{length_cut}
 use Rattle.write.proofs.Extends.{Extends, entered-small, under, finds-more, walk_more}
 
 module _ (low high r q : ℕ) where
@@ -60,13 +60,13 @@ module _ (low high r q : ℕ) where
 
   each_same : (m : ℕ) (f g : Place → Walked → Walked) → ((e : Place) (w : Walked) → Both w m → f e w ≡ g e w)
       → ((e : Place) (w : Walked) → Extends m w.found (f e w).found)
-      → (es : List Place) (w : Walked) → Both w (length es * m) → walkEach f es w ≡ walkEach g es w
-  unfolding walkEach
+      → (es : List Place) (w : Walked) → Both w (length es * m) → walk_each f es w ≡ walk_each g es w
+  unfolding walk_each
   each_same m f g h k [] w x = refl
   each_same m f g h k (e ∷ es) w x =
       let s = suc-mul (length es) m in
       let y : Both w (m + length es * m) = fewer (omega (arith, s)) x in
-      each_same m f g h k es (f e w) (grown (k e w) y) ∙ ap (walkEach g es) (h e w (fewer (omega arith) y))
+      each_same m f g h k es (f e w) (grown (k e w) y) ∙ ap (walk_each g es) (h e w (fewer (omega arith) y))
 
   walk_same : (level n c : ℕ) (above : List ℕ) (e : Place) (w : Walked) → Both w (under level) → walk level n c a above e w ≡ walk level n c b above e w
   unfolding walk under
@@ -87,17 +87,17 @@ module _ (low high r q : ℕ) where
           let g = sym (enters-same e w (fewer (omega arith) x)) ∙ f in
           let s = entered-small n c above w.table e p h in
           let t = (enter n c above w.table e).table in
-          let k = mul-le-mul_right (under level) s.kids-few in
+          let k = mul-le-mul_right (under level) s.kids_few in
           let z : Both w (40 + length (kids e p.view) * under level) = fewer (omega (arith, k)) x in
           let y : Both (noted n e w) (40 + length (kids e p.view) * under level) = record { first = z.first; second = z.second } in
           rw (walk, f, g, h)
           (each_same (under level) (walk level n c a (e.child ∷ above)) (walk level n c b (e.child ∷ above)) ih
           (λ d v. walk_more level n c a (e.child ∷ above) d v) (kids e p.view) (finds a p.view (noted n e w) t)
-          (grown (finds-more a p.view (noted n e w) t s.certs-few) y)
-          ∙ ap (walkEach (walk level n c b (e.child ∷ above)) (kids e p.view))
-          (finds-same p.view (noted n e w) t s.certs-few (fewer (omega arith) y)))
+          (grown (finds-more a p.view (noted n e w) t s.certs_few) y)
+          ∙ ap (walk_each (walk level n c b (e.child ∷ above)) (kids e p.view))
+          (finds-same p.view (noted n e w) t s.certs_few (fewer (omega arith) y)))
 
   pub room-same : (n c : ℕ) (t : List ℕ) → 37240 < r → 37240 < q
       → walk_of n c (record { low = low; high = high; room = r }) t ≡ walk_of n c (record { low = low; high = high; room = q }) t
   unfolding walk_of under
-  room-same n c t f g = walk_same topKind n c [] (rootPlace t) (unwalked t) (record { first = omega arith; second = omega arith })
+  room-same n c t f g = walk_same top_kind n c [] (root_place t) (unwalked t) (record { first = omega arith; second = omega arith })

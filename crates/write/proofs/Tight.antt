@@ -6,21 +6,21 @@ use Rattle.rules.specs.declared.Session.{Session}
 use Rattle.tight.specs.Tight.{Tight}
 use Rattle.write.proofs as this
 
-pub number-of-tight : Tight this.number_of.Kinds.ps this.number_of.Kinds.r this.number_of.Reads.Pre this.number_of.Reads.Post
-number-of-tight κs a pre z z' l l' p q = (p ∙ sym q, refl)
+pub number_of_tight : Tight this.number_of.Kinds.ps this.number_of.Kinds.r this.number_of.Reads.Pre this.number_of.Reads.Post
+number_of_tight κs a pre z z' l l' p q = (p ∙ sym q, refl)
 
-pub length-of-tight : Tight this.length_of.Kinds.ps this.length_of.Kinds.r this.length_of.Reads.Pre this.length_of.Reads.Post
-length-of-tight κs a pre z z' l l' p q = (p ∙ sym q, refl)
+pub length_of_tight : Tight this.length_of.Kinds.ps this.length_of.Kinds.r this.length_of.Reads.Pre this.length_of.Reads.Post
+length_of_tight κs a pre z z' l l' p q = (p ∙ sym q, refl)
 
-pub write-file-tight : Tight this.write_file.Kinds.ps this.write_file.Kinds.r this.write_file.Reads.Pre this.write_file.Reads.Post
-write-file-tight κs a pre z z' l l' p q =
+pub write_file_tight : Tight this.write_file.Kinds.ps this.write_file.Kinds.r this.write_file.Reads.Pre this.write_file.Reads.Post
+write_file_tight κs a pre z z' l l' p q =
     let e = p ∙ sym q in (
       (λ i. record { answer = (e i).left.answer; report = (e i).report; session = (e i).left.session }),
       (λ i. ((e i).left.working, (tt, (tt, ((e i).left.out, tt))))),
     )
 
-pub lean-tight : Tight this.lean.Kinds.ps this.lean.Kinds.r this.lean.Reads.Pre this.lean.Reads.Post
-lean-tight κs a pre z z' l l' p q =
+pub lean_tight : Tight this.lean.Kinds.ps this.lean.Kinds.r this.lean.Reads.Pre this.lean.Reads.Post
+lean_tight κs a pre z z' l l' p q =
     let s : Session = begun a.1.1.0 a.1.1.1.0 0 [] [] in
     let e = p s refl refl ∙ sym (q s refl refl) in
     let rest = l.1.1.1.1.1 in (

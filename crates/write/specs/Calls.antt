@@ -5,8 +5,8 @@ use Rattle.rules.specs.Report.{Reported}
 use Rattle.rules.specs.Walk.{Walked}
 use Rattle.rules.specs.declared.Session.{Session}
 use Rattle.rules.specs.declared.Report.{Report}
-use Rattle.exchange.specs.Written.{fileOf}
-use Rattle.counts.specs.Tally.{noTally}
+use Rattle.exchange.specs.Written.{file_of}
+use Rattle.counts.specs.Tally.{no_tally}
 use Rattle.sections.specs.Puts.{put_all}
 use Rattle.sections.specs.declared.Starts.{Starts}
 use Rattle.write.specs.WriteFile.{WriteLeft}
@@ -48,8 +48,8 @@ unfoldable pub told : List ℕ → Walked → Told
 told out w =
     elim w.whole [
       | false ↦ telled Written.Damaged w out
-      | true ↦ elim (leb (length (fileOf w.found)) (length out)) [
-        | true ↦ telled (Written.Done (length (fileOf w.found))) w (over (fileOf w.found) out)
+      | true ↦ elim (leb (length (file_of w.found)) (length out)) [
+        | true ↦ telled (Written.Done (length (file_of w.found))) w (over (file_of w.found) out)
         | false ↦ telled Written.Short w out
       ]
     ]
@@ -63,5 +63,5 @@ pub record Wrote : Type 0 where
 abbrev pub wrote : List ℕ → List ℕ → Report → Wrote
 wrote t out x = record { table = t; out = out; report = x }
 
-unfoldable pub wroteIn : Starts → List ℕ → Walked → Wrote
-wroteIn s out w = wrote w.table (put_all s noTally w.found out).out w.report
+unfoldable pub wrote_in : Starts → List ℕ → Walked → Wrote
+wrote_in s out w = wrote w.table (put_all s no_tally w.found out).out w.report

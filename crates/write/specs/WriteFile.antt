@@ -4,10 +4,10 @@ use Rattle.rules.specs.Page.{over}
 use Rattle.rules.specs.Table.{fit0}
 use Rattle.rules.specs.Report.{Reported}
 use Rattle.rules.specs.Walk.{Walked, walk_of}
-use Rattle.rules.specs.Call.{lengthsFor}
-use Rattle.rules.specs.Reports.{onceTested}
+use Rattle.rules.specs.Call.{lengths_for}
+use Rattle.rules.specs.Reports.{once_tested}
 use Rattle.rules.specs.declared.Session.{Session}
-use Rattle.exchange.specs.Written.{fileOf}
+use Rattle.exchange.specs.Written.{file_of}
 use Rattle.counts.specs.Tally.{everything}
 use Rattle.write.specs.declared.Written.{Written}
 
@@ -20,8 +20,8 @@ pub record WriteLeft : Type 0 where
   pub out : List ℕ
 
 -- the file stands over the start of the output, and its length is told; output beyond it stays
-unfoldable pub writeDone : Session → List ℕ → List ℕ → List ℕ → List ℕ → WriteLeft
-writeDone s w t file out = record {
+unfoldable pub write_done : Session → List ℕ → List ℕ → List ℕ → List ℕ → WriteLeft
+write_done s w t file out = record {
   answer = Written.Done (length file);
   session = s;
   working = w;
@@ -30,8 +30,8 @@ writeDone s w t file out = record {
 }
 
 -- every refusal leaves the output untouched
-unfoldable pub writeRefused : Written → Session → List ℕ → List ℕ → List ℕ → WriteLeft
-writeRefused answer s w t out = record {
+unfoldable pub write_refused : Written → Session → List ℕ → List ℕ → List ℕ → WriteLeft
+write_refused answer s w t out = record {
   answer = answer;
   session = s;
   working = w;
@@ -40,46 +40,46 @@ writeRefused answer s w t out = record {
 }
 
 -- short, if the output cannot hold the file; given last
-unfoldable pub writeWhole : Session → List ℕ → List ℕ → List ℕ → List ℕ → WriteLeft
-writeWhole s w t file out =
+unfoldable pub write_whole : Session → List ℕ → List ℕ → List ℕ → List ℕ → WriteLeft
+write_whole s w t file out =
     elim (leb (length file) (length out))
-    [ true ↦ writeDone s w t file out | false ↦ writeRefused Written.Short s w t out ]
+    [ true ↦ write_done s w t file out | false ↦ write_refused Written.Short s w t out ]
 
 -- what was mended stands with every answer
-unfoldable pub writeWalked : Session → List ℕ → Walked → List ℕ → WriteLeft
-writeWalked s t walked out =
+unfoldable pub write_walked : Session → List ℕ → Walked → List ℕ → WriteLeft
+write_walked s t walked out =
     elim walked.whole [
-      | false ↦ writeRefused Written.Damaged s walked.table t out
-      | true ↦ writeWhole s walked.table t (fileOf walked.found) out
+      | false ↦ write_refused Written.Damaged s walked.table t out
+      | true ↦ write_whole s walked.table t (file_of walked.found) out
     ]
 
-unfoldable pub writeFile : List ℕ → List ℕ → Session → List ℕ → WriteLeft
-writeFile w t s out =
-    elim (lengthsFor s w t) [
-      | false ↦ writeRefused Written.Length s w t out
+unfoldable pub write_file : List ℕ → List ℕ → Session → List ℕ → WriteLeft
+write_file w t s out =
+    elim (lengths_for s w t) [
+      | false ↦ write_refused Written.Length s w t out
       | true ↦ elim (fit0 s.n w) [
-        | false ↦ writeRefused Written.Damaged s w t out
-        | true ↦ writeWalked s t (walk_of s.n s.c everything w) out
+        | false ↦ write_refused Written.Damaged s w t out
+        | true ↦ write_walked s t (walk_of s.n s.c everything w) out
       ]
     ]
 
 -- and what it reports (K5)
-unfoldable pub writeReported : List ℕ → List ℕ → Session → List ℕ → Reported WriteLeft
-writeReported w t s out = record {
-  left = writeFile w t s out;
-  report = onceTested s w t true (walk_of s.n s.c everything w).report;
+unfoldable pub write_reported : List ℕ → List ℕ → Session → List ℕ → Reported WriteLeft
+write_reported w t s out = record {
+  left = write_file w t s out;
+  report = once_tested s w t true (walk_of s.n s.c everything w).report;
 }
 
 -- ── The paper's numbers ─────────────────────────────────────────────────────────────────────────────────────────
 
-unfoldable pub writtenNo : Written → ℕ
-writtenNo (Written.Done k) = 0
-writtenNo Written.Length = 1
-writtenNo Written.Damaged = 3
-writtenNo Written.Short = 9
+unfoldable pub written_no : Written → ℕ
+written_no (Written.Done k) = 0
+written_no Written.Length = 1
+written_no Written.Damaged = 3
+written_no Written.Short = 9
 
-unfoldable pub writtenLength : Written → ℕ
-writtenLength (Written.Done k) = k
-writtenLength Written.Length = 0
-writtenLength Written.Damaged = 0
-writtenLength Written.Short = 0
+unfoldable pub written_length : Written → ℕ
+written_length (Written.Done k) = k
+written_length Written.Length = 0
+written_length Written.Damaged = 0
+written_length Written.Short = 0

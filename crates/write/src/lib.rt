@@ -2,7 +2,7 @@
 //
 // `write_file` asks nothing and tests everything, in the order of the answers: lengths, page 0, the walk, then the
 // output's length. Answer, session, every byte lent and the report of what was mended are those of specs/'s
-// `writeFile`: the file of what a listing from key 0 with room for all finds, with the tables as that listing leaves
+// `write_file`: the file of what a listing from key 0 with room for all finds, with the tables as that listing leaves
 // them. A refused call leaves the output as it is, and each section stands behind its count: so the dry walk counts
 // models, meters and certificates first, and one walk then fills the three sections. Where the output is not touched
 // the pages are only mended.
@@ -13,15 +13,15 @@
 // Below stand `tables`, which tests lengths, `counts`, which counts, `sections`, which writes a leaf's certificates,
 // `fill`, whose walk only mends, `leaves`, which steps from leaf to leaf, and `exchange`, the form of the file.
 ghost use Rattle.std.specs.Prelude.{◌≡◌, true, ◌*◌, ◌≤◌, length};
-ghost use Rattle.rules.specs.Layout.{pageSize, mostPages, lastKey};
+ghost use Rattle.rules.specs.Layout.{page_size, most_pages, last_key};
 ghost use Rattle.rules.specs.Table.{fit0};
 ghost use Rattle.rules.specs.Walk.{walk_of};
 ghost use Rattle.rules.specs.declared.Session.{Session};
 ghost use Rattle.fill.specs.Fills.{HasRoom};
-ghost use Rattle.counts.specs.Tally.{everything, noTally, countedAll};
-ghost use Rattle.write.specs.WriteFile.{writeReported, writtenNo, writtenLength};
+ghost use Rattle.counts.specs.Tally.{everything, no_tally, counted_all};
+ghost use Rattle.write.specs.WriteFile.{write_reported, written_no, written_length};
 ghost use Rattle.sections.specs.Puts.{Lies};
-ghost use Rattle.write.specs.Calls.{beside, leaving, telling, told, wrote, wroteIn};
+ghost use Rattle.write.specs.Calls.{beside, leaving, telling, told, wrote, wrote_in};
 
 use counts::{everything, no_tally};
 use leaves::Stepped;
@@ -55,7 +55,7 @@ pub struct Sought {
 // The paper's number for each answer, and the length beside it.
 
 pub fn number_of(w: Written) -> u32
-    ensures { result ≡ writtenNo w }
+    ensures { result ≡ written_no w }
 {
     match w {
         Written::Done(length) => 0,
@@ -66,7 +66,7 @@ pub fn number_of(w: Written) -> u32
 }
 
 pub fn length_of(w: Written) -> u64
-    ensures { result ≡ writtenLength w }
+    ensures { result ≡ written_length w }
 {
     match w {
         Written::Done(length) => length as u64,
@@ -78,10 +78,10 @@ pub fn length_of(w: Written) -> u64
 
 // The walk that writes, mending on the way, where no damaged place lies ahead and the counts are known.
 fn fill(t: &mut [u8], n: usize, c: u32, a: Asked, s: Starts, out: &mut [u8]) -> Report
-    requires { (length t.old ≡ n * pageSize) × (fit0 n t.old ≡ true) × (a.low ≤ a.high) × (a.high ≤ lastKey)
+    requires { (length t.old ≡ n * page_size) × (fit0 n t.old ≡ true) × (a.low ≤ a.high) × (a.high ≤ last_key)
         × ((walk_of n c a t.old).whole ≡ true) × HasRoom a (walk_of n c a t.old)
-        × Lies s (countedAll noTally (walk_of n c a t.old).found) (length out.old) }
-    ensures { wrote t.new out.new result ≡ wroteIn s out.old (walk_of n c a t.old) }
+        × Lies s (counted_all no_tally (walk_of n c a t.old).found) (length out.old) }
+    ensures { wrote t.new out.new result ≡ wrote_in s out.old (walk_of n c a t.old) }
 {
     let mut key = a.low;
     let mut cursor = leaves::start();
@@ -105,7 +105,7 @@ fn fill(t: &mut [u8], n: usize, c: u32, a: Asked, s: Starts, out: &mut [u8]) -> 
 
 // What lies ahead is known before a byte is written.
 fn look(t: &mut [u8], n: usize, c: u32, out: &mut [u8]) -> Sought
-    requires { (length t.old ≡ n * pageSize) × (n ≤ mostPages) × (fit0 n t.old ≡ true) }
+    requires { (length t.old ≡ n * page_size) × (n ≤ most_pages) × (fit0 n t.old ≡ true) }
     ensures { telling result t.new out.new ≡ told out.old (walk_of n c everything t.old) }
 {
     let ahead = counts::count_of(t, n);
@@ -136,7 +136,7 @@ fn look(t: &mut [u8], n: usize, c: u32, out: &mut [u8]) -> Sought
 pub fn lean(working: &mut [u8], stable: &[u8], n: u16, c: u32, out: &mut [u8]) -> Sought
     ensures { (s : Session) → s.n ≡ n → s.c ≡ c
         → leaving (beside s result) working.new stable.now out.new
-        ≡ writeReported working.old stable.now s out.old }
+        ≡ write_reported working.old stable.now s out.old }
 {
     if !tables::lengths_for(n, working, stable) {
         return Sought {
@@ -156,7 +156,7 @@ pub fn lean(working: &mut [u8], stable: &[u8], n: u16, c: u32, out: &mut [u8]) -
 
 pub fn write_file(working: &mut [u8], stable: &[u8], session: Session, out: &mut [u8]) -> Writing
     ensures { leaving result working.new stable.now out.new
-        ≡ writeReported working.old stable.now session out.old }
+        ≡ write_reported working.old stable.now session out.old }
 {
     let sought = lean(working, stable, session.n, session.c, out);
     let answer = sought.answer;

@@ -1,6 +1,6 @@
 -- `any::look`: at each turn nothing is found yet, and the walk behind the last leaf is what is left to do. Assumes nothing.
 use Prim.Native.Nat.{◌+◌, ◌-◌}
-use Rattle.any.proofs.Turns.{Going, goes_first, ends-damaged, reached, spot-room, turns-less, ends-yes, ends-no, goes-next}
+use Rattle.any.proofs.Turns.{Going, goes_first, ends-damaged, reached, spot-room, turns_less, ends_yes, ends_no, goes-next}
 use borrow.Author.Rules.{rules}
 use native.Mathlib.Omega.{arith}
 use Rattle.any.proofs.look.Statement.{statement}
@@ -57,7 +57,7 @@ holds-requires c κs =
     let next = c.before.before.before.before.before.before.before.next in
     let leaf = c.before.before.before.leaf in
     let k = reached loop.invariant next.ensures leaf.given.1 in
-    (omega (arith, k.child-below, k.ground.long), spot-room loop.invariant next.ensures leaf.given.1)
+    (omega (arith, k.child_below, k.ground.long), spot-room loop.invariant next.ensures leaf.given.1)
 
 same-length-2 : tie.Need-same-length-2 invariant-loop decreases-loop
 same-length-2 c =
@@ -72,7 +72,7 @@ returns-2 c =
     let next = c.before.before.before.before.before.before.before.before.before.next in
     let leaf = c.before.before.before.before.before.leaf in
     let holds = c.before.holds in
-    ends-yes loop.invariant next.ensures leaf.given.1 holds.ensures c.if1.true
+    ends_yes loop.invariant next.ensures leaf.given.1 holds.ensures c.if1.true
 
 same-length-3 : tie.Need-same-length-3 invariant-loop decreases-loop
 same-length-3 c =
@@ -88,7 +88,7 @@ returns-3 c =
     let leaf = c.before.before.before.before.before.before.before.leaf in
     let holds = c.before.before.before.holds in
     let if1 = c.before.before.if1 in
-    ends-no loop.invariant next.ensures leaf.given.1 holds.ensures if1.false c.if2.true
+    ends_no loop.invariant next.ensures leaf.given.1 holds.ensures if1.false c.if2.true
 
 add-key : tie.Need-overflow-add-key invariant-loop decreases-loop
 add-key c =
@@ -101,7 +101,7 @@ loop-less c =
     let loop = c.before.before.before.before.before.before.before.before.before.before.before.before.before.before.before.before.loop in
     let next = c.before.before.before.before.before.before.before.before.before.before.before.before.before.next in
     let leaf = c.before.before.before.before.before.before.before.before.before.leaf in
-    turns-less loop.invariant next.ensures leaf.given.1
+    turns_less loop.invariant next.ensures leaf.given.1
 
 loop-again : tie.Need-loop-preserved invariant-loop decreases-loop
 loop-again c =

@@ -3,8 +3,8 @@
 use mathlib.Core.Path.{ap, ◌∙◌}
 use borrow.Author.Tests.{not-true}
 use Rattle.rules.specs.declared.Session.{Session}
-use Rattle.plan.specs.Plan.{splitsBy, headsOf}
-use Rattle.apply.specs.Leads.{marksBy, done}
+use Rattle.plan.specs.Plan.{splits_by, heads_of}
+use Rattle.apply.specs.Leads.{marks_by, done}
 use Rattle.apply.proofs.Down.{leaf-stays}
 use Rattle.apply.proofs.Marks.{leaf-marks}
 use Rattle.apply.proofs.Done.{put-asks, pages-done}
@@ -22,8 +22,8 @@ put-cert-requires : tie.Need-put-cert-requires
 put-cert-requires c κs =
     let args = c.before.before.before.before.before.args in
     let pre = c.before.before.before.before.before.requires in
-    let is-full = c.before.before.before.is-full in
-    put-asks pre.ready.ready args.table.now pre.session args.way.leaf.place.child (leaf-stays pre.ready is-full.ensures (not-true is-full.result c.before.before.if1.true))
+    let is_full_lem = c.before.before.before.is-full in
+    put-asks pre.ready.ready args.table.now pre.session args.way.leaf.place.child (leaf-stays pre.ready is_full_lem.ensures (not-true is_full_lem.result c.before.before.if1.true))
 
 same_length : tie.Need-same-length
 same_length c = search rules
@@ -31,12 +31,12 @@ same_length c = search rules
 returns : tie.Need-returns
 returns c =
     let args = c.before.before.before.before.before.before.before.before.args in
-    let is-full = c.before.before.before.before.before.before.is-full in
-    let put-cert = c.before.before.put-cert in
-    let room = not-true is-full.result c.before.before.before.before.before.if1.true in
+    let is_full_lem = c.before.before.before.before.before.before.is-full in
+    let put_cert_lem = c.before.before.put-cert in
+    let room = not-true is_full_lem.result c.before.before.before.before.before.if1.true in
     λ y stable.
-    ap (λ (u : Session). done u put-cert.new.0 stable) (leaf-marks y.ready is-full.ensures room)
-    ∙ pages-done y args.table.now y.session args.way.leaf.place.child (leaf-stays y.ready is-full.ensures room) args.value put-cert.new.0 put-cert.ensures stable
+    ap (λ (u : Session). done u put_cert_lem.new.0 stable) (leaf-marks y.ready is_full_lem.ensures room)
+    ∙ pages-done y args.table.now y.session args.way.leaf.place.child (leaf-stays y.ready is_full_lem.ensures room) args.value put_cert_lem.new.0 put_cert_lem.ensures stable
 
 split-way-requires : tie.Need-split-way-requires
 split-way-requires c κs = search rules
@@ -49,7 +49,7 @@ put-cert-requires-2 c κs =
     let args = c.before.before.before.before.before.before.before.before.before.args in
     let pre = c.before.before.before.before.before.before.before.before.before.requires in
     let split-way = c.before.before.before.split-way in
-    put-asks pre.ready.ready split-way.new.0 (marksBy args.way args.chosen.pages (splitsBy (headsOf args.way)) pre.session) split-way.result (split-way.ensures pre)
+    put-asks pre.ready.ready split-way.new.0 (marks_by args.way args.chosen.pages (splits_by (heads_of args.way)) pre.session) split-way.result (split-way.ensures pre)
 
 same-length-2 : tie.Need-same-length-2
 same-length-2 c = search rules
@@ -60,7 +60,7 @@ returns-2 c =
     let split-way = c.before.before.before.before.before.before.split-way in
     let put-cert2 = c.before.before.put-cert2 in
     λ y stable.
-    pages-done y split-way.new.0 (marksBy args.way args.chosen.pages (splitsBy (headsOf args.way)) y.session) split-way.result (split-way.ensures y) args.value put-cert2.new.0 put-cert2.ensures stable
+    pages-done y split-way.new.0 (marks_by args.way args.chosen.pages (splits_by (heads_of args.way)) y.session) split-way.result (split-way.ensures y) args.value put-cert2.new.0 put-cert2.ensures stable
 
 pub apply-spec : {M : Type 1} → statement M
 apply-spec =

@@ -3,14 +3,14 @@
 use Prim.Native.Nat.{◌≤◌, ◌-◌}
 use mathlib.Core.Path.{◌≡◌, refl, sym, ap, ◌∙◌}
 use Rattle.way.specs.declared.Step.{Step}
-use Rattle.apply.specs.Leads.{marksFor}
+use Rattle.apply.specs.Leads.{marks_for}
 use Rattle.apply.proofs.Marks.{marks-turn, marks-none}
 use native.Mathlib.Omega.{arith}
 use Rattle.apply.proofs.mark_halves.Statement.{statement}
 use Rattle.apply.proofs.mark_halves.Tie as tie
 
 abbrev invariant-loop : tie.invariant-loop
-invariant-loop way many pages c left₀ i₀ left i = (i ≤ many) × (marksFor c way pages i left ≡ marksFor c way pages many left₀)
+invariant-loop way many pages c left₀ i₀ left i = (i ≤ many) × (marks_for c way pages i left ≡ marks_for c way pages many left₀)
 
 abbrev decreases-loop : tie.decreases-loop
 decreases-loop way many pages c left₀ i₀ left i = i
@@ -62,7 +62,7 @@ loop-again c =
     let args = c.before.before.before.before.args in
     let loop = c.before.before.before.loop in (
       omega (arith, loop.invariant.0),
-      ap (marksFor args.session.c args.way args.t3 (loop.i - 1)) c.mark.ensures
+      ap (marks_for args.session.c args.way args.t3 (loop.i - 1)) c.mark.ensures
           ∙ (marks-turn args.session.c args.way args.t3 loop.i c.before.before.loop-test.true c.before.step-on.result c.before.step-on.ensures loop.left ∙ loop.invariant.1),
     )
 

@@ -67,8 +67,8 @@ use Rattle.batch.specs.Turns.{Running, running, turning, begun, turn_of, goes, f
 use Rattle.batch.specs.contracts.Turned as T
 use Rattle.batch.proofs.Turned.TheLaws as T'
 use Rattle.batch.proofs.Again.{LentAgain, lends_again, comes_back}
-use Rattle.batch.proofs.Upto.{getD-here, set_here, here-within, one_further, same_size, again-before, at-end, not-below}
-use Rattle.batch.proofs.Values.{sessionVal, made_val, itemVal, word, working-ty, stable-ty, items-ty, lent-ty, turned-item, turned-made, session-typed, made-typed, item-typed, turned-typed}
+use Rattle.batch.proofs.Upto.{get_d_here, set_here, here-within, one_further, same_size, again-before, at-end, not_below}
+use Rattle.batch.proofs.Values.{session_val, made_val, item_val, word, working_ty, stable_ty, items_ty, lent_ty, turned-item, turned-made, session_typed, made_typed, item_typed, turned_typed}
 use Rattle.batch.proofs.Turns.{goes-more, fills-more, turns-batch}
 use Rattle.batch.specs.contracts.begin as begin
 use Rattle.batch.proofs.begin.Symbol as begin-def
@@ -98,7 +98,7 @@ module _ {M : Type 1} {𝓤 : Ura M} (𝓛 : Logic 𝓤) (mem : Memory → SProp
 module _ {M : Type 1} {𝓤 : Ura M} (𝓛 : Logic 𝓤) (mem : Memory → SProp 𝓤) (run : Routine → Fun 𝓤)
     (κ₀ κ₁ κ₂ : Lft) (q₀ q₁ q₂ : Share) (x₀ x₁ : Bor (List ℕ)) (s : Session) (x₂ : Bor (List Item))
     (room₀ : Room u8 (length x₀.now)) (room₁ : Room u8 (length x₁.now)) (room₂ : Room I.the_row (length x₂.now))
-    (s-is : Is S.the_row s (sessionVal s ∷ [])) where
+    (s-is : Is S.the_row s (session_val s ∷ [])) where
   open 𝓛 use {H}
 
   abbrev w : List ℕ
@@ -136,7 +136,7 @@ module _ {M : Type 1} {𝓤 : Ura M} (𝓛 : Logic 𝓤) (mem : Memory → SProp
   a = (x₀, (x₁, (s, (x₂, tt))))
 
   abbrev vals : List Val × (List Val × (List Val × (List Val × Unit {0})))
-  vals = (v₀ ∷ [], (v₁ ∷ [], (sessionVal s ∷ [], (v₂ ∷ [], tt))))
+  vals = (v₀ ∷ [], (v₁ ∷ [], (session_val s ∷ [], (v₂ ∷ [], tt))))
 
   abbrev bound : (walk_of 𝓛 batch.ended stayed (batch.clauses 𝓛 mem run)).Ghost
   bound = (((κ₀, (κ₁, (κ₂, tt))), (q₀, (q₁, (q₂, tt))), tt, a, vals), tt)
@@ -156,7 +156,7 @@ module _ {M : Type 1} {𝓤 : Ura M} (𝓛 : Logic 𝓤) (mem : Memory → SProp
 
   -- what the triples bind outside, and that the caller has what they ask
   abbrev to-begin : ℕ → GName → (Begin 𝓛 mem run).Ghost
-  to-begin ν δ = (((ν ∷ [], (κ₁, tt)), (full_share, (q₁, tt)), tt, (lent δ w, (x₁, (s, tt))), (v₀ ∷ [], (v₁ ∷ [], (sessionVal s ∷ [], tt)))), tt)
+  to-begin ν δ = (((ν ∷ [], (κ₁, tt)), (full_share, (q₁, tt)), tt, (lent δ w, (x₁, (s, tt))), (v₀ ∷ [], (v₁ ∷ [], (session_val s ∷ [], tt)))), tt)
 
   asks-begin : (ν : ℕ) (δ : GName) → ent 𝓤 (⋆ 𝓛 (Tables-lent ν δ w)) ((Begin 𝓛 mem run).pre (to-begin ν δ))
   asks-begin ν δ =
@@ -164,9 +164,9 @@ module _ {M : Type 1} {𝓤 : Ura M} (𝓛 : Logic 𝓤) (mem : Memory → SProp
       nothing ! $ move ! (3 ∷ 0 ∷ []) $ join ! $ move ! (2 ∷ 0 ∷ []) $ join ! $ join ! $ frame ! $ done !
 
   abbrev to-turn : ℕ → GName → Running → Item → (Turn 𝓛 mem run).Ghost
-  to-turn ν δ m z = (((ν ∷ [], (κ₁, tt)), (full_share, (q₁, tt)), tt, (lent δ m.working, (x₁, (m.made, (z, tt)))), (v₀ ∷ [], (v₁ ∷ [], (made_val m.made ∷ [], (itemVal z ∷ [], tt))))), tt)
+  to-turn ν δ m z = (((ν ∷ [], (κ₁, tt)), (full_share, (q₁, tt)), tt, (lent δ m.working, (x₁, (m.made, (z, tt)))), (v₀ ∷ [], (v₁ ∷ [], (made_val m.made ∷ [], (item_val z ∷ [], tt))))), tt)
 
-  asks-turn : (ν : ℕ) (δ : GName) (m : Running) (z : Item) → Is B.the_row m.made (made_val m.made ∷ []) → Is I.the_row z (itemVal z ∷ [])
+  asks-turn : (ν : ℕ) (δ : GName) (m : Running) (z : Item) → Is B.the_row m.made (made_val m.made ∷ []) → Is I.the_row z (item_val z ∷ [])
       → ent 𝓤 (⋆ 𝓛 (Tables-lent ν δ m.working)) ((Turn 𝓛 mem run).pre (to-turn ν δ m z))
   asks-turn ν δ m z m-is z-is =
       qed 𝓛 (Tables-lent ν δ m.working) ∵ nothing ! $ owned ! I.the_row (Is I.the_row) (LL.makes I.the_type I'.the_plain 𝓛) z _ z-is $ fjoin ! $
@@ -216,7 +216,7 @@ module _ {M : Type 1} {𝓤 : Ura M} (𝓛 : Logic 𝓤) (mem : Memory → SProp
     Λ = 𝓣.Λ
 
     abbrev En : Env 𝓤 H
-    En = (B'.mir, l₀) ∷ (working-ty, l₁) ∷ (stable-ty, l₂) ∷ (S'.mir, l₃) ∷ (items-ty, l₄) ∷ (B'.mir, l₅) ∷ (word, l₆) ∷ (T'.mir, l₇) ∷ (lent-ty, l₈) ∷ (slice_ty lent-ty, l₉) ∷ (word, l₁₀) ∷ (ty_bool, l₁₁) ∷ (lent-ty, l₁₂) ∷ (slice_ty lent-ty, l₁₃) ∷ (ty_ptr, l₁₄) ∷ (I'.mir, l₁₅) ∷ (ty_ptr, l₁₆) ∷ []
+    En = (B'.mir, l₀) ∷ (working_ty, l₁) ∷ (stable_ty, l₂) ∷ (S'.mir, l₃) ∷ (items_ty, l₄) ∷ (B'.mir, l₅) ∷ (word, l₆) ∷ (T'.mir, l₇) ∷ (lent_ty, l₈) ∷ (slice_ty lent_ty, l₉) ∷ (word, l₁₀) ∷ (ty_bool, l₁₁) ∷ (lent_ty, l₁₂) ∷ (slice_ty lent_ty, l₁₃) ∷ (ty_ptr, l₁₄) ∷ (I'.mir, l₁₅) ∷ (ty_ptr, l₁₆) ∷ []
 
     -- the items in memory, their open borrow, the tables, then the locals, the last one first
     abbrev Has : List Item → List ℕ → Had 𝓤 → Had 𝓤 → Had 𝓤 → Had 𝓤 → List (Had 𝓤)
@@ -224,15 +224,15 @@ module _ {M : Type 1} {𝓤 : Ura M} (𝓛 : Logic 𝓤) (mem : Memory → SProp
         ∷ ‵ (fobs x₂.name ((coded_holeys I.the_row).code (heres I.the_row xs))) ∷ ‵ (fauth x₂.name ((coded_holeys I.the_row).code (heres I.the_row xs)))
         ∷ Working l ∷ ‵ (flft κ₀ q₀) ∷ Stable ∷ ‵ (flft κ₁ q₁)
         ∷ ‵ (froom ty_ptr l₁₆ 0) ∷ ‵ (fdies ty_ptr l₁₆) ∷ ‵ (froom I'.mir l₁₅ 0) ∷ ‵ (fdies I'.mir l₁₅) ∷ ‵ (froom ty_ptr l₁₄ 0) ∷ ‵ (fdies ty_ptr l₁₄)
-        ∷ ‵ (froom (slice_ty lent-ty) l₁₃ 0) ∷ ‵ (fdies (slice_ty lent-ty) l₁₃) ∷ ‵ (froom lent-ty l₁₂ 0) ∷ ‵ (fdies lent-ty l₁₂) ∷ ‵ (froom ty_bool l₁₁ 0) ∷ ‵ (fdies ty_bool l₁₁)
-        ∷ ‵ (froom word l₁₀ 0) ∷ ‵ (fdies word l₁₀) ∷ c₉ ∷ ‵ (fdies (slice_ty lent-ty) l₉) ∷ c₈ ∷ ‵ (fdies lent-ty l₈)
+        ∷ ‵ (froom (slice_ty lent_ty) l₁₃ 0) ∷ ‵ (fdies (slice_ty lent_ty) l₁₃) ∷ ‵ (froom lent_ty l₁₂ 0) ∷ ‵ (fdies lent_ty l₁₂) ∷ ‵ (froom ty_bool l₁₁ 0) ∷ ‵ (fdies ty_bool l₁₁)
+        ∷ ‵ (froom word l₁₀ 0) ∷ ‵ (fdies word l₁₀) ∷ c₉ ∷ ‵ (fdies (slice_ty lent_ty) l₉) ∷ c₈ ∷ ‵ (fdies lent_ty l₈)
         ∷ ‵ (froom T'.mir l₇ 0) ∷ ‵ (fdies T'.mir l₇) ∷ c₆ ∷ ‵ (fdies word l₆) ∷ c₅ ∷ ‵ (fdies B'.mir l₅)
-        ∷ ‵ (fat full_share items-ty l₄ 0 v₂) ∷ ‵ (fdies items-ty l₄) ∷ ‵ (fat full_share S'.mir l₃ 0 (sessionVal s)) ∷ ‵ (fdies S'.mir l₃) ∷ ‵ (fat full_share stable-ty l₂ 0 v₁) ∷ ‵ (fdies stable-ty l₂)
-        ∷ ‵ (fat full_share working-ty l₁ 0 v₀) ∷ ‵ (fdies working-ty l₁) ∷ ‵ (froom B'.mir l₀ 0) ∷ ‵ (fdies B'.mir l₀) ∷ []
+        ∷ ‵ (fat full_share items_ty l₄ 0 v₂) ∷ ‵ (fdies items_ty l₄) ∷ ‵ (fat full_share S'.mir l₃ 0 (session_val s)) ∷ ‵ (fdies S'.mir l₃) ∷ ‵ (fat full_share stable_ty l₂ 0 v₁) ∷ ‵ (fdies stable_ty l₂)
+        ∷ ‵ (fat full_share working_ty l₁ 0 v₀) ∷ ‵ (fdies working_ty l₁) ∷ ‵ (froom B'.mir l₀ 0) ∷ ‵ (fdies B'.mir l₀) ∷ []
 
     -- what a turn begins with
     abbrev Ctx : Left → List (Had 𝓤)
-    Ctx p = Has (p.1.before ++ p.0) p.1.m.working (‵ (froom (slice_ty lent-ty) l₉ 0)) (‵ (froom lent-ty l₈ 0)) (‵ (fat full_share word l₆ 0 (vint w64 (length p.1.before)))) (‵ (fat full_share B'.mir l₅ 0 (made_val p.1.m.made)))
+    Ctx p = Has (p.1.before ++ p.0) p.1.m.working (‵ (froom (slice_ty lent_ty) l₉ 0)) (‵ (froom lent_ty l₈ 0)) (‵ (fat full_share word l₆ 0 (vint w64 (length p.1.before)))) (‵ (fat full_share B'.mir l₅ 0 (made_val p.1.m.made)))
 
     -- a turn's postcondition: it ends with fewer items left, or the loop is left and the rest of the body runs
     abbrev After : Left → Out → SProp 𝓤
@@ -245,14 +245,14 @@ module _ {M : Type 1} {𝓤 : Ura M} (𝓛 : Logic 𝓤) (mem : Memory → SProp
         assigns ! (bin ! (load ! (from ! (stop !)) (look ! 28 refl)) (load ! (from ! (stop !)) (look ! 20 refl)) tt) (from ! (stop !)) (init ! 18 refl (tt, tt)) $
         rewrite ! 18 (λ (z : Bool). ‵ (fat full_share ty_bool l₁₁ 0 (vbool z))) over refl $
         leaves_loop ! (load ! (from ! (stop !)) (look ! 18 refl)) $ exec ! C Λ En parts.t-6 (at_ret En Post) $
-        assigns ! (of_opd ! (load ! (from ! (stop !)) (look ! 30 refl))) (from ! (stop !)) (init ! 40 refl (made-typed 𝓛 p.m.made _ p.made-is)) $
+        assigns ! (of_opd ! (load ! (from ! (stop !)) (look ! 30 refl))) (from ! (stop !)) (init ! 40 refl (made_typed 𝓛 p.m.made _ p.made-is)) $
         closes_slice ! tt I.the_row xs (p.before ++ []) p.size b₂ o₂ $
         -- [obs; the borrow; its token; working; its token; stable; its token; the locals]
         returns ! (look ! 39 refl) $ forget ! 17 refl $ forget ! 19 refl $ forget ! 27 refl $ forget ! 29 refl $ forget ! 31 refl $ forget ! 33 refl $ forget ! 35 refl $ forget ! 37 refl $ forget ! 39 refl $
         move ! (39 ∷ 40 ∷ []) $ free1 ! $ move ! (37 ∷ 38 ∷ []) $ free1 ! $ move ! (35 ∷ 36 ∷ []) $ free1 ! $ move ! (33 ∷ 34 ∷ []) $ free1 ! $ move ! (31 ∷ 32 ∷ []) $ free1 ! $ move ! (29 ∷ 30 ∷ []) $ free1 ! $ move ! (27 ∷ 28 ∷ []) $ free1 ! $ move ! (25 ∷ 26 ∷ []) $ free1 ! $ move ! (23 ∷ 24 ∷ []) $ free1 ! $ move ! (21 ∷ 22 ∷ []) $ free1 ! $ move ! (19 ∷ 20 ∷ []) $ free1 ! $ move ! (17 ∷ 18 ∷ []) $ free1 ! $ move ! (15 ∷ 16 ∷ []) $ free1 ! $ move ! (13 ∷ 14 ∷ []) $ free1 ! $ move ! (11 ∷ 12 ∷ []) $ free1 ! $ move ! (9 ∷ 10 ∷ []) $ free1 ! $ move ! (7 ∷ 8 ∷ []) $ free1 ! $ free0 ! $ by ! (exits p)
       where
         over : ltb (length p.before) (length xs) ≡ false
-        over = not-below (length p.before) (length xs) (at-end p.before ∙ p.size)
+        over = not_below (length p.before) (length xs) (at-end p.before ∙ p.size)
 
     more : (z : Item) (rest : List Item) (p : At (z ∷ rest)) → Sq 𝓛 (Ctx (z ∷ rest, p)) (runs C Λ En parts.turn-1 (any_q (After (z ∷ rest, p))))
     unfolding after_turn
@@ -268,9 +268,9 @@ module _ {M : Type 1} {𝓤 : Ura M} (𝓛 : Logic 𝓤) (mem : Memory → SProp
         assigns ! (bin ! (load ! (from ! (fld ! refl (stop !))) (look_in ! 32 (sub ! 0 refl (whole !)))) (load ! (from ! (stop !)) (look ! 20 refl)) tt) (from ! (stop !)) (init ! 12 refl (tt, tt)) $
         rewrite ! 12 (λ (k : ℕ). ‵ (fat full_share ty_ptr l₁₄ 0 (vptr b₂ k))) (sym (place_is 20 o₂ (length p.before))) refl $
         elem_out ! I.the_row (Is I.the_row) (shows 𝓛 I.the_row) (LL.vals I.the_type I'.the_laws) (LL.tells I.the_type I'.the_laws) full_share (p.before ++ (z ∷ rest)) (length p.before) z b₂ o₂ (here-within p.before z rest) (λ is₀.
-        move ! (1 ∷ []) $ drop ! $ rewrite ! 0 (λ (y : Item). ‵ (cell_at full_share (I.the_row).mir (itemVal y ∷ []) b₂ (place 20 o₂ (length p.before)))) here refl $
+        move ! (1 ∷ []) $ drop ! $ rewrite ! 0 (λ (y : Item). ‵ (cell_at full_share (I.the_row).mir (item_val y ∷ []) b₂ (place 20 o₂ (length p.before)))) here refl $
         -- [xs[i]; the others; the open borrow; obs; auth; working; its token; stable; its token; the locals]
-        assigns ! (of_opd ! (load ! (from ! (hop ! (look ! 13 refl) (stop !))) (look_raw ! 0 refl))) (from ! (stop !)) (init ! 11 refl (item-typed 𝓛 z _ (z-is is₀))) $
+        assigns ! (of_opd ! (load ! (from ! (hop ! (look ! 13 refl) (stop !))) (look_raw ! 0 refl))) (from ! (stop !)) (init ! 11 refl (item_typed 𝓛 z _ (z-is is₀))) $
         -- the call, on the table lent again for a lifetime ν
         lft_new ! tt (λ ν. move ! (6 ∷ 7 ∷ []) $
         use2 𝓛 (later (some (λ (δ : GName). ‵ ((MutSlice (named 0) (ν ∷ []) u8).own_val (lent δ p.m.working) (v₀ ∷ [])) ⊛ ‵ (LentAgain u8 κ₀ (ν ∷ []) q₀ x₀.name x₀.ptr.0 x₀.ptr.1 (length w) δ p.m.working))))
@@ -284,7 +284,7 @@ module _ {M : Type 1} {𝓤 : Ura M} (𝓛 : Logic 𝓤) (mem : Memory → SProp
         split ! $ move ! (1 ∷ []) $ use1 𝓛 (some (λ (ls : List ℕ × (Unit {0} × (Unit {0} × (Unit {0} × Unit {0})))). ‵ (lasts turn.ended (ν ∷ [], (κ₁, tt)) (lent δ p.m.working, (x₁, (p.m.made, (z, tt)))) ls) ⊛ raw (fact 𝓤 (turning r ls.0 ≡ turn_of t p.m z)))) (id⊢ 𝓤 _) $ pick ! (λ ls.
         split ! $ move ! (1 ∷ []) $ heard ! (turning r ls.0 ≡ turn_of t p.m z) (λ e. fsplit ! $ fsplit ! $ move ! (1 ∷ []) $ feq_l ! (λ l.
         move ! (2 ∷ []) $ split ! $ move ! (1 ∷ []) $ peeks ! T.the_row (Is T.the_row) (shows 𝓛 T.the_row) r (v ∷ []) (λ is.
-        land ! (from ! (stop !)) (init ! 29 refl (turned-typed 𝓛 r v is)) $ rewrite ! 29 (λ (u : Val). ‵ (fat full_share T'.mir l₇ 0 u)) (ap only (LL.tells T.the_type T'.the_laws r _ is)) refl $
+        land ! (from ! (stop !)) (init ! 29 refl (turned_typed 𝓛 r v is)) $ rewrite ! 29 (λ (u : Val). ‵ (fat full_share T'.mir l₇ 0 u)) (ap only (LL.tells T.the_type T'.the_laws r _ is)) refl $
         -- the lifetime ends, and the table comes back
         drop ! $ split ! $ lft_end ! tt $ move ! (0 ∷ 5 ∷ 2 ∷ []) $
         use3 𝓛 (later (Working ls.0 ⊛ ‵ (flft κ₀ q₀))) (comes_back u8 κ₀ (ν ∷ []) q₀ x₀.name x₀.ptr.0 x₀.ptr.1 (length w) 𝓛 (named 0) (named 0) p.m.working δ ls.0 room₀ p.kept l) $ await ! tt $ split ! $
@@ -293,10 +293,10 @@ module _ {M : Type 1} {𝓤 : Ura M} (𝓛 : Logic 𝓤) (mem : Memory → SProp
         assigns ! (bin ! (load ! (from ! (stop !)) (look ! 29 refl)) (lit ! tt) (record { fits = bytes_fit })) (from ! (stop !)) (store ! 21 refl (tt, record { fits = bytes_fit })) $
         assigns ! (bin ! (load ! (from ! (fld ! refl (stop !))) (look_in ! 33 (sub ! 0 refl (whole !)))) (load ! (from ! (stop !)) (look ! 21 refl)) tt) (from ! (stop !)) (init ! 9 refl (tt, tt)) $
         rewrite ! 9 (λ (k : ℕ). ‵ (fat full_share ty_ptr l₁₆ 0 (vptr b₂ k))) (sym (place_is 20 o₂ (length p.before))) refl $
-        assigns ! (of_opd ! (load ! (from ! (fld ! refl (stop !))) (look_in ! 27 (sub ! 0 refl (whole !))))) (from ! (hop ! (look ! 9 refl) (stop !))) (store_raw ! 0 refl (item-typed 𝓛 r.item _ (turned-item r v is))) $
-        assigns ! (of_opd ! (load ! (from ! (fld ! refl (stop !))) (look_in ! 27 (sub ! 1 refl (whole !))))) (from ! (stop !)) (store ! 31 refl (made-typed 𝓛 r.made _ (turned-made r v is))) $
+        assigns ! (of_opd ! (load ! (from ! (fld ! refl (stop !))) (look_in ! 27 (sub ! 0 refl (whole !))))) (from ! (hop ! (look ! 9 refl) (stop !))) (store_raw ! 0 refl (item_typed 𝓛 r.item _ (turned-item r v is))) $
+        assigns ! (of_opd ! (load ! (from ! (fld ! refl (stop !))) (look_in ! 27 (sub ! 1 refl (whole !))))) (from ! (stop !)) (store ! 31 refl (made_typed 𝓛 r.made _ (turned-made r v is))) $
         owned ! I.the_row (Is I.the_row) (LL.makes I.the_type I'.the_plain 𝓛) r.item _ (turned-item r v is) $ move ! (1 ∷ 0 ∷ []) $
-        elem_put ! I.the_row full_share (p.before ++ (z ∷ rest)) (length p.before) r.item (itemVal r.item ∷ []) b₂ o₂ (here-within p.before z rest) $
+        elem_put ! I.the_row full_share (p.before ++ (z ∷ rest)) (length p.before) r.item (item_val r.item ∷ []) b₂ o₂ (here-within p.before z rest) $
         rewrite ! 0 (λ (l' : List Item). ‵ (row I.the_row full_share l' b₂ o₂)) (set_here p.before z rest r.item) refl $
         assigns_last ! (bin ! (load ! (from ! (stop !)) (look ! 28 refl)) (lit ! tt) (record { fits = next_fits })) (from ! (stop !)) (store ! 28 refl (tt, record { fits = next_fits })) $
         rewrite ! 28 (λ (k : ℕ). ‵ (fat full_share word l₆ 0 (vint w64 k))) (one_further p.before r.item) refl $
@@ -324,10 +324,10 @@ module _ {M : Type 1} {𝓤 : Ura M} (𝓛 : Logic 𝓤) (mem : Memory → SProp
         }
 
         here : get_or (p.before ++ (z ∷ rest)) (length p.before) z ≡ z
-        here = getD-here p.before z rest z
+        here = get_d_here p.before z rest z
 
-        z-is : Is I.the_row (get_or (p.before ++ (z ∷ rest)) (length p.before) z) (itemVal (get_or (p.before ++ (z ∷ rest)) (length p.before) z) ∷ []) → Is I.the_row z (itemVal z ∷ [])
-        z-is is = subst (λ (y : Item). Is I.the_row y (itemVal y ∷ [])) here is
+        z-is : Is I.the_row (get_or (p.before ++ (z ∷ rest)) (length p.before) z) (item_val (get_or (p.before ++ (z ∷ rest)) (length p.before) z) ∷ []) → Is I.the_row z (item_val z ∷ [])
+        z-is is = subst (λ (y : Item). Is I.the_row y (item_val y ∷ [])) here is
 
     at_rest : (rest : List Item) (p : At rest) → Sq 𝓛 (Ctx (rest, p)) (runs C Λ En parts.turn-1 (any_q (After (rest, p))))
     at_rest [] p = ends p
@@ -349,13 +349,13 @@ module _ {M : Type 1} {𝓤 : Ura M} (𝓛 : Logic 𝓤) (mem : Memory → SProp
       made-is = is;
     }
 
-    into-loop : (p : At xs) → p.before ≡ [] → Sq 𝓛 (Has xs p.m.working (‵ (fat full_share (slice_ty lent-ty) l₉ 0 v₀)) (‵ (fat full_share lent-ty l₈ 0 (vptr x₀.ptr.0 x₀.ptr.1))) (‵ (froom word l₆ 0)) (‵ (fat full_share B'.mir l₅ 0 (made_val p.m.made)))) (runs C Λ En parts.t-4 (at_ret En Post))
+    into-loop : (p : At xs) → p.before ≡ [] → Sq 𝓛 (Has xs p.m.working (‵ (fat full_share (slice_ty lent_ty) l₉ 0 v₀)) (‵ (fat full_share lent_ty l₈ 0 (vptr x₀.ptr.0 x₀.ptr.1))) (‵ (froom word l₆ 0)) (‵ (fat full_share B'.mir l₅ 0 (made_val p.m.made)))) (runs C Λ En parts.t-4 (at_ret En Post))
     into-loop p e =
         assigns ! (of_opd ! (lit ! tt)) (from ! (stop !)) (init ! 28 refl (tt, record { fits = lit< tt })) $ forget ! 22 refl $ forget ! 24 refl $
         rewrite ! 0 (λ (ys : List Item). ‵ (row I.the_row full_share (ys ++ xs) b₂ o₂)) (sym e) refl $ rewrite ! 28 (λ (ys : List Item). ‵ (fat full_share word l₆ 0 (vint w64 (length ys)))) (sym e) refl $
         first ! $ blocks ! $ loops ! 𝓣 Nearer Nearer-wf Ctx turns (xs, p)
 
-    from-call : Sq 𝓛 (Has xs w (‵ (fat full_share (slice_ty lent-ty) l₉ 0 v₀)) (‵ (fat full_share lent-ty l₈ 0 (vptr x₀.ptr.0 x₀.ptr.1))) (‵ (froom word l₆ 0)) (‵ (froom B'.mir l₅ 0))) (runs C Λ En parts.t-3 (at_ret En Post))
+    from-call : Sq 𝓛 (Has xs w (‵ (fat full_share (slice_ty lent_ty) l₉ 0 v₀)) (‵ (fat full_share lent_ty l₈ 0 (vptr x₀.ptr.0 x₀.ptr.1))) (‵ (froom word l₆ 0)) (‵ (froom B'.mir l₅ 0))) (runs C Λ En parts.t-3 (at_ret En Post))
     from-call =
         -- the call, on the table lent again for a lifetime ν
         lft_new ! tt (λ ν. move ! (5 ∷ 6 ∷ []) $
@@ -369,7 +369,7 @@ module _ {M : Type 1} {𝓤 : Ura M} (𝓛 : Logic 𝓤) (mem : Memory → SProp
         split ! $ move ! (1 ∷ []) $ use1 𝓛 (some (λ (ls : List ℕ × (Unit {0} × (Unit {0} × Unit {0}))). ‵ (lasts begin.ended (ν ∷ [], (κ₁, tt)) (lent δ w, (x₁, (s, tt))) ls) ⊛ raw (fact 𝓤 (running r ls.0 ≡ begun w t s)))) (id⊢ 𝓤 _) $ pick ! (λ ls.
         split ! $ move ! (1 ∷ []) $ heard ! (running r ls.0 ≡ begun w t s) (λ e. fsplit ! $ fsplit ! $ move ! (1 ∷ []) $ feq_l ! (λ l.
         move ! (2 ∷ []) $ split ! $ move ! (1 ∷ []) $ peeks ! B.the_row (Is B.the_row) (shows 𝓛 B.the_row) r (v ∷ []) (λ is.
-        land ! (from ! (stop !)) (init ! 32 refl (made-typed 𝓛 r v is)) $ rewrite ! 32 (λ (u : Val). ‵ (fat full_share B'.mir l₅ 0 u)) (ap only (LL.tells B.the_type B'.the_laws r _ is)) refl $
+        land ! (from ! (stop !)) (init ! 32 refl (made_typed 𝓛 r v is)) $ rewrite ! 32 (λ (u : Val). ‵ (fat full_share B'.mir l₅ 0 u)) (ap only (LL.tells B.the_type B'.the_laws r _ is)) refl $
         -- the lifetime ends, and the table comes back
         drop ! $ split ! $ lft_end ! tt $ move ! (0 ∷ 5 ∷ 2 ∷ []) $
         use3 𝓛 (later (Working ls.0 ⊛ ‵ (flft κ₀ q₀))) (comes_back u8 κ₀ (ν ∷ []) q₀ x₀.name x₀.ptr.0 x₀.ptr.1 (length w) 𝓛 (named 0) (named 0) w δ ls.0 room₀ refl l) $ await ! tt $ split ! $
@@ -377,11 +377,11 @@ module _ {M : Type 1} {𝓤 : Ura M} (𝓛 : Logic 𝓤) (mem : Memory → SProp
         into-loop (start r ls.0 e l (subst (λ (vs : List Val). Is B.the_row r vs) (LL.tells B.the_type B'.the_laws r _ is) is)) refl))))))))
 
   module _ (𝓣 : Tables 𝓤 H) (fm : FmC 𝓤 H 𝓛.laws 𝓣.C) (known-begin : Triple 𝓤 (𝓣.C #batch·begin) (Begin 𝓛 mem run)) (known-turn : Triple 𝓤 (𝓣.C #batch·turn) (Turn 𝓛 mem run)) where
-    walk : ent 𝓤 (on_entry 𝓛 batch.signature (κ₀, (κ₁, (κ₂, tt))) (q₀, (q₁, (q₂, tt))) a vals) (WpFn 𝓤 H 𝓣.C 𝓣.Λ code.function (v₀ ∷ v₁ ∷ sessionVal s ∷ v₂ ∷ []) Post)
+    walk : ent 𝓤 (on_entry 𝓛 batch.signature (κ₀, (κ₁, (κ₂, tt))) (q₀, (q₁, (q₂, tt))) a vals) (WpFn 𝓤 H 𝓣.C 𝓣.Λ code.function (v₀ ∷ v₁ ∷ session_val s ∷ v₂ ∷ []) Post)
     walk =
-        qed 𝓛 ((‵ (flft κ₀ q₀) ⊛ ‵ (flft κ₁ q₁) ⊛ ‵ (flft κ₂ q₂) ⊛ ‵ ftrue) ∷ ‵ (owns (MutSlice (named 0) κ₀ u8 ∷ ShrSlice (named 1) κ₁ u8 ∷ S.the_row ∷ MutSlice (named 2) κ₂ I.the_row ∷ []) a vals) ∷ []) ∵ enter ! 𝓣.C 𝓣.Λ code.function (v₀ ∷ v₁ ∷ sessionVal s ∷ v₂ ∷ []) _ $
+        qed 𝓛 ((‵ (flft κ₀ q₀) ⊛ ‵ (flft κ₁ q₁) ⊛ ‵ (flft κ₂ q₂) ⊛ ‵ ftrue) ∷ ‵ (owns (MutSlice (named 0) κ₀ u8 ∷ ShrSlice (named 1) κ₁ u8 ∷ S.the_row ∷ MutSlice (named 2) κ₂ I.the_row ∷ []) a vals) ∷ []) ∵ enter ! 𝓣.C 𝓣.Λ code.function (v₀ ∷ v₁ ∷ session_val s ∷ v₂ ∷ []) _ $
         alloc1 ! (λ l₀. alloc1 ! (λ l₁. alloc1 ! (λ l₂. alloc1 ! (λ l₃. alloc1 ! (λ l₄. alloc1 ! (λ l₅. alloc1 ! (λ l₆. alloc1 ! (λ l₇. alloc1 ! (λ l₈. alloc1 ! (λ l₉. alloc1 ! (λ l₁₀. alloc1 ! (λ l₁₁. alloc1 ! (λ l₁₂. alloc1 ! (λ l₁₃. alloc1 ! (λ l₁₄. alloc1 ! (λ l₁₅. alloc1 ! (λ l₁₆. alloc0 ! $ params1 ! $
-        pass1 ! (init ! 30 refl (tt, (tt, (record { fits = room₀.0 }, tt)))) $ pass1 ! (init ! 28 refl (tt, (tt, (record { fits = room₁.0 }, tt)))) $ pass1 ! (init ! 26 refl (session-typed 𝓛 s _ s-is)) $ pass1 ! (init ! 24 refl (tt, (tt, (record { fits = room₂.0 }, tt)))) $ pass0 ! $
+        pass1 ! (init ! 30 refl (tt, (tt, (record { fits = room₀.0 }, tt)))) $ pass1 ! (init ! 28 refl (tt, (tt, (record { fits = room₁.0 }, tt)))) $ pass1 ! (init ! 26 refl (session_typed 𝓛 s _ s-is)) $ pass1 ! (init ! 24 refl (tt, (tt, (record { fits = room₂.0 }, tt)))) $ pass0 ! $
         assigns ! (addr ! (from ! (fld ! refl (hop ! (look_in ! 30 (sub ! 0 refl (whole !))) (stop !))))) (from ! (stop !)) (init ! 16 refl (tt, tt)) $
         assigns ! (agg ! (and_then ! (load ! (from ! (stop !)) (look ! 16 refl)) (and_then ! (load ! (from ! (fld ! refl (stop !))) (look_in ! 30 (sub ! 1 refl (whole !)))) (no_more !)))) (from ! (stop !)) (init ! 14 refl (tt, (tt, (record { fits = room₀.0 }, tt)))) $
         -- what is owned is taken apart: [the three tokens; items; stable; working; the locals]

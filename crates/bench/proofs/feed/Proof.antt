@@ -2,7 +2,7 @@
 use mathlib.Core.Path.{◌≡◌, refl, sym, ap, ◌∙◌}
 use Prim.Native.Nat.{◌-◌, ◌+◌, ◌≤◌}
 use lib.ListN.{length, drop, get_or}
-use Rattle.driver.specs.Acts.{benchBytes}
+use Rattle.driver.specs.Acts.{bench_bytes}
 use Rattle.bench.specs.Runs.{stand, run}
 use Rattle.bench.proofs.Running.{step_after, run-next, run_end}
 use borrow.Author.Rules.{rules}
@@ -11,7 +11,7 @@ use Rattle.bench.proofs.feed.Statement.{statement}
 use Rattle.bench.proofs.feed.Tie as tie
 
 abbrev invariant-loop : tie.invariant-loop
-invariant-loop input working₀ stable₀ m₀ i₀ working stable m i = (i ≤ length input) × (length working ≡ benchBytes) × (length stable ≡ benchBytes) × (run (drop i input) (stand m working stable) ≡ run input (stand m₀ working₀ stable₀))
+invariant-loop input working₀ stable₀ m₀ i₀ working stable m i = (i ≤ length input) × (length working ≡ bench_bytes) × (length stable ≡ bench_bytes) × (run (drop i input) (stand m working stable) ≡ run input (stand m₀ working₀ stable₀))
 
 abbrev decreases-loop : tie.decreases-loop
 decreases-loop input working₀ stable₀ m₀ i₀ working stable m i = length input - i

@@ -1,5 +1,5 @@
 -- `bench::print` meets its contract. Assumes nothing.
-use Rattle.words.specs.Words.{answerLine}
+use Rattle.words.specs.Words.{answer_line}
 use Rattle.words.proofs.Texts.{shown-within, shown-length}
 use borrow.Author.Rules.{rules}
 use Rattle.bench.proofs.print.Statement.{statement}
@@ -10,11 +10,11 @@ spell-requires c κs = search rules
 
 array-share-prefix-bytes : tie.Need-array-share-prefix-bytes
 array-share-prefix-bytes c =
-    rw c.before.spell.ensures (shown-within (answerLine c.before.before.args.reply))
+    rw c.before.spell.ensures (shown-within (answer_line c.before.before.args.reply))
 
 slice-aggregate-write-all : tie.Need-slice-aggregate-write-all
 slice-aggregate-write-all c =
-    rw c.before.before.spell.ensures (shown-length (answerLine c.before.before.before.args.reply))
+    rw c.before.before.spell.ensures (shown-length (answer_line c.before.before.before.args.reply))
 
 write-all-requires : tie.Need-write-all-requires
 write-all-requires c κs = search rules

@@ -1,14 +1,14 @@
 -- `bench::serve` meets its contract. Assumes nothing.
 use mathlib.Core.Path.{◌≡◌, sym, ◌∙◌}
 use lib.ListN.{length}
-use Rattle.driver.specs.Acts.{benchBytes}
+use Rattle.driver.specs.Acts.{bench_bytes}
 use borrow.Author.Rules.{rules}
 use native.Mathlib.Omega.{arith}
 use Rattle.bench.proofs.serve.Statement.{statement}
 use Rattle.bench.proofs.serve.Tie as tie
 
 abbrev invariant-loop : tie.invariant-loop
-invariant-loop working₀ stable₀ m₀ turns₀ working stable m turns = (length working ≡ benchBytes) × (length stable ≡ benchBytes)
+invariant-loop working₀ stable₀ m₀ turns₀ working stable m turns = (length working ≡ bench_bytes) × (length stable ≡ bench_bytes)
 
 abbrev decreases-loop : tie.decreases-loop
 decreases-loop working₀ stable₀ m₀ turns₀ working stable m turns = turns

@@ -1,11 +1,11 @@
 -- `build::build_lower`: the lower half is the range from 0 up to the half (Halves).
 -- Assumes nothing.
-use Rattle.rules.specs.Page.{pageIn}
-use Rattle.rules.specs.Table.{pageAt, read}
-use Rattle.rules.specs.Insert.{lowerPage}
-use Rattle.rules.proofs.bytes.Pages.{count-viewIn}
-use Rattle.entries.proofs.Part.{leAt-page}
-use Rattle.build.proofs.Halves.{lower-half, half-below}
+use Rattle.rules.specs.Page.{page_in}
+use Rattle.rules.specs.Table.{page_at, read}
+use Rattle.rules.specs.Insert.{lower_page}
+use Rattle.rules.proofs.Bytes.Pages.{count-view_in}
+use Rattle.entries.proofs.Part.{le_at-page}
+use Rattle.build.proofs.Halves.{lower_half_lem, half_below}
 use native.Mathlib.Omega.{arith}
 use borrow.Author.Rules.{rules}
 use Rattle.build.proofs.build_lower.Statement.{statement}
@@ -39,21 +39,21 @@ sub-high : tie.Need-overflow-sub-high
 sub-high c = search rules
 
 build-range-requires : tie.Need-build-range-requires
-unfolding read pageIn
+unfolding read page_in
 build-range-requires c κs =
     let a = c.before.before.before.before.before.before.before.before.before.args in
     let pre = c.before.before.before.before.before.before.before.before.before.requires in
     let half_of_lem = c.before.before.before.before.before.half_of_lem in
     let get16 = c.before.before.before.before.before.before.get16 in
-    let b = pageAt a.table.now a.from in
-    let on = leAt-page a.table.now a.from in
-    (pre.0, (pre.1.roomy, (omega arith, rw (half_of_lem.ensures, get16.ensures, ← on 0 2 (omega arith), count-viewIn b) (omega (arith, half-below b pre.1)))))
+    let b = page_at a.table.now a.from in
+    let on = le_at-page a.table.now a.from in
+    (pre.0, (pre.1.roomy, (omega arith, rw (half_of_lem.ensures, get16.ensures, ← on 0 2 (omega arith), count-view_in b) (omega (arith, half_below b pre.1)))))
 
 same_length : tie.Need-same-length
 same_length c = search rules
 
 returns : tie.Need-returns
-unfolding lowerPage read pageIn
+unfolding lower_page read page_in
 returns c =
     let a = c.before.before.before.before.before.before.before.before.before.before.before.before.args in
     let build-range = c.before.before.build-range in
@@ -62,9 +62,9 @@ returns c =
     let half_of_lem = c.before.before.before.before.before.before.before.before.half_of_lem in
     let get16 = c.before.before.before.before.before.before.before.before.before.get16 in
     let pre = c.before.before.before.before.before.before.before.before.before.before.before.before.requires in
-    let b = pageAt a.table.now a.from in
-    let on = leAt-page a.table.now a.from in
-    rw (build-range.ensures, get64.ensures, middle-at.ensures, half_of_lem.ensures, get16.ensures, ← on 0 2 (omega arith), ← on 16 8 (omega arith), lower-half b (half-below b pre.1))
+    let b = page_at a.table.now a.from in
+    let on = le_at-page a.table.now a.from in
+    rw (build-range.ensures, get64.ensures, middle-at.ensures, half_of_lem.ensures, get16.ensures, ← on 0 2 (omega arith), ← on 16 8 (omega arith), lower_half_lem b (half_below b pre.1))
 
 pub build-lower-spec : {M : Type 1} → statement M
 build-lower-spec =

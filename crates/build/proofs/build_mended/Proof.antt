@@ -1,11 +1,11 @@
 -- `build::build_mended`: where keys rise, the entries in a range of keys are a run of the previous page (Cuts).
 -- Assumes nothing.
-use Rattle.rules.specs.Page.{pageIn}
+use Rattle.rules.specs.Page.{page_in}
 use Rattle.rules.specs.Place.{mended}
-use Rattle.rules.specs.Table.{pageAt, read}
-use Rattle.rules.proofs.bytes.Tables.{length-pageAt}
-use Rattle.entries.proofs.Part.{page-part}
-use Rattle.build.proofs.Cuts.{cut-view, start-count, spot-count}
+use Rattle.rules.specs.Table.{page_at, read}
+use Rattle.rules.proofs.Bytes.Tables.{length-page_at}
+use Rattle.entries.proofs.Part.{page_part}
+use Rattle.build.proofs.Cuts.{cut_view_lem, start-count, spot-count}
 use native.Mathlib.Omega.{arith}
 use borrow.Author.Rules.{rules}
 use Rattle.build.proofs.build_mended.Statement.{statement}
@@ -30,12 +30,12 @@ part-run-in-end : tie.Need-slice-bounds-run-in-end
 part-run-in-end c = search rules
 
 run-in-requires : tie.Need-run-in-requires
-unfolding read pageIn
+unfolding read page_in
 run-in-requires c κs =
     let a = c.before.before.before.before.args in
     let pre = c.before.before.before.before.requires in
-    rw (page-part a.table.now a.e.previous) (
-      length-pageAt a.table.now a.e.previous
+    rw (page_part a.table.now a.e.previous) (
+      length-page_at a.table.now a.e.previous
           (omega arith),
       pre.1.roomy,
     )
@@ -47,19 +47,19 @@ cast-build-range-2 : tie.Need-overflow-cast-build-range-2
 cast-build-range-2 c = search rules
 
 build-range-requires : tie.Need-build-range-requires
-unfolding read pageIn
+unfolding read page_in
 build-range-requires c κs =
     let run_in = c.before.before.before.run_in in
     let a = c.before.before.before.before.before.before.before.before.args in
     let pre = c.before.before.before.before.before.before.before.before.requires in
-    rw (run_in.ensures.0, run_in.ensures.1, page-part a.table.now a.e.previous)
-    ((omega arith, omega arith), (pre.1.roomy, (start-count (pageAt a.table.now a.e.previous) a.e.low, spot-count (pageAt a.table.now a.e.previous) a.e.high)))
+    rw (run_in.ensures.0, run_in.ensures.1, page_part a.table.now a.e.previous)
+    ((omega arith, omega arith), (pre.1.roomy, (start-count (page_at a.table.now a.e.previous) a.e.low, spot-count (page_at a.table.now a.e.previous) a.e.high)))
 
 same_length : tie.Need-same-length
 same_length c = search rules
 
 returns : tie.Need-returns
-unfolding read pageIn mended
+unfolding read page_in mended
 returns c =
     let build-range = c.before.before.build-range in
     let run_in = c.before.before.before.before.before.before.run_in in
@@ -69,8 +69,8 @@ returns c =
       build-range.ensures,
       run_in.ensures.0,
       run_in.ensures.1,
-      page-part a.table.now a.e.previous,
-      cut-view (pageAt a.table.now a.e.previous) a.e.low a.e.high
+      page_part a.table.now a.e.previous,
+      cut_view_lem (page_at a.table.now a.e.previous) a.e.low a.e.high
           pre.1,
     )
 

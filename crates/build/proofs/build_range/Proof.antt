@@ -1,6 +1,6 @@
 -- `build::build_range`: entries copied, zeros behind them, the header over them (Built).
 -- Assumes nothing.
-use Rattle.build.proofs.Built.{ranged, ranged-fits, range-built}
+use Rattle.build.proofs.Built.{ranged, ranged_fits, range-built}
 use native.Mathlib.Omega.{arith}
 use borrow.Author.Rules.{rules}
 use Rattle.build.proofs.build_range.Statement.{statement}
@@ -34,7 +34,7 @@ mul-len c =
     let pre = c.before.before.before.before.before.before.requires in
     let r = ranged a.table.now a.to a.from a.first a.past
     get16.result header-size.result type_size.result span.result pre get16.ensures header-size.ensures type_size.ensures span.ensures in
-    omega (arith, ranged-fits r)
+    omega (arith, ranged_fits r)
 
 mul_at : tie.Need-overflow-mul-at
 mul_at c = search rules
@@ -49,7 +49,7 @@ add-copy c =
     let pre = c.before.before.before.before.before.before.before.requires in
     let r = ranged a.table.now a.to a.from a.first a.past
     get16.result header-size.result type_size.result span.result pre get16.ensures header-size.ensures type_size.ensures span.ensures in
-    omega (arith, ranged-fits r)
+    omega (arith, ranged_fits r)
 
 mul-copy : tie.Need-overflow-mul-copy
 mul-copy c = search rules
@@ -64,7 +64,7 @@ add-copy-2 c =
     let pre = c.before.before.before.before.before.before.before.requires in
     let r = ranged a.table.now a.to a.from a.first a.past
     get16.result header-size.result type_size.result span.result pre get16.ensures header-size.ensures type_size.ensures span.ensures in
-    omega (arith, ranged-fits r)
+    omega (arith, ranged_fits r)
 
 mul-copy-2 : tie.Need-overflow-mul-copy-2
 mul-copy-2 c =
@@ -76,7 +76,7 @@ mul-copy-2 c =
     let pre = c.before.before.before.before.before.before.before.requires in
     let r = ranged a.table.now a.to a.from a.first a.past
     get16.result header-size.result type_size.result span.result pre get16.ensures header-size.ensures type_size.ensures span.ensures in
-    omega (arith, ranged-fits r)
+    omega (arith, ranged_fits r)
 
 add-copy-3 : tie.Need-overflow-add-copy-3
 add-copy-3 c =
@@ -88,7 +88,7 @@ add-copy-3 c =
     let pre = c.before.before.before.before.before.before.before.requires in
     let r = ranged a.table.now a.to a.from a.first a.past
     get16.result header-size.result type_size.result span.result pre get16.ensures header-size.ensures type_size.ensures span.ensures in
-    omega (arith, ranged-fits r)
+    omega (arith, ranged_fits r)
 
 copy-requires : tie.Need-copy-requires
 copy-requires c κs =
@@ -100,7 +100,7 @@ copy-requires c κs =
     let pre = c.before.before.before.before.before.before.before.requires in
     let r = ranged a.table.now a.to a.from a.first a.past
     get16.result header-size.result type_size.result span.result pre get16.ensures header-size.ensures type_size.ensures span.ensures in
-    let f = ranged-fits r in
+    let f = ranged_fits r in
     (omega (arith, f, r), (omega (arith, f, r), λ earlier. omega (arith, f, r)))
 
 add-clear : tie.Need-overflow-add-clear
@@ -113,7 +113,7 @@ add-clear c =
     let pre = c.before.before.before.before.before.before.before.before.before.before.before.requires in
     let r = ranged a.table.now a.to a.from a.first a.past
     get16.result header-size.result type_size.result span.result pre get16.ensures header-size.ensures type_size.ensures span.ensures in
-    omega (arith, ranged-fits r)
+    omega (arith, ranged_fits r)
 
 add-clear-2 : tie.Need-overflow-add-clear-2
 add-clear-2 c =
@@ -125,7 +125,7 @@ add-clear-2 c =
     let pre = c.before.before.before.before.before.before.before.before.before.before.before.requires in
     let r = ranged a.table.now a.to a.from a.first a.past
     get16.result header-size.result type_size.result span.result pre get16.ensures header-size.ensures type_size.ensures span.ensures in
-    omega (arith, ranged-fits r)
+    omega (arith, ranged_fits r)
 
 add-clear-3 : tie.Need-overflow-add-clear-3
 add-clear-3 c = search rules
@@ -140,7 +140,7 @@ clear-requires c κs =
     let pre = c.before.before.before.before.before.before.before.before.before.before.before.requires in
     let r = ranged a.table.now a.to a.from a.first a.past
     get16.result header-size.result type_size.result span.result pre get16.ensures header-size.ensures type_size.ensures span.ensures in
-    let f = ranged-fits r in
+    let f = ranged_fits r in
     (omega (arith, f), search rules)
 
 cast-header : tie.Need-overflow-cast-header
@@ -153,7 +153,7 @@ cast-header c =
     let pre = c.before.before.before.before.before.before.before.before.before.before.before.before.before.before.before.requires in
     let r = ranged a.table.now a.to a.from a.first a.past
     get16.result header-size.result type_size.result span.result pre get16.ensures header-size.ensures type_size.ensures span.ensures in
-    omega (arith, ranged-fits r)
+    omega (arith, ranged_fits r)
 
 header-requires : tie.Need-header-requires
 header-requires c κs = search rules

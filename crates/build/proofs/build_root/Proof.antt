@@ -1,6 +1,6 @@
 -- `build::build_root`: one entry, zeros behind it, the header over it (Built).
 -- Assumes nothing.
-use Rattle.rules.specs.Insert.{newChild}
+use Rattle.rules.specs.Insert.{new_child}
 use Rattle.build.proofs.Built.{root-built}
 use borrow.Author.Rules.{rules}
 use Rattle.build.proofs.build_root.Statement.{statement}
@@ -40,7 +40,7 @@ returns c =
     let write-child = c.before.before.before.before.before.before.before.before.before.before.write-child in
     let a = c.before.before.before.before.before.before.before.before.before.before.before.before.before.args in
     let pre = c.before.before.before.before.before.before.before.before.before.before.before.before.before.requires in
-    rw (header.ensures, clear.ensures, write-child.ensures) (root-built a.table.now a.to a.kind a.c (newChild a.birth a.key a.child a.previous) pre.0 pre.1)
+    rw (header.ensures, clear.ensures, write-child.ensures) (root-built a.table.now a.to a.kind a.c (new_child a.birth a.key a.child a.previous) pre.0 pre.1)
 
 pub build-root-spec : {M : Type 1} → statement M
 build-root-spec =

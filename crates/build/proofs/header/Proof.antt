@@ -1,6 +1,6 @@
 -- `build::header`: the seven fields of the header, one after the other.
 -- Assumes nothing.
-use Rattle.build.specs.Range.{headerOf}
+use Rattle.build.specs.Range.{header_of}
 use Rattle.entries.proofs.Header.{header_at}
 use mathlib.Core.Path.{sym}
 use borrow.Author.Rules.{rules}
@@ -53,7 +53,7 @@ same_length : tie.Need-same-length
 same_length c = search rules
 
 returns : tie.Need-returns
-unfolding headerOf
+unfolding header_of
 returns c =
     let put642 = c.before.before.put642 in
     let put64 = c.before.before.before.before.before.before.put64 in

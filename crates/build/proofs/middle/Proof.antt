@@ -1,7 +1,7 @@
 -- `build::middle`: the key that divides a page stands at the index of its half (Halves).
 -- Assumes nothing.
 use mathlib.Core.Path.{sym}
-use Rattle.build.proofs.Halves.{middle-fits, divide-at, half-below}
+use Rattle.build.proofs.Halves.{middle-fits, divide-at, half_below}
 use native.Mathlib.Omega.{arith}
 use borrow.Author.Rules.{rules}
 use Rattle.build.proofs.middle.Statement.{statement}
@@ -60,7 +60,7 @@ returns c =
     let a = c.before.before.before.before.before.before.args in
     let pre = c.before.before.before.before.before.before.requires in
     rw (c.get64.ensures, header-size.ensures, type_size.ensures, c.before.half_of_lem.ensures, get16.ensures)
-    (sym (divide-at a.page.now (half-below a.page.now pre.1)))
+    (sym (divide-at a.page.now (half_below a.page.now pre.1)))
 
 pub middle-spec : {M : Type 1} → statement M
 middle-spec =

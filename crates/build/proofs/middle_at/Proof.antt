@@ -1,9 +1,9 @@
 -- `build::middle_at`: the page's part, read.
 -- Assumes nothing.
-use Rattle.rules.specs.Page.{pageIn}
+use Rattle.rules.specs.Page.{page_in}
 use Rattle.rules.specs.Table.{read}
-use Rattle.rules.proofs.bytes.Tables.{length-pageAt}
-use Rattle.entries.proofs.Part.{page-part}
+use Rattle.rules.proofs.Bytes.Tables.{length-page_at}
+use Rattle.entries.proofs.Part.{page_part}
 use native.Mathlib.Omega.{arith}
 use borrow.Author.Rules.{rules}
 use Rattle.build.proofs.middle_at.Statement.{statement}
@@ -25,17 +25,17 @@ part-middle-end : tie.Need-slice-bounds-middle-end
 part-middle-end c = search rules
 
 middle-requires : tie.Need-middle-requires
-unfolding read pageIn
+unfolding read page_in
 middle-requires c κs =
     let a = c.before.before.args in
-    rw (page-part a.table.now a.i)
-    (length-pageAt a.table.now a.i (omega arith), c.before.before.requires.1)
+    rw (page_part a.table.now a.i)
+    (length-page_at a.table.now a.i (omega arith), c.before.before.requires.1)
 
 returns : tie.Need-returns
-unfolding read pageIn
+unfolding read page_in
 returns c =
     let a = c.before.before.before.args in
-    rw (c.middle.ensures, page-part a.table.now a.i)
+    rw (c.middle.ensures, page_part a.table.now a.i)
 
 pub middle-at-spec : {M : Type 1} → statement M
 middle-at-spec =

@@ -1,6 +1,6 @@
 -- `build::run_in`: the run is found by two searches.
 -- Assumes nothing.
-use Rattle.fields.specs.Field.{leAt}
+use Rattle.fields.specs.Field.{le_at}
 use Rattle.build.proofs.Built.{entries_fit}
 use Rattle.build.proofs.Halves.{size-bound}
 use native.Mathlib.Omega.{arith}
@@ -31,7 +31,7 @@ start-requires c κs =
     let a = c.before.before.before.before.before.args in
     let pre = c.before.before.before.before.before.requires in
     rw (header-size.ensures, type_size.ensures, get16.ensures, c.get162.ensures) (
-      omega (arith, size-bound (leAt a.page.now 0 2)),
+      omega (arith, size-bound (le_at a.page.now 0 2)),
       omega (
         arith,
         pre.0,
@@ -49,7 +49,7 @@ spot-requires c κs =
     let a = c.before.before.before.before.before.before.args in
     let pre = c.before.before.before.before.before.before.requires in
     rw (header-size.ensures, type_size.ensures, get16.ensures, get162.ensures) (
-      omega (arith, size-bound (leAt a.page.now 0 2)),
+      omega (arith, size-bound (le_at a.page.now 0 2)),
       omega (
         arith,
         pre.0,

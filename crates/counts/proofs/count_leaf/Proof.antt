@@ -1,17 +1,17 @@
 -- `counts::count_leaf`: at each turn the tally and the certificates left come to what all come to. Assumes nothing.
 use Prim.Native.Nat.{◌+◌, ◌-◌, ◌≤◌}
 use mathlib.Core.Path.{◌≡◌, refl, sym, subst, ◌∙◌}
-use Rattle.rules.specs.Table.{pageAt}
+use Rattle.rules.specs.Table.{page_at}
 use Rattle.counts.specs.Tally.{Few}
 use Rattle.counts.specs.declared.Tally.{Tally}
-use Rattle.counts.proofs.Tallies.{in-few, in-most, counts, counts-turn, counts_end, counts_start}
+use Rattle.counts.proofs.Tallies.{in_few, in_most, counts, counts-turn, counts_end, counts_start}
 use borrow.Author.Rules.{rules}
 use native.Mathlib.Omega.{arith}
 use Rattle.counts.proofs.count_leaf.Statement.{statement}
 use Rattle.counts.proofs.count_leaf.Tie as tie
 
 abbrev invariant-loop : tie.invariant-loop
-invariant-loop table page entries low high t₀ j₀ t j = (j ≤ entries) × Few t × (t.certs ≤ t₀.certs + j) × (counts low high (pageAt table page) entries j t ≡ counts low high (pageAt table page) entries 0 t₀)
+invariant-loop table page entries low high t₀ j₀ t j = (j ≤ entries) × Few t × (t.certs ≤ t₀.certs + j) × (counts low high (page_at table page) entries j t ≡ counts low high (page_at table page) entries 0 t₀)
 
 abbrev decreases-loop : tie.decreases-loop
 decreases-loop table page entries low high t₀ j₀ t j = entries - j
@@ -38,16 +38,16 @@ loop-again c =
     let counted-in = c.counted-in in
     let cert-key-at = c.before.cert-key-at in (
       omega (arith, c.before.before.loop-test.true),
-      subst Few (sym counted-in.ensures) (in-few args.low args.high loop.t cert-key-at.result loop.invariant.1),
-      subst (λ (d : Tally). d.certs ≤ args.c.certs + (loop.j + 1)) (sym counted-in.ensures) (omega (arith, loop.invariant.2, in-most args.low args.high loop.t cert-key-at.result)),
-      counts-turn args.low args.high (pageAt args.table.now args.page) args.entries loop.j cert-key-at.result loop.t counted-in.result c.before.before.loop-test.true cert-key-at.ensures counted-in.ensures ∙ loop.invariant.3,
+      subst Few (sym counted-in.ensures) (in_few args.low args.high loop.t cert-key-at.result loop.invariant.1),
+      subst (λ (d : Tally). d.certs ≤ args.c.certs + (loop.j + 1)) (sym counted-in.ensures) (omega (arith, loop.invariant.2, in_most args.low args.high loop.t cert-key-at.result)),
+      counts-turn args.low args.high (page_at args.table.now args.page) args.entries loop.j cert-key-at.result loop.t counted-in.result c.before.before.loop-test.true cert-key-at.ensures counted-in.ensures ∙ loop.invariant.3,
     )
 
 returns : tie.Need-returns invariant-loop decreases-loop
 returns c =
     let args = c.before.before.before.args in
     let loop = c.before.loop in
-    sym (counts_end args.low args.high (pageAt args.table.now args.page) args.entries loop.j loop.t c.loop-test.false) ∙ (loop.invariant.3 ∙ counts_start args.low args.high (pageAt args.table.now args.page) args.entries args.c)
+    sym (counts_end args.low args.high (page_at args.table.now args.page) args.entries loop.j loop.t c.loop-test.false) ∙ (loop.invariant.3 ∙ counts_start args.low args.high (page_at args.table.now args.page) args.entries args.c)
 
 pub count-leaf-spec : {M : Type 1} → statement M
 count-leaf-spec =

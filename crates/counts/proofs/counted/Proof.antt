@@ -15,7 +15,7 @@ add-certs c = search rules
 
 returns : tie.Need-returns
 unfolding counted
-returns c = rw (c.before.before.one_more.ensures, c.before.one-more2.ensures)
+returns c = rw (c.before.before.one_more_lem.ensures, c.before.one-more2.ensures)
 
 pub counted_spec : {M : Type 1} → statement M
 counted_spec = tie.close (tie.spec one-more-requires one-more-requires-2 add-certs returns)

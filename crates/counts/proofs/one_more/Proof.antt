@@ -2,8 +2,8 @@
 use mathlib.Core.Path.{sym}
 use Rattle.counts.proofs.Tallies.{more_same, more-other}
 use borrow.Author.Rules.{rules}
-use Rattle.counts.proofs.one_more.Statement.{statement}
-use Rattle.counts.proofs.one_more.Tie as tie
+use Rattle.counts.proofs.one_more_lem.Statement.{statement}
+use Rattle.counts.proofs.one_more_lem.Tie as tie
 
 div-if1 : tie.Need-nonzero-div-if1
 div-if1 c = search rules

@@ -1,6 +1,6 @@
 -- `driver::crash` meets its contract. Assumes nothing.
 use mathlib.Core.Path.{◌∙◌}
-use Rattle.driver.proofs.Mixing.{crashed-not, crashed-mix}
+use Rattle.driver.proofs.Mixing.{crashed_not, crashed-mix}
 use borrow.Author.Rules.{rules}
 use Rattle.driver.proofs.crash.Statement.{statement}
 use Rattle.driver.proofs.crash.Tie as tie
@@ -8,7 +8,7 @@ use Rattle.driver.proofs.crash.Tie as tie
 returns : tie.Need-returns
 returns c =
     let args = c.before.before.before.args in
-    crashed-not args.written args.n args.working.now args.stable.now c.if1.true
+    crashed_not args.written args.n args.working.now args.stable.now c.if1.true
 
 write-pages-requires : tie.Need-write-pages-requires
 write-pages-requires c κs = search rules

@@ -1,7 +1,7 @@
 -- `driver::crash_line` meets its contract. Assumes nothing.
 use mathlib.Core.Path.{ap, ◌∙◌}
 use Rattle.rules.specs.Open.{opening}
-use Rattle.driver.specs.Acts.{acted, told, openedReply}
+use Rattle.driver.specs.Acts.{acted, told, opened_reply}
 use borrow.Author.Rules.{rules}
 use Rattle.driver.proofs.crash_line.Statement.{statement}
 use Rattle.driver.proofs.crash_line.Tie as tie
@@ -27,7 +27,7 @@ returns c =
     let args = c.before.before.before.before.before.before.before.before.before.before.before.before.before.before.before.before.args in
     let crash = c.before.before.before.before.before.before.before.before.before.before.before.crash in
     rw c.opened.ensures
-    (ap (told openedReply) (c.before.before.before.before.before.before.«open».ensures ∙ ap (opening args.working.now) crash.ensures))
+    (ap (told opened_reply) (c.before.before.before.before.before.before.«open».ensures ∙ ap (opening args.working.now) crash.ensures))
 
 pub crash-line-spec : {M : Type 1} → statement M
 crash-line-spec =

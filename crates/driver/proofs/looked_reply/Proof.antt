@@ -5,17 +5,17 @@ use mathlib.Core.List.{[], ◌∷◌}
 use mathlib.Core.Logic.{inl, inr}
 use denote.Enum.Declared.{tag_of}
 use types.Run.{OneOf}
-use Rattle.rules.specs.Call.{lookedNo}
+use Rattle.rules.specs.Call.{looked_no}
 use Rattle.rules.specs.declared.Looked.{Looked}
 use Rattle.rules.specs.contracts.Looked as looks
 use Rattle.words.specs.declared.Reply.{Reply}
-use Rattle.driver.specs.Acts.{lookedReply}
+use Rattle.driver.specs.Acts.{looked_reply}
 use borrow.Author.Rules.{rules}
 use Rattle.driver.proofs.looked_reply.Statement.{statement}
 use Rattle.driver.proofs.looked_reply.Tie as tie
 
-refused-reply : (a : Looked) → OneOf (1 ∷ (2 ∷ (3 ∷ (4 ∷ [])))) (tag_of looks.the_type a) → Reply.Answer (lookedNo a) ≡ lookedReply a
-unfolding lookedReply
+refused-reply : (a : Looked) → OneOf (1 ∷ (2 ∷ (3 ∷ (4 ∷ [])))) (tag_of looks.the_type a) → Reply.Answer (looked_no a) ≡ looked_reply a
+unfolding looked_reply
 refused-reply (Looked.Found x) h = absurd (go h)
   where
     go : OneOf (1 ∷ (2 ∷ (3 ∷ (4 ∷ [])))) 0 → ⊥
@@ -32,7 +32,7 @@ enum-known-answer : tie.Need-enum-known-answer
 enum-known-answer c = search rules
 
 returns : tie.Need-returns
-unfolding lookedReply
+unfolding looked_reply
 returns c = rw c.before.answer.given.1
 
 looked-requires : tie.Need-looked-requires

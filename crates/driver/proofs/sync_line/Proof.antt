@@ -1,6 +1,6 @@
 -- `driver::sync_line` meets its contract. Assumes nothing.
 use mathlib.Core.Path.{ap}
-use Rattle.driver.specs.Acts.{acted, told, syncedReply}
+use Rattle.driver.specs.Acts.{acted, told, synced_reply}
 use borrow.Author.Rules.{rules}
 use Rattle.driver.proofs.sync_line.Statement.{statement}
 use Rattle.driver.proofs.sync_line.Tie as tie
@@ -21,7 +21,7 @@ returns : tie.Need-returns
 unfolding acted
 returns c =
     let sync = c.before.before.before.before.before.before.sync in
-    rw c.synced.ensures (ap (told syncedReply) sync.ensures)
+    rw c.synced.ensures (ap (told synced_reply) sync.ensures)
 
 pub sync-line-spec : {M : Type 1} → statement M
 sync-line-spec =

@@ -1,8 +1,8 @@
 -- `driver::write_page` meets its contract. Assumes nothing.
 use mathlib.Core.Path.{sym}
 use native.Mathlib.Nat.{add-sub_cancel_left}
-use Rattle.rules.specs.Table.{pageAt, setPage}
-use Rattle.rules.proofs.bytes.Tables.{setPage-pageAt}
+use Rattle.rules.specs.Table.{page_at, set_page}
+use Rattle.rules.proofs.Bytes.Tables.{set_page-page_at}
 use borrow.Author.Rules.{rules}
 use Rattle.driver.proofs.write_page.Statement.{statement}
 use Rattle.driver.proofs.write_page.Tie as tie
@@ -38,7 +38,7 @@ same_length : tie.Need-same-length
 same_length c = search rules
 
 returns : tie.Need-returns
-unfolding setPage pageAt
+unfolding set_page page_at
 returns c =
     let if1 = c.before.before.before.before.before.if1 in
     rw (c.before.before.copy.ensures, add-sub_cancel_left, if1.true)
@@ -46,7 +46,7 @@ returns c =
 returns-2 : tie.Need-returns-2
 returns-2 c =
     let args = c.before.before.before.args in
-    rw c.if1.false (sym (setPage-pageAt args.stable.now args.i))
+    rw c.if1.false (sym (set_page-page_at args.stable.now args.i))
 
 pub write-page-spec : {M : Type 1} → statement M
 write-page-spec =

@@ -1,6 +1,6 @@
 -- `driver::write_pages` meets its contract. Assumes nothing.
-use Rattle.rules.specs.Table.{pageAt, setPage}
-use Rattle.rules.proofs.bytes.Mixes.{chosen}
+use Rattle.rules.specs.Table.{page_at, set_page}
+use Rattle.rules.proofs.Bytes.Mixes.{chosen}
 use mathlib.Core.Path.{◌≡◌, refl, sym, ap, ◌∙◌}
 use mathlib.Core.Bool.{Bool, false}
 use mathlib.Core.List.{List}
@@ -9,16 +9,16 @@ use native.Mathlib.Omega.{arith}
 use lib.ListN.{length, take, get_or}
 use lib.Seq.{take_all}
 use Rattle.rules.specs.Crash.{mix}
-use Rattle.driver.specs.Acts.{benchPages, benchBytes}
+use Rattle.driver.specs.Acts.{bench_pages, bench_bytes}
 use Rattle.driver.proofs.Mixing.{mix-more}
 use Rattle.driver.proofs.write_pages.Statement.{statement}
 use Rattle.driver.proofs.write_pages.Tie as tie
 
 abbrev invariant-loop : tie.invariant-loop
-invariant-loop working stable₀ written i₀ stable i = (i ≤ benchPages) × (length stable ≡ benchBytes) × (stable ≡ mix (take i written) working stable₀)
+invariant-loop working stable₀ written i₀ stable i = (i ≤ bench_pages) × (length stable ≡ bench_bytes) × (stable ≡ mix (take i written) working stable₀)
 
 abbrev decreases-loop : tie.decreases-loop
-decreases-loop working stable₀ written i₀ stable i = benchPages - i
+decreases-loop working stable₀ written i₀ stable i = bench_pages - i
 
 loop-holds : tie.Need-loop-init invariant-loop decreases-loop
 unfolding mix
@@ -47,9 +47,9 @@ loop-again c =
       omega arith,
       write-page.auto.1.0 ∙ loop.invariant.1,
       write-page.ensures ∙ ap
-          (λ (t : List ℕ). setPage t loop.i (chosen (get_or args.t3 loop.i false) (pageAt args.working.now loop.i) (pageAt t loop.i)))
+          (λ (t : List ℕ). set_page t loop.i (chosen (get_or args.t3 loop.i false) (page_at args.working.now loop.i) (page_at t loop.i)))
           loop.invariant.2 ∙ sym
-          (mix-more benchPages args.t3 args.working.now args.stable.now loop.i pre.0 pre.1 (omega arith)),
+          (mix-more bench_pages args.t3 args.working.now args.stable.now loop.i pre.0 pre.1 (omega arith)),
     )
 
 same_length : tie.Need-same-length invariant-loop decreases-loop

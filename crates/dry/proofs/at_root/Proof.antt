@@ -1,5 +1,5 @@
 -- `dry::at_root`: two runs of no entries. Assumes nothing.
-use Rattle.dry.specs.Cursor.{atRoot}
+use Rattle.dry.specs.Cursor.{at_root}
 use borrow.Author.Rules.{rules}
 use Rattle.dry.proofs.at_root.Statement.{statement}
 use Rattle.dry.proofs.at_root.Tie as tie
@@ -11,7 +11,7 @@ no-run-requires-2 : tie.Need-no-run-requires-2
 no-run-requires-2 c κs = search rules
 
 returns : tie.Need-returns
-unfolding atRoot
+unfolding at_root
 returns c = cc (c.before.no-run.ensures, c.no-run2.ensures)
 
 pub at-root-spec : {M : Type 1} → statement M

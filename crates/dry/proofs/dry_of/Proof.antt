@@ -2,8 +2,8 @@
 use mathlib.Core.Path.{◌≡◌, refl}
 use mathlib.Core.Bool.{false≢true}
 use lib.ListN.{length}
-use Rattle.dry.proofs.Leads.{wayLeft}
-use Rattle.dry.proofs.Going.{Going, taken, going-begins, going-full, on-less, going_on, leaf-less, leaf-inside, leaf-there, going-leaf, going-ends, going-breaks}
+use Rattle.dry.proofs.Leads.{way_left}
+use Rattle.dry.proofs.Going.{Going, taken, going-begins, going-full, on_less, going_on, leaf_less, leaf-inside, leaf_there, going-leaf, going-ends, going-breaks}
 use borrow.Author.Rules.{rules}
 use native.Mathlib.Omega.{arith}
 use Rattle.dry.proofs.dry_of.Statement.{statement}
@@ -13,7 +13,7 @@ abbrev invariant-loop : tie.invariant-loop
 invariant-loop table n a c₀ count₀ mended₀ c count mended = (length mended ≡ 128) × Going n a table c count mended
 
 abbrev decreases-loop : tie.decreases-loop
-decreases-loop table n a c₀ count₀ mended₀ c count mended = wayLeft c
+decreases-loop table n a c₀ count₀ mended₀ c count mended = way_left c
 
 at-root-requires : tie.Need-at-root-requires invariant-loop decreases-loop
 at-root-requires c κs = search rules
@@ -22,7 +22,7 @@ loop-holds : tie.Need-loop-init invariant-loop decreases-loop
 loop-holds c =
     let args = c.before.before.args in
     let pre = c.before.before.requires in
-    (refl, going-begins args.n args.table.now c.at-root.result c.at-root.ensures args.a pre.1)
+    (refl, going-begins args.n args.table.now c.at_root_lem.result c.at_root_lem.ensures args.a pre.1)
 
 slice-aggregate-next : tie.Need-slice-aggregate-next invariant-loop decreases-loop
 slice-aggregate-next c = search rules
@@ -51,7 +51,7 @@ loop-less c =
     let if1 = if1 in
     let next = next in
     let y = taken pre.0 loop.invariant.1 if1.true next.ensures in
-    on-less y c.before.s.given.0.0 c.before.s.given.1
+    on_less y c.before.s.given.0.0 c.before.s.given.1
 
 loop-again : tie.Need-loop-preserved invariant-loop decreases-loop
 loop-again c =
@@ -104,7 +104,7 @@ tally-leaf-requires c κs =
     let next = next in
     let s2 = c.before.before.before.s2 in
     let y = taken pre.0 loop.invariant.1 if1.true next.ensures in
-    leaf-there y s2.given.0.0 s2.given.1 c.head_at.result c.head_at.ensures
+    leaf_there y s2.given.0.0 s2.given.1 c.head_at.result c.head_at.ensures
 
 loop-less-2 : tie.Need-loop-smaller-2 invariant-loop decreases-loop
 loop-less-2 c =
@@ -121,7 +121,7 @@ loop-less-2 c =
     let next = next in
     let s2 = s2 in
     let y = taken pre.0 loop.invariant.1 if1.true next.ensures in
-    leaf-less y s2.given.0.0 s2.given.1
+    leaf_less y s2.given.0.0 s2.given.1
 
 loop-again-2 : tie.Need-loop-preserved-2 invariant-loop decreases-loop
 loop-again-2 c =

@@ -1,5 +1,5 @@
 -- `dry::due_root`: the root, and nothing behind it. Assumes nothing.
-use Rattle.dry.specs.Cursor.{dueRoot}
+use Rattle.dry.specs.Cursor.{due_root}
 use borrow.Author.Rules.{rules}
 use Rattle.dry.proofs.due_root.Statement.{statement}
 use Rattle.dry.proofs.due_root.Tie as tie
@@ -14,7 +14,7 @@ under-root-requires : tie.Need-under-root-requires
 under-root-requires c κs = search rules
 
 returns : tie.Need-returns
-unfolding dueRoot
+unfolding due_root
 returns c = cc (c.under-root.ensures, c.before.no-run.ensures, c.before.before.root-place.ensures)
 
 pub due-root-spec : {M : Type 1} → statement M

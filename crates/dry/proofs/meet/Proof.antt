@@ -2,7 +2,7 @@
 use mathlib.Core.Path.{sym, ◌∙◌}
 use mathlib.Core.List.{[], ◌∷◌}
 use borrow.Author.Tests.{not-true, not-false}
-use Rattle.dry.proofs.Goes.{sourced, source-inside, source-runs}
+use Rattle.dry.proofs.Goes.{sourced, source-inside, source_runs}
 use Rattle.dry.proofs.Turns.{met-passed, met-damaged, met-leaf, met-entries}
 use borrow.Author.Rules.{rules}
 use Rattle.dry.proofs.meet.Statement.{statement}
@@ -72,7 +72,7 @@ run-in-requires c κs =
     let pre = c.before.before.before.before.before.before.before.before.before.before.before.before.before.before.before.before.requires in
     let source-at = c.before.before.before.before.before.before.before.before.before.before.source-at in
     let page = c.before.before.before.before.before.before.before.before.page in
-    source-runs args.n args.table.now pre.0 page.given.0.0 (sourced args.n args.table.now pre.0 (args.parent ∷ args.top ∷ []) args.marks.now args.e page.given.0.0 (sym source-at.ensures ∙ page.given.1))
+    source_runs args.n args.table.now pre.0 page.given.0.0 (sourced args.n args.table.now pre.0 (args.parent ∷ args.top ∷ []) args.marks.now args.e page.given.0.0 (sym source-at.ensures ∙ page.given.1))
 
 same-length-3 : tie.Need-same-length-3
 same-length-3 c = search rules

@@ -1,7 +1,7 @@
 -- `dry::mends_nothing`: the loop's invariant says what was found of the marks below i. Assumes nothing.
 use Prim.Native.Nat.{◌≤◌, ◌-◌}
 use mathlib.Core.Path.{refl}
-use Rattle.dry.proofs.Marks.{Looked, looked-on, looked-all}
+use Rattle.dry.proofs.Marks.{Looked, looked_on, looked-all}
 use borrow.Author.Rules.{rules}
 use Rattle.dry.proofs.mends_nothing.Statement.{statement}
 use Rattle.dry.proofs.mends_nothing.Tie as tie
@@ -27,7 +27,7 @@ loop-less c = search rules
 loop-again : tie.Need-loop-preserved invariant-loop decreases-loop
 loop-again c =
     let loop = c.before.before.loop in
-    (search rules, looked-on c.before.before.before.args.t1.mended loop.none loop.i 128 (search rules) c.before.loop-test.true loop.invariant.1)
+    (search rules, looked_on c.before.before.before.args.t1.mended loop.none loop.i 128 (search rules) c.before.loop-test.true loop.invariant.1)
 
 returns : tie.Need-returns invariant-loop decreases-loop
 returns c = looked-all c.before.before.args.t1.mended c.before.loop.none c.before.loop.i 128 (search rules) c.loop-test.false c.before.loop.invariant.1

@@ -1,7 +1,7 @@
 -- `dry::next`: the place that is next, as it is met. Assumes nothing.
 use mathlib.Core.Path.{sym, ◌∙◌}
-use Rattle.dry.proofs.Turns.{step-ends, step-settles}
-use Rattle.dry.proofs.Sures.{sure-own}
+use Rattle.dry.proofs.Turns.{step-ends, step_settles}
+use Rattle.dry.proofs.Sures.{sure_own}
 use borrow.Author.Rules.{rules}
 use Rattle.dry.proofs.next.Statement.{statement}
 use Rattle.dry.proofs.next.Tie as tie
@@ -27,7 +27,7 @@ meet-requires c κs =
     let args = c.before.before.before.before.before.before.before.args in
     let next-spot = c.before.before.before.before.next-spot in
     let s' = c.before.before.s in
-    (pre.0, λ k h. sure-own args.n args.a args.table.now args.c args.marks.now pre.1 (pre.2 k) s'.given.0.0 (sym next-spot.ensures ∙ s'.given.1) h)
+    (pre.0, λ k h. sure_own args.n args.a args.table.now args.c args.marks.now pre.1 (pre.2 k) s'.given.0.0 (sym next-spot.ensures ∙ s'.given.1) h)
 
 settle-requires : tie.Need-settle-requires
 settle-requires c κs = search rules
@@ -41,7 +41,7 @@ returns-2 c =
     let next-spot = c.before.before.before.before.before.before.before.before.next-spot in
     let s' = c.before.before.before.before.before.before.s in
     let meet = c.before.before.before.meet in
-    step-settles args.n args.a args.table.now args.c args.marks.now next-spot.result next-spot.ensures s'.given.0.0 s'.given.1 meet.result meet.new.1.1.1.1.1.1.1.0 meet.ensures c.settle.result c.settle.ensures
+    step_settles args.n args.a args.table.now args.c args.marks.now next-spot.result next-spot.ensures s'.given.0.0 s'.given.1 meet.result meet.new.1.1.1.1.1.1.1.0 meet.ensures c.settle.result c.settle.ensures
 
 pub next-spec : {M : Type 1} → statement M
 next-spec =

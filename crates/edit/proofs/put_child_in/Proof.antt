@@ -1,11 +1,11 @@
 -- `edit::put_child_in`: the entries behind the spot moved up, the entry, count and touched are what the rules write (Edits).
 -- Assumes nothing.
 use mathlib.Core.Path.{◌≡◌, sym}
-use Rattle.fields.specs.Field.{leAt}
-use Rattle.rules.specs.Layout.{innerHeader}
-use Rattle.rules.specs.Insert.{newChild}
-use Rattle.entries.specs.Spot.{spot_of, keysIn}
-use Rattle.edit.proofs.Edits.{spot-below, inner_room, child-bytes}
+use Rattle.fields.specs.Field.{le_at}
+use Rattle.rules.specs.Layout.{inner_header}
+use Rattle.rules.specs.Insert.{new_child}
+use Rattle.entries.specs.Spot.{spot_of, keys_in}
+use Rattle.edit.proofs.Edits.{spot-below, inner_room_lem, child_bytes_lem}
 use native.Mathlib.Omega.{arith}
 use borrow.Author.Rules.{rules}
 use Rattle.edit.proofs.put_child_in.Statement.{statement}
@@ -22,7 +22,7 @@ spot-requires c κs =
     let pre = c.before.before.before.before.requires in
     let a = c.before.before.before.before.args in (
       omega arith,
-      omega (arith, c.before.get16.ensures, pre.0, inner_room a.page.now pre.1.inner pre.1.room),
+      omega (arith, c.before.get16.ensures, pre.0, inner_room_lem a.page.now pre.1.inner pre.1.room),
     )
 
 mul_at : tie.Need-overflow-mul-at
@@ -32,7 +32,7 @@ mul_at c =
     let a = c.before.before.before.before.before.args in
     let pre = c.before.before.before.before.before.requires in
     omega
-    (arith, get16.ensures, spot-below innerHeader 16 get16.result a.key spot.result a.page.now spot.ensures, inner_room a.page.now pre.1.inner pre.1.room)
+    (arith, get16.ensures, spot-below inner_header 16 get16.result a.key spot.result a.page.now spot.ensures, inner_room_lem a.page.now pre.1.inner pre.1.room)
 
 add_at : tie.Need-overflow-add-at
 add_at c =
@@ -41,7 +41,7 @@ add_at c =
     let a = c.before.before.before.before.before.args in
     let pre = c.before.before.before.before.before.requires in
     omega
-    (arith, get16.ensures, spot-below innerHeader 16 get16.result a.key spot.result a.page.now spot.ensures, inner_room a.page.now pre.1.inner pre.1.room)
+    (arith, get16.ensures, spot-below inner_header 16 get16.result a.key spot.result a.page.now spot.ensures, inner_room_lem a.page.now pre.1.inner pre.1.room)
 
 cast-move-up : tie.Need-overflow-cast-move-up
 cast-move-up c = search rules
@@ -58,8 +58,8 @@ move-up-requires c κs =
     let a = c.before.before.before.before.before.before.args in
     let spot = c.before.spot in
     let pre = c.before.before.before.before.before.before.requires in (
-      omega (arith, spot-below innerHeader 16 get16.result a.key spot.result a.page.now spot.ensures),
-      omega (arith, get16.ensures, pre.0, inner_room a.page.now pre.1.inner pre.1.room),
+      omega (arith, spot-below inner_header 16 get16.result a.key spot.result a.page.now spot.ensures),
+      omega (arith, get16.ensures, pre.0, inner_room_lem a.page.now pre.1.inner pre.1.room),
     )
 
 write-child-requires : tie.Need-write-child-requires
@@ -70,14 +70,14 @@ write-child-requires c κs =
     let a = c.before.before.before.before.before.before.before.before.before.before.args in
     let spot = c.before.before.before.before.before.spot in
     omega
-    (arith, get16.ensures, pre.0, move_up.auto.0, spot-below innerHeader 16 get16.result a.key spot.result a.page.now spot.ensures, inner_room a.page.now pre.1.inner pre.1.room)
+    (arith, get16.ensures, pre.0, move_up.auto.0, spot-below inner_header 16 get16.result a.key spot.result a.page.now spot.ensures, inner_room_lem a.page.now pre.1.inner pre.1.room)
 
 add-stamp : tie.Need-overflow-add-stamp
 add-stamp c =
     let get16 = c.before.before.before.before.before.before.before.before.before.before.before.get16 in
     let a = c.before.before.before.before.before.before.before.before.before.before.before.before.before.before.args in
     let pre = c.before.before.before.before.before.before.before.before.before.before.before.before.before.before.requires in
-    omega (arith, get16.ensures, inner_room a.page.now pre.1.inner pre.1.room)
+    omega (arith, get16.ensures, inner_room_lem a.page.now pre.1.inner pre.1.room)
 
 stamp-requires : tie.Need-stamp-requires
 stamp-requires c κs = search rules
@@ -86,7 +86,7 @@ same_length : tie.Need-same-length
 same_length c = search rules
 
 returns : tie.Need-returns
-unfolding newChild
+unfolding new_child
 returns c =
     let spot = c.before.before.before.before.before.before.before.before.before.before.before.before.spot in
     let a = c.before.before.before.before.before.before.before.before.before.before.before.before.before.before.before.before.before.args in
@@ -96,10 +96,10 @@ returns c =
     let move_up = c.before.before.before.before.before.before.before.before.before.before.move_up in
     let slice-known = c.before.before.before.before.before.before.before.before.before.before.before.before.before.before.before.before.slice-known in
     let pre = c.before.before.before.before.before.before.before.before.before.before.before.before.before.before.before.before.before.requires in
-    let e : spot.result ≡ spot_of a.key (keysIn innerHeader 16 (leAt a.page.now 2 2) a.page.now) = rw get16.ensures
+    let e : spot.result ≡ spot_of a.key (keys_in inner_header 16 (le_at a.page.now 2 2) a.page.now) = rw get16.ensures
     at spot.ensures in
     rw (stamp.ensures, write-child.ensures, move_up.ensures, get16.ensures)
-    (sym (child-bytes a.page.now (newChild a.c a.key a.child a.previous) a.c spot.result slice-known.given pre.0 e pre.1))
+    (sym (child_bytes_lem a.page.now (new_child a.c a.key a.child a.previous) a.c spot.result slice-known.given pre.0 e pre.1))
 
 pub put-child-in-spec : {M : Type 1} → statement M
 put-child-in-spec =

@@ -1,10 +1,10 @@
 -- `edit::put_twins_in`: two changes in a row are one (Twins).
 -- Assumes nothing.
-use Rattle.rules.specs.Insert.{newChild}
+use Rattle.rules.specs.Insert.{new_child}
 use Rattle.rules.specs.Entry.{Child}
-use Rattle.rules.proofs.bytes.EntryBytes.{WideChild}
-use Rattle.edit.specs.Takes.{twinsOf}
-use Rattle.edit.proofs.Twins.{long-first, takes_first, change-twice, wide-newChild}
+use Rattle.rules.proofs.Bytes.EntryBytes.{WideChild}
+use Rattle.edit.specs.Takes.{twins_of}
+use Rattle.edit.proofs.Twins.{long-first, takes_first, change_twice, wide-new_child}
 use borrow.Author.Rules.{rules}
 use Rattle.edit.proofs.put_twins_in.Statement.{statement}
 use Rattle.edit.proofs.put_twins_in.Tie as tie
@@ -13,15 +13,15 @@ set-child-in-requires : tie.Need-set-child-in-requires
 set-child-in-requires c κs = search rules
 
 put-child-in-requires : tie.Need-put-child-in-requires
-unfolding newChild
+unfolding new_child
 put-child-in-requires c κs =
     let a = c.before.before.before.before.before.before.args in
     let fits = c.before.before.before.before.before.before.ranges in
     let set-child-in = c.before.before.before.set-child-in in
     let slice-known = c.before.before.before.before.before.slice-known in
     let pre = c.before.before.before.before.before.before.requires in
-    let x : Child = newChild a.c a.low a.lower a.previous in
-    let w : WideChild x = wide-newChild a.c a.low a.lower a.previous fits.c fits.low fits.lower
+    let x : Child = new_child a.c a.low a.lower a.previous in
+    let w : WideChild x = wide-new_child a.c a.low a.lower a.previous fits.c fits.low fits.lower
     fits.previous in
     rw set-child-in.ensures
     (long-first a.page.now x a.c slice-known.given pre.0 pre.1.has w w.birth, takes_first a.page.now x a.c slice-known.given pre.0 pre.1.has w w.birth a.middle pre.1.absent)
@@ -30,7 +30,7 @@ same_length : tie.Need-same-length
 same_length c = search rules
 
 returns : tie.Need-returns
-unfolding newChild twinsOf
+unfolding new_child twins_of
 returns c =
     let a = c.before.before.before.before.before.before.before.before.before.args in
     let fits = c.before.before.before.before.before.before.before.before.before.ranges in
@@ -38,11 +38,11 @@ returns c =
     let set-child-in = c.before.before.before.before.before.before.set-child-in in
     let slice-known = c.before.before.before.before.before.before.before.before.slice-known in
     let pre = c.before.before.before.before.before.before.before.before.before.requires in
-    let x : Child = newChild a.c a.low a.lower a.previous in
-    let w : WideChild x = wide-newChild a.c a.low a.lower a.previous fits.c fits.low fits.lower
+    let x : Child = new_child a.c a.low a.lower a.previous in
+    let w : WideChild x = wide-new_child a.c a.low a.lower a.previous fits.c fits.low fits.lower
     fits.previous in
     rw (put-child-in.ensures, set-child-in.ensures)
-    (change-twice a.page.now x a.c slice-known.given pre.0 pre.1.has w w.birth (newChild a.c a.middle a.upper a.previous))
+    (change_twice a.page.now x a.c slice-known.given pre.0 pre.1.has w w.birth (new_child a.c a.middle a.upper a.previous))
 
 pub put-twins-in-spec : {M : Type 1} → statement M
 put-twins-in-spec =

@@ -1,11 +1,11 @@
 -- `edit::remove_cert`: the page's part, with one certificate less.
 -- Assumes nothing.
 use native.Mathlib.Nat.{add-sub_cancel_left}
-use Rattle.rules.specs.Page.{pageIn}
-use Rattle.rules.specs.Table.{setPage, read, shrink}
+use Rattle.rules.specs.Page.{page_in}
+use Rattle.rules.specs.Table.{set_page, read, shrink}
 use Rattle.rules.specs.Withdraw.{removed}
-use Rattle.rules.proofs.bytes.Tables.{length-pageAt}
-use Rattle.entries.proofs.Part.{page-part}
+use Rattle.rules.proofs.Bytes.Tables.{length-page_at}
+use Rattle.entries.proofs.Part.{page_part}
 use native.Mathlib.Omega.{arith}
 use borrow.Author.Rules.{rules}
 use Rattle.edit.proofs.remove_cert.Statement.{statement}
@@ -27,21 +27,21 @@ part-remove-cert-in-end : tie.Need-slice-bounds-remove-cert-in-end
 part-remove-cert-in-end c = search rules
 
 remove-cert-in-requires : tie.Need-remove-cert-in-requires
-unfolding read pageIn
+unfolding read page_in
 remove-cert-in-requires c κs =
     let a = c.before.before.args in
-    rw (page-part a.table.now a.i)
-    (length-pageAt a.table.now a.i (omega arith), c.before.before.requires.1)
+    rw (page_part a.table.now a.i)
+    (length-page_at a.table.now a.i (omega arith), c.before.before.requires.1)
 
 same_length : tie.Need-same-length
 same_length c = search rules
 
 returns : tie.Need-returns
-unfolding removed shrink setPage read pageIn
+unfolding removed shrink set_page read page_in
 returns c =
     let remove-cert-in = c.before.before.remove-cert-in in
     let a = c.before.before.before.before.before.args in
-    rw (remove-cert-in.ensures, page-part a.table.now a.i, add-sub_cancel_left)
+    rw (remove-cert-in.ensures, page_part a.table.now a.i, add-sub_cancel_left)
 
 pub remove-cert-spec : {M : Type 1} → statement M
 remove-cert-spec =

@@ -1,11 +1,11 @@
 -- `edit::remove_cert_in`: the entries behind the certificate moved down, zeros, count and touched are what the rules write (Removed).
 -- Assumes nothing.
 use mathlib.Core.Path.{◌≡◌, sym}
-use Rattle.fields.specs.Field.{leAt}
-use Rattle.rules.specs.Layout.{leafHeader}
-use Rattle.entries.specs.Spot.{spot_of, keysIn}
+use Rattle.fields.specs.Field.{le_at}
+use Rattle.rules.specs.Layout.{leaf_header}
+use Rattle.entries.specs.Spot.{spot_of, keys_in}
 use Rattle.edit.proofs.Edits.{spot-below}
-use Rattle.edit.proofs.Removed.{has_room, has-spot, less-bytes}
+use Rattle.edit.proofs.Removed.{has_room, has-spot, less_bytes}
 use native.Mathlib.Omega.{arith}
 use borrow.Author.Rules.{rules}
 use Rattle.edit.proofs.remove_cert_in.Statement.{statement}
@@ -28,14 +28,14 @@ mul_at c =
     let get16 = c.before.before.get16 in
     let args = c.before.before.before.before.before.args in
     let spot = c.spot in
-    omega (arith, get16.ensures, spot-below leafHeader 12 get16.result args.key spot.result args.page.now spot.ensures, has_room args.page.now args.key c.before.before.before.before.before.requires.1)
+    omega (arith, get16.ensures, spot-below leaf_header 12 get16.result args.key spot.result args.page.now spot.ensures, has_room args.page.now args.key c.before.before.before.before.before.requires.1)
 
 add_at : tie.Need-overflow-add-at
 add_at c =
     let get16 = c.before.before.get16 in
     let args = c.before.before.before.before.before.args in
     let spot = c.spot in
-    omega (arith, get16.ensures, spot-below leafHeader 12 get16.result args.key spot.result args.page.now spot.ensures, has_room args.page.now args.key c.before.before.before.before.before.requires.1)
+    omega (arith, get16.ensures, spot-below leaf_header 12 get16.result args.key spot.result args.page.now spot.ensures, has_room args.page.now args.key c.before.before.before.before.before.requires.1)
 
 cast-end : tie.Need-overflow-cast-end
 cast-end c = search rules
@@ -54,7 +54,7 @@ sub-copy-2 c =
     let get16 = c.before.before.before.get16 in
     let args = c.before.before.before.before.before.before.args in
     let spot = c.before.spot in
-    omega (arith, get16.ensures, spot-below leafHeader 12 get16.result args.key spot.result args.page.now spot.ensures)
+    omega (arith, get16.ensures, spot-below leaf_header 12 get16.result args.key spot.result args.page.now spot.ensures)
 
 copy-requires : tie.Need-copy-requires
 copy-requires c κs =
@@ -62,7 +62,7 @@ copy-requires c κs =
     let args = c.before.before.before.before.before.before.args in
     let spot = c.before.spot in
     let pre = c.before.before.before.before.before.before.requires in
-    let below = spot-below leafHeader 12 get16.result args.key spot.result args.page.now spot.ensures in
+    let below = spot-below leaf_header 12 get16.result args.key spot.result args.page.now spot.ensures in
     let room = has_room args.page.now args.key pre.1 in
     let count = get16.ensures in
     let long = pre.0 in
@@ -84,8 +84,8 @@ sub-stamp c =
     let args = c.before.before.before.before.before.before.before.before.before.before.before.before.before.before.args in
     let get16 = c.before.before.before.before.before.before.before.before.before.before.before.get16 in
     let pre = c.before.before.before.before.before.before.before.before.before.before.before.before.before.before.requires in
-    let e : spot.result ≡ spot_of args.key (keysIn leafHeader 12 (leAt args.page.now 2 2) args.page.now) = rw get16.ensures at spot.ensures in
-    omega (arith, get16.ensures, has-spot args.page.now args.key args.c spot.result c.before.before.before.before.before.before.before.before.before.before.before.before.before.slice-known.given pre.0 pre.1 e, spot-below leafHeader 12 get16.result args.key spot.result args.page.now spot.ensures)
+    let e : spot.result ≡ spot_of args.key (keys_in leaf_header 12 (le_at args.page.now 2 2) args.page.now) = rw get16.ensures at spot.ensures in
+    omega (arith, get16.ensures, has-spot args.page.now args.key args.c spot.result c.before.before.before.before.before.before.before.before.before.before.before.before.before.slice-known.given pre.0 pre.1 e, spot-below leaf_header 12 get16.result args.key spot.result args.page.now spot.ensures)
 
 stamp-requires : tie.Need-stamp-requires
 stamp-requires c κs = search rules
@@ -99,8 +99,8 @@ returns c =
     let args = c.before.before.before.before.before.before.before.before.before.before.before.before.before.before.before.before.before.args in
     let get16 = c.before.before.before.before.before.before.before.before.before.before.before.before.before.before.get16 in
     let pre = c.before.before.before.before.before.before.before.before.before.before.before.before.before.before.before.before.before.requires in
-    let e : spot.result ≡ spot_of args.key (keysIn leafHeader 12 (leAt args.page.now 2 2) args.page.now) = rw get16.ensures at spot.ensures in
-    rw (c.before.before.stamp.ensures, c.before.before.before.before.before.before.clear.ensures, c.before.before.before.before.before.before.before.before.before.before.copy.ensures, get16.ensures) (sym (less-bytes args.page.now args.key args.c spot.result c.before.before.before.before.before.before.before.before.before.before.before.before.before.before.before.before.slice-known.given pre.0 pre.1 e))
+    let e : spot.result ≡ spot_of args.key (keys_in leaf_header 12 (le_at args.page.now 2 2) args.page.now) = rw get16.ensures at spot.ensures in
+    rw (c.before.before.stamp.ensures, c.before.before.before.before.before.before.clear.ensures, c.before.before.before.before.before.before.before.before.before.before.copy.ensures, get16.ensures) (sym (less_bytes args.page.now args.key args.c spot.result c.before.before.before.before.before.before.before.before.before.before.before.before.before.before.before.before.slice-known.given pre.0 pre.1 e))
 
 pub remove-cert-in-spec : {M : Type 1} → statement M
 remove-cert-in-spec =

@@ -2,9 +2,9 @@
 -- Assumes nothing.
 use mathlib.Core.Path.{sym, ap, ◌∙◌}
 use mathlib.Core.Bool.{true, false}
-use Rattle.rules.specs.Place.{isNone, fits}
+use Rattle.rules.specs.Place.{is_none, fits}
 use Rattle.rules.specs.Enter as rules
-use Rattle.rules.specs.Report.{reasonAt}
+use Rattle.rules.specs.Report.{reason_at}
 use Rattle.enter.specs.Entering.{told, above_of, entering}
 use Rattle.enter.specs.declared.Entered.{Entered}
 use Rattle.enter.proofs.Mended.{head_read}
@@ -17,7 +17,7 @@ stands-above-requires : tie.Need-stands-above-requires
 stands-above-requires c κs = search rules
 
 returns : tie.Need-returns
-returns c = enter-above c.before.before.before.args.n c.before.before.before.args.c c.before.before.before.args.t.now c.before.before.before.args.e (reasonAt c.before.before.before.args.n c.before.before.before.args.t.now c.before.before.before.args.e) (above_of c.before.before.before.args.above) (sym c.before.stands-above.ensures ∙ c.if1.true)
+returns c = enter-above c.before.before.before.args.n c.before.before.before.args.c c.before.before.before.args.t.now c.before.before.before.args.e (reason_at c.before.before.before.args.n c.before.before.before.args.t.now c.before.before.before.args.e) (above_of c.before.before.before.args.above) (sym c.before.stands-above.ensures ∙ c.if1.true)
 
 unfit-at-requires : tie.Need-unfit-at-requires
 unfit-at-requires c κs = search rules
@@ -35,15 +35,15 @@ same_length : tie.Need-same-length
 same_length c = search rules
 
 returns-2 : tie.Need-returns-2
-unfolding fits reasonAt
+unfolding fits reason_at
 returns-2 c =
     let args = c.before.before.before.before.before.before.before.before.before.before.args in
     let why = c.before.before.before.before.before.unfit-at.ensures in
     cc (
-      ap (λ a. entering args.t.now (Entered.Page a (reasonAt args.n args.t.now args.e)))
+      ap (λ a. entering args.t.now (Entered.Page a (reason_at args.n args.t.now args.e)))
           (head_read args.t.now args.e.child c.head_at.ensures)
-          ∙ enter-fits args.n args.c args.t.now args.e (reasonAt args.n args.t.now args.e) (above_of args.above)
-          (sym c.before.before.before.before.before.before.before.before.stands-above.ensures ∙ c.before.before.before.before.before.before.before.if1.false) (sym (c.before.before.before.before.is_none.ensures ∙ ap isNone why) ∙ c.before.before.before.if2.true),
+          ∙ enter-fits args.n args.c args.t.now args.e (reason_at args.n args.t.now args.e) (above_of args.above)
+          (sym c.before.before.before.before.before.before.before.before.stands-above.ensures ∙ c.before.before.before.before.before.before.before.if1.false) (sym (c.before.before.before.before.is_none.ensures ∙ ap is_none why) ∙ c.before.before.before.if2.true),
       why,
     )
 
@@ -54,13 +54,13 @@ same-length-2 : tie.Need-same-length-2
 same-length-2 c = search rules
 
 returns-3 : tie.Need-returns-3
-unfolding fits reasonAt
+unfolding fits reason_at
 returns-3 c =
     let args = c.before.before.before.before.before.before.before.before.before.before.before.args in
     let why = c.before.before.before.before.before.before.unfit-at.ensures in
-    c.before.before.mend.ensures ∙ ap (λ r. told r (rules.mend args.n args.c args.t.now args.e)) why ∙ ap (told (reasonAt args.n args.t.now args.e))
-    (sym (enter-lost args.n args.c args.t.now args.e (reasonAt args.n args.t.now args.e) (above_of args.above) (sym c.before.before.before.before.before.before.before.before.before.stands-above.ensures ∙ c.before.before.before.before.before.before.before.before.if1.false)
-    (sym (c.before.before.before.before.before.is_none.ensures ∙ ap isNone why) ∙ c.before.before.before.before.if2.false)))
+    c.before.before.mend.ensures ∙ ap (λ r. told r (rules.mend args.n args.c args.t.now args.e)) why ∙ ap (told (reason_at args.n args.t.now args.e))
+    (sym (enter-lost args.n args.c args.t.now args.e (reason_at args.n args.t.now args.e) (above_of args.above) (sym c.before.before.before.before.before.before.before.before.before.stands-above.ensures ∙ c.before.before.before.before.before.before.before.before.if1.false)
+    (sym (c.before.before.before.before.before.is_none.ensures ∙ ap is_none why) ∙ c.before.before.before.before.if2.false)))
 
 pub enter_spec : {M : Type 1} → statement M
 enter_spec =

@@ -3,8 +3,8 @@
 use mathlib.Core.Path.{sym, ◌∙◌}
 use borrow.Author.Tests.{not-true, not-false}
 use Rattle.rules.specs.Table.{read}
-use Rattle.rules.proofs.entries.Places.{mendable-true}
-use Rattle.build.proofs.Sounds.{mendable-ordered}
+use Rattle.rules.proofs.Entries.Places.{mendable_true}
+use Rattle.build.proofs.Sounds.{mendable_ordered}
 use Rattle.enter.proofs.Told.{mend-damaged}
 use Rattle.enter.proofs.Mended.{mended-told}
 use native.Mathlib.Omega.{arith}
@@ -30,9 +30,9 @@ build-mended-requires c κs =
     let args = c.before.before.before.before.before.args in
     let mendable-at = c.before.before.mendable-at in
     let m = sym mendable-at.ensures ∙ not-false mendable-at.result c.before.if1.false in
-    let f = mendable-true args.n args.e (read args.t.now args.e.previous) m in (
+    let f = mendable_true args.n args.e (read args.t.now args.e.previous) m in (
       (omega arith, omega (arith, f.below)),
-      mendable-ordered args.n args.e (read args.t.now args.e.previous) m,
+      mendable_ordered args.n args.e (read args.t.now args.e.previous) m,
     )
 
 cast-head-at : tie.Need-overflow-cast-head-at

@@ -1,27 +1,27 @@
 -- `entries::spot`: the invariant: what has been passed, and that the spot is that many more than the spot among the rest. The measure is what is
 -- left of the count.
 -- Assumes nothing.
-use Rattle.entries.proofs.Passed.{within, spot-pass, spot-stop, spot-end}
+use Rattle.entries.proofs.Passed.{within, spot_pass, spot_stop, spot-end}
 use native.Mathlib.Nat.{zero-add, add-zero, mul-zero, sub-zero, mul-suc}
 use native.Mathlib.Numerals.{add-one}
 use native.Mathlib.Omega.{arith}
 use Prim.Native.Nat.{◌≤◌, ◌-◌, ◌+◌, ◌*◌}
 use mathlib.Core.Path.{◌≡◌}
 use lib.ListN.{drop}
-use Rattle.entries.specs.Spot.{keysIn, keyIn, spot_of}
-use Rattle.rules.specs.Page.{readEach}
+use Rattle.entries.specs.Spot.{keys_in, key_in, spot_of}
+use Rattle.rules.specs.Page.{read_each}
 use borrow.Author.Rules.{rules}
 use Rattle.entries.proofs.spot.Statement.{statement}
 use Rattle.entries.proofs.spot.Tie as tie
 
 abbrev invariant-loop : tie.invariant-loop
-invariant-loop page header size count key j₀ at₀ j at = (j ≤ count) × (at ≡ header + size * j) × (spot_of key (keysIn header size count page) ≡ j + spot_of key (readEach keyIn size (count - j) (drop at page)))
+invariant-loop page header size count key j₀ at₀ j at = (j ≤ count) × (at ≡ header + size * j) × (spot_of key (keys_in header size count page) ≡ j + spot_of key (read_each key_in size (count - j) (drop at page)))
 
 abbrev decreases-loop : tie.decreases-loop
 decreases-loop page header size count key j₀ at₀ j at = count - j
 
 loop-holds : tie.Need-loop-init invariant-loop decreases-loop
-unfolding keysIn
+unfolding keys_in
 loop-holds c = (search rules, rw (mul-zero, add-zero), rw (sub-zero, zero-add))
 
 get64-requires : tie.Need-get64-requires invariant-loop decreases-loop
@@ -34,7 +34,7 @@ returns c =
     let loop = c.before.before.before.loop in
     let a = c.before.before.before.before.before.args in
     omega
-    (arith, loop.invariant.2, spot-stop a.key a.size a.count loop.j loop.at a.page.now (omega arith) (omega arith))
+    (arith, loop.invariant.2, spot_stop a.key a.size a.count loop.j loop.at a.page.now (omega arith) (omega arith))
 
 add-j : tie.Need-overflow-add-j invariant-loop decreases-loop
 add-j c = search rules
@@ -55,7 +55,7 @@ loop-again c =
       search rules,
       rw (add-one, mul-suc) (omega arith),
       omega
-          (arith, loop.invariant.2, spot-pass a.key a.size a.count loop.j loop.at a.page.now (omega arith) (omega arith)),
+          (arith, loop.invariant.2, spot_pass a.key a.size a.count loop.j loop.at a.page.now (omega arith) (omega arith)),
     )
 
 returns-2 : tie.Need-returns-2 invariant-loop decreases-loop

@@ -1,7 +1,7 @@
 -- `entries::start`: nothing stands before 0; else what is not below a key is above the one before it.
 -- Assumes nothing.
 use native.Mathlib.Omega.{arith}
-use Rattle.entries.specs.Spot.{start_of, keysIn}
+use Rattle.entries.specs.Spot.{start_of, keys_in}
 use Rattle.entries.proofs.Cut.{start-spot}
 use mathlib.Core.Path.{sym, ◌∙◌}
 use borrow.Author.Rules.{rules}
@@ -21,7 +21,7 @@ spot-requires c κs = search rules
 returns-2 : tie.Need-returns-2
 returns-2 c =
     let a = c.before.before.before.args in
-    c.spot.ensures ∙ sym (start-spot a.low (keysIn a.header a.size a.count a.page.now) (omega arith))
+    c.spot.ensures ∙ sym (start-spot a.low (keys_in a.header a.size a.count a.page.now) (omega arith))
 
 pub start_spec : {M : Type 1} → statement M
 start_spec = tie.close (tie.spec returns sub-spot spot-requires returns-2)

@@ -1,6 +1,6 @@
 -- `entries::write_cert`: the two fields of the entry, one after the other.
 -- Assumes nothing.
-use Rattle.entries.proofs.Header.{cert-puts}
+use Rattle.entries.proofs.Header.{cert_puts}
 use mathlib.Core.Path.{sym}
 use borrow.Author.Rules.{rules}
 use Rattle.entries.proofs.write_cert.Statement.{statement}
@@ -23,7 +23,7 @@ returns c =
     let put32 = c.before.before.put32 in
     let put64 = c.before.before.before.before.before.before.put64 in
     let a = c.before.before.before.before.before.before.before.before.before.args in
-    rw (put32.ensures, put64.ensures) (sym (cert-puts a.page.now a.at a.key a.value))
+    rw (put32.ensures, put64.ensures) (sym (cert_puts a.page.now a.at a.key a.value))
 
 pub write-cert-spec : {M : Type 1} → statement M
 write-cert-spec = tie.close (tie.spec put64-requires add-put32 put32-requires same_length returns)

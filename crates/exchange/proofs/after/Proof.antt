@@ -2,7 +2,7 @@
 -- Assumes nothing.
 use Prim.Native.Nat.{◌*◌}
 use mathlib.Core.Path.{◌≡◌, sym}
-use Rattle.fields.specs.Field.{leAt}
+use Rattle.fields.specs.Field.{le_at}
 use Rattle.exchange.specs.Item.{size}
 use Rattle.exchange.proofs.Steps.{after_is}
 use native.Mathlib.Omega.{arith}
@@ -30,7 +30,7 @@ add-result c =
 mul-result : tie.Need-overflow-mul-result
 mul-result c =
     let a = c.before.before.before.args in
-    let e : c.before.type_size.result * c.get32.result ≡ size a.s * leAt a.f.now a.at 4 = rw
+    let e : c.before.type_size.result * c.get32.result ≡ size a.s * le_at a.f.now a.at 4 = rw
     (c.before.type_size.ensures, c.get32.ensures) in
     omega (
       arith,
@@ -43,7 +43,7 @@ mul-result c =
 add-result-2 : tie.Need-overflow-add-result-2
 add-result-2 c =
     let a = c.before.before.before.args in
-    let e : c.before.type_size.result * c.get32.result ≡ size a.s * leAt a.f.now a.at 4 = rw
+    let e : c.before.type_size.result * c.get32.result ≡ size a.s * le_at a.f.now a.at 4 = rw
     (c.before.type_size.ensures, c.get32.ensures) in
     omega (
       arith,

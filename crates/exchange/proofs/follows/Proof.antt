@@ -1,7 +1,7 @@
 -- `exchange::follows`: test by test; an item at the place of the one before it goes by the numbers.
 -- Assumes nothing.
 use mathlib.Core.Path.{sym}
-use Rattle.exchange.proofs.Steps.{follows-zero, follows-beyond, follows-passes, follows_next, follows-below, follows_same}
+use Rattle.exchange.proofs.Steps.{follows-zero, follows_beyond, follows-passes, follows_next, follows-below, follows_same}
 use native.Mathlib.Omega.{arith}
 use borrow.Author.Rules.{rules}
 use Rattle.exchange.proofs.follows.Statement.{statement}
@@ -16,7 +16,7 @@ returns-2 : tie.Need-returns-2
 returns-2 c =
     let a = c.before.before.args in
     sym
-    (follows-beyond a.over a.used a.last a.place a.number (omega (arith, c.before.if1.false))
+    (follows_beyond a.over a.used a.last a.place a.number (omega (arith, c.before.if1.false))
     c.if2.true)
 
 returns-3 : tie.Need-returns-3

@@ -4,15 +4,15 @@ use borrow.Author.Tests.{not-true, not-false}
 use Prim.Native.Nat.{◌≤◌}
 use mathlib.Core.Path.{◌≡◌, refl, sym, ◌∙◌}
 use lib.ListN.{length}
-use Rattle.exchange.specs.Judged.{itemsJudged}
-use Rattle.exchange.proofs.Steps.{followed, items-end, items-bare, items-cut, items-bad, items-on}
+use Rattle.exchange.specs.Judged.{items_judged}
+use Rattle.exchange.proofs.Steps.{followed, items-end, items-bare, items-cut, items_bad, items_on}
 use borrow.Author.Rules.{rules}
 use native.Mathlib.Omega.{arith}
 use Rattle.exchange.proofs.items_judged.Statement.{statement}
 use Rattle.exchange.proofs.items_judged.Tie as tie
 
 abbrev invariant-loop : tie.invariant-loop
-invariant-loop f s over begun count from width left₀ at₀ used₀ last₀ left at used last = (at ≤ length f) × (itemsJudged s f over count from begun 0 ≡ itemsJudged s f over left at used last)
+invariant-loop f s over begun count from width left₀ at₀ used₀ last₀ left at used last = (at ≤ length f) × (items_judged s f over count from begun 0 ≡ items_judged s f over left at used last)
 
 abbrev decreases-loop : tie.decreases-loop
 decreases-loop f s over begun count from width left₀ at₀ used₀ last₀ left at used last = left
@@ -58,7 +58,7 @@ returns-2 c =
     let l = c.before.before.before.before.before.before.loop in
     sym
     (l.invariant.1
-    ∙ items-bad a.s a.f.now a.over l.left l.at l.used l.last
+    ∙ items_bad a.s a.f.now a.over l.left l.at l.used l.last
     c.before.before.before.before.before.before.before.type_size.result
     c.before.before.before.place_at.result c.before.before.number_at.result
     c.before.before.before.before.before.before.before.type_size.ensures
@@ -97,7 +97,7 @@ loop-again c =
     let a = c.before.before.before.before.before.before.before.before.before.args in
     let l = c.before.before.before.before.before.before.loop in (
       omega (arith, c.before.before.before.before.if1.false, l.invariant.0),
-      l.invariant.1 ∙ items-on a.s a.f.now a.over l.left l.at l.used l.last c.before.before.before.before.before.before.before.type_size.result c.before.before.before.place_at.result c.before.before.number_at.result c.before.before.before.before.before.before.before.type_size.ensures c.before.before.before.place_at.ensures c.before.before.number_at.ensures (omega (arith, c.before.before.before.before.if1.false, l.invariant.0)) (omega (arith, c.before.before.before.before.before.loop-test.true)) (sym c.before.follows.ensures ∙ not-false c.before.follows.result c.if2.false),
+      l.invariant.1 ∙ items_on a.s a.f.now a.over l.left l.at l.used l.last c.before.before.before.before.before.before.before.type_size.result c.before.before.before.place_at.result c.before.before.number_at.result c.before.before.before.before.before.before.before.type_size.ensures c.before.before.before.place_at.ensures c.before.before.number_at.ensures (omega (arith, c.before.before.before.before.if1.false, l.invariant.0)) (omega (arith, c.before.before.before.before.before.loop-test.true)) (sym c.before.follows.ensures ∙ not-false c.before.follows.result c.if2.false),
     )
 
 returns-3 : tie.Need-returns-3 invariant-loop decreases-loop

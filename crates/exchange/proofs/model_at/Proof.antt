@@ -2,7 +2,7 @@
 -- Assumes nothing.
 use Prim.Native.Nat.{ℕ}
 use mathlib.Core.Path.{sym, ap, ◌∙◌}
-use Rattle.fields.specs.Field.{leAt}
+use Rattle.fields.specs.Field.{le_at}
 use Rattle.exchange.proofs.Places.{model-lies, model-told}
 use native.Mathlib.Omega.{arith}
 use Rattle.exchange.proofs.model_at.Statement.{statement}
@@ -26,7 +26,7 @@ returns : tie.Need-returns
 returns c =
     let a = c.before.before.before.args in
     c.get16.ensures
-    ∙ ap (λ (n : ℕ). leAt a.f.now n 2) c.before.item_from.ensures
+    ∙ ap (λ (n : ℕ). le_at a.f.now n 2) c.before.item_from.ensures
     ∙ sym (model-told a.f.now a.place c.before.before.before.requires.1)
 
 pub model-at-spec : {M : Type 1} → statement M

@@ -1,6 +1,6 @@
 -- `exchange::put_cert`: its place, its issue and its record.
 -- Assumes nothing.
-use Rattle.exchange.proofs.Puts.{put-cert}
+use Rattle.exchange.proofs.Puts.{put_cert_lem}
 use borrow.Author.Rules.{rules}
 use Rattle.exchange.proofs.put_cert.Statement.{statement}
 use Rattle.exchange.proofs.put_cert.Tie as tie
@@ -31,7 +31,7 @@ returns c =
       c.before.before.before.before.before.before.put16.ensures,
       c.before.before.before.before.before.before.before.before.before.before.put32.ensures,
     )
-    (put-cert a.out.now a.at a.place a.issue a.«record»)
+    (put_cert_lem a.out.now a.at a.place a.issue a.«record»)
 
 pub put-cert-spec : {M : Type 1} → statement M
 put-cert-spec =

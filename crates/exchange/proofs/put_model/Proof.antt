@@ -1,6 +1,6 @@
 -- `exchange::put_model`: its two bytes.
 -- Assumes nothing.
-use Rattle.exchange.proofs.Puts.{put-model}
+use Rattle.exchange.proofs.Puts.{put_model_lem}
 use borrow.Author.Rules.{rules}
 use Rattle.exchange.proofs.put_model.Statement.{statement}
 use Rattle.exchange.proofs.put_model.Tie as tie
@@ -14,7 +14,7 @@ same_length c = search rules
 returns : tie.Need-returns
 returns c =
     rw c.before.before.put16.ensures
-    (put-model c.before.before.before.before.before.args.out.now
+    (put_model_lem c.before.before.before.before.before.args.out.now
     c.before.before.before.before.before.args.at c.before.before.before.before.before.args.model)
 
 pub put-model-spec : {M : Type 1} → statement M

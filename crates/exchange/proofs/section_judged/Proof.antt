@@ -1,7 +1,7 @@
 -- `exchange::section_judged`: the count, then the items.
 -- Assumes nothing.
 use mathlib.Core.Path.{sym, ◌∙◌}
-use Rattle.exchange.proofs.Steps.{section-cut, section-on}
+use Rattle.exchange.proofs.Steps.{section_cut, section_on}
 use borrow.Author.Rules.{rules}
 use native.Mathlib.Omega.{arith}
 use Rattle.exchange.proofs.section_judged.Statement.{statement}
@@ -14,7 +14,7 @@ returns : tie.Need-returns
 returns c =
     let a = c.before.before.args in
     sym
-    (section-cut a.s a.f.now a.over a.used a.at (omega (arith, c.if1.true, c.before.before.requires)))
+    (section_cut a.s a.f.now a.over a.used a.at (omega (arith, c.if1.true, c.before.before.requires)))
 
 get32-requires : tie.Need-get32-requires
 get32-requires c κs = omega (arith, c.if1.false, c.before.before.requires)
@@ -31,7 +31,7 @@ returns-2 c =
     let a = c.before.before.before.before.args in
     rw c.before.get32.ensures at c.items-judged.ensures
     ∙ sym
-    (section-on a.s a.f.now a.over a.used a.at
+    (section_on a.s a.f.now a.over a.used a.at
     (omega (arith, c.before.before.if1.false, c.before.before.before.before.requires)))
 
 pub section-judged-spec : {M : Type 1} → statement M

@@ -52,7 +52,7 @@ use Rattle.exports.specs.contracts.delivered as delivered
 use Rattle.exports.proofs.delivered.Symbol as delivered-def
 use Rattle.exports.proofs.delivered.Symbol.{name as #exports·delivered}
 use Rattle.exports.proofs.delivered.Met as delivered-thm
-use Rattle.batch.proofs.Values.{sessionVal, session-typed, made-typed}
+use Rattle.batch.proofs.Values.{session_val, session_typed, made_typed}
 use Rattle.store.specs.contracts.batch as below
 use Rattle.store.proofs.batch.Symbol as below-def
 use Rattle.store.proofs.batch.Symbol.{name as #store·batch}
@@ -64,7 +64,7 @@ use Rattle.exports.proofs.kh_batch.Code as code
 
 -- what is handed back for C
 abbrev back : Batching → KhChanged
-back r = C.batchedBack r.answer r.report r.session
+back r = C.batched_back r.answer r.report r.session
 
 abbrev stayed : Stays (kh-batch.ended).signature.params (kh-batch.ended).kept
 stayed = (gave_slice (0 ∷ []) tt (plain (λ _. u8)), (stay_dropped (shr_slice_of (1 ∷ []) tt (plain (λ _. u8))) yes, (stay_dropped (plain (λ _. S.the_row)) yes, (gave_slice (2 ∷ []) tt (plain (λ _. I.the_row)), tt))))
@@ -84,7 +84,7 @@ module _ {M : Type 1} {𝓤 : Ura M} (𝓛 : Logic 𝓤) (mem : Memory → SProp
 module _ {M : Type 1} {𝓤 : Ura M} (𝓛 : Logic 𝓤) (mem : Memory → SProp 𝓤) (run : Routine → Fun 𝓤)
     (κ₀ κ₁ κ₂ : Lft) (q₀ q₁ q₂ : Share) (x₀ x₁ : Bor (List ℕ)) (s : Session) (x₂ : Bor (List Item))
     (room₀ : Room u8 (length x₀.now)) (room₁ : Room u8 (length x₁.now)) (room₂ : Room I.the_row (length x₂.now))
-    (s-is : Is S.the_row s (sessionVal s ∷ [])) where
+    (s-is : Is S.the_row s (session_val s ∷ [])) where
   open 𝓛 use {H}
 
   abbrev v₀ : Val
@@ -109,7 +109,7 @@ module _ {M : Type 1} {𝓤 : Ura M} (𝓛 : Logic 𝓤) (mem : Memory → SProp
   a = (x₀, (x₁, (s, (x₂, tt))))
 
   abbrev vals : List Val × (List Val × (List Val × (List Val × Unit {0})))
-  vals = (v₀ ∷ [], (v₁ ∷ [], (sessionVal s ∷ [], (v₂ ∷ [], tt))))
+  vals = (v₀ ∷ [], (v₁ ∷ [], (session_val s ∷ [], (v₂ ∷ [], tt))))
 
   abbrev bound : (walk_of 𝓛 kh-batch.ended stayed (kh-batch.clauses 𝓛 mem run)).Ghost
   bound = ((κs, (q₀, (q₁, (q₂, tt))), tt, a, vals), tt)
@@ -148,11 +148,11 @@ module _ {M : Type 1} {𝓤 : Ura M} (𝓛 : Logic 𝓤) (mem : Memory → SProp
       says ! ((λ i. C.batching (f i) w x₁.now ys) ∙ ap C.batched e) $ frame ! $ nothing ! $ move ! (3 ∷ 0 ∷ []) $ fjoin ! $ nothing ! $ fjoin ! $ nothing ! $ fjoin ! $ move ! (2 ∷ 0 ∷ []) $ fjoin ! $ done !
 
   module _ (𝓣 : Tables 𝓤 H) (known : Triple 𝓤 (𝓣.C #store·batch) (Below 𝓛 mem run)) (known-delivered : Triple 𝓤 (𝓣.C #exports·delivered) (Delivered 𝓛 mem run)) where
-    walk : ent 𝓤 (on_entry 𝓛 kh-batch.signature κs (q₀, (q₁, (q₂, tt))) a vals) (WpFn 𝓤 H 𝓣.C 𝓣.Λ code.function (v₀ ∷ v₁ ∷ sessionVal s ∷ v₂ ∷ []) Post)
+    walk : ent 𝓤 (on_entry 𝓛 kh-batch.signature κs (q₀, (q₁, (q₂, tt))) a vals) (WpFn 𝓤 H 𝓣.C 𝓣.Λ code.function (v₀ ∷ v₁ ∷ session_val s ∷ v₂ ∷ []) Post)
     walk =
-        qed 𝓛 (Tokens ∷ ‵ Params ∷ []) ∵ enter ! 𝓣.C 𝓣.Λ code.function (v₀ ∷ v₁ ∷ sessionVal s ∷ v₂ ∷ []) _ $
+        qed 𝓛 (Tokens ∷ ‵ Params ∷ []) ∵ enter ! 𝓣.C 𝓣.Λ code.function (v₀ ∷ v₁ ∷ session_val s ∷ v₂ ∷ []) _ $
         alloc1 ! (λ l₀. alloc1 ! (λ l₁. alloc1 ! (λ l₂. alloc1 ! (λ l₃. alloc1 ! (λ l₄. alloc1 ! (λ l₅. alloc1 ! (λ l₆. alloc1 ! (λ l₇. alloc1 ! (λ l₈. alloc1 ! (λ l₉. alloc0 ! $ params1 ! $
-        pass1 ! (init ! 16 refl (tt, (tt, (record { fits = room₀.0 }, tt)))) $ pass1 ! (init ! 14 refl (tt, (tt, (record { fits = room₁.0 }, tt)))) $ pass1 ! (init ! 12 refl (session-typed 𝓛 s _ s-is)) $ pass1 ! (init ! 10 refl (tt, (tt, (record { fits = room₂.0 }, tt)))) $ pass0 ! $
+        pass1 ! (init ! 16 refl (tt, (tt, (record { fits = room₀.0 }, tt)))) $ pass1 ! (init ! 14 refl (tt, (tt, (record { fits = room₁.0 }, tt)))) $ pass1 ! (init ! 12 refl (session_typed 𝓛 s _ s-is)) $ pass1 ! (init ! 10 refl (tt, (tt, (record { fits = room₂.0 }, tt)))) $ pass0 ! $
         -- both lent slices under new names
         assigns ! (addr ! (from ! (fld ! refl (hop ! (look_in ! 16 (sub ! 0 refl (whole !))) (stop !))))) (from ! (stop !)) (init ! 6 refl (tt, tt)) $
         assigns ! (agg ! (and_then ! (load ! (from ! (stop !)) (look ! 6 refl)) (and_then ! (load ! (from ! (fld ! refl (stop !))) (look_in ! 16 (sub ! 1 refl (whole !)))) (no_more !)))) (from ! (stop !)) (init ! 4 refl (tt, (tt, (record { fits = room₀.0 }, tt)))) $
@@ -169,7 +169,7 @@ module _ {M : Type 1} {𝓤 : Ura M} (𝓛 : Logic 𝓤) (mem : Memory → SProp
         fsplit ! $ fsplit ! $ move ! (1 ∷ []) $ feq_l ! (λ k₀. move ! (1 ∷ []) $ fsplit ! $ drop ! $ fsplit ! $ drop ! $ fsplit ! $ fsplit ! $ move ! (1 ∷ []) $ feq_l ! (λ k₂.
         move ! (3 ∷ []) $ split ! $ move ! (1 ∷ []) $ peeks ! B.the_row (Is B.the_row) (shows 𝓛 B.the_row) r (v ∷ []) (λ is.
         -- [the result; tokens; items' last; nothing; working's last; the locals]
-        land ! (from ! (stop !)) (init ! 13 refl (made-typed 𝓛 r v is)) $
+        land ! (from ! (stop !)) (init ! 13 refl (made_typed 𝓛 r v is)) $
         use1 𝓛 (raw ((Delivered 𝓛 mem run).pre (to-delivered r v))) (asks-delivered r v) $
         calls_at ! (fm_of 𝓤 H 𝓛.laws 𝓣) (Delivered 𝓛 mem run) known-delivered (to-delivered r v) (and_then ! (load ! (from ! (stop !)) (look ! 13 refl)) (no_more !)) (λ u.
         use1 𝓛 (later (some (λ (k : KhChanged). (‵ ftrue ⊛ ‵ ((K.the_row).own_val k (u ∷ []))) ⊛ raw (ensured 𝓛 delivered.ended (delivered.clauses 𝓛 mem run) tt (r, tt) tt k)))) (id⊢ 𝓤 _) $ await ! tt $ pick ! (λ k.

@@ -1,7 +1,7 @@
 -- `fields::get16`: the two bytes are the two parts of the field, and being bytes they make a sum that fits.
 -- Assumes nothing.
 use Prim.Native.Nat.{◌+◌}
-use Rattle.fields.proofs.Field.{leAt-add, leAt-byte}
+use Rattle.fields.proofs.Field.{le_at-add, le_at_byte}
 use native.Mathlib.Omega.{arith}
 use borrow.Author.Rules.{rules}
 use Rattle.fields.proofs.get16.Statement.{statement}
@@ -35,7 +35,7 @@ add-result c =
 returns : tie.Need-returns
 returns c =
     let a = c.before.before.args in
-    omega (arith, leAt-add a.b.now a.at 1 1, leAt-byte a.b.now a.at, leAt-byte a.b.now (a.at + 1))
+    omega (arith, le_at-add a.b.now a.at 1 1, le_at_byte a.b.now a.at, le_at_byte a.b.now (a.at + 1))
 
 pub get16-spec : {M : Type 1} → statement M
 get16-spec =

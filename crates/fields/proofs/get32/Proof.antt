@@ -1,6 +1,6 @@
 -- `fields::get32`: the field is read in two parts of 2 bytes.
 -- Assumes nothing.
-use Rattle.fields.proofs.Field.{leAt-add}
+use Rattle.fields.proofs.Field.{le_at-add}
 use native.Mathlib.Omega.{arith}
 use borrow.Author.Rules.{rules}
 use Rattle.fields.proofs.get32.Statement.{statement}
@@ -30,7 +30,7 @@ add-result c = search rules
 returns : tie.Need-returns
 returns c =
     let a = c.before.before.before.args in
-    omega (arith, leAt-add a.b.now a.at 2 2, c.before.get16.ensures, c.get162.ensures)
+    omega (arith, le_at-add a.b.now a.at 2 2, c.before.get16.ensures, c.get162.ensures)
 
 pub get32-spec : {M : Type 1} → statement M
 get32-spec =

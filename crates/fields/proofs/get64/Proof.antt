@@ -1,6 +1,6 @@
 -- `fields::get64`: the field is read in two parts of 4 bytes.
 -- Assumes nothing.
-use Rattle.fields.proofs.Field.{leAt-add}
+use Rattle.fields.proofs.Field.{le_at-add}
 use native.Mathlib.Omega.{arith}
 use borrow.Author.Rules.{rules}
 use Rattle.fields.proofs.get64.Statement.{statement}
@@ -30,7 +30,7 @@ add-result c = search rules
 returns : tie.Need-returns
 returns c =
     let a = c.before.before.before.args in
-    omega (arith, leAt-add a.b.now a.at 4 4, c.before.get32.ensures, c.get322.ensures)
+    omega (arith, le_at-add a.b.now a.at 4 4, c.before.get32.ensures, c.get322.ensures)
 
 pub get64-spec : {M : Type 1} → statement M
 get64-spec =

@@ -2,7 +2,7 @@
 -- Assumes nothing.
 use Prim.Native.Nat.{◌+◌, ◌/◌, ◌%◌}
 use lib.ListN.{set, length-set}
-use Rattle.fields.proofs.Field.{putAt-parts, putAt-byte}
+use Rattle.fields.proofs.Field.{put_at_parts, put_at_byte}
 use native.Mathlib.Omega.{arith}
 use borrow.Author.Rules.{rules}
 use Rattle.fields.proofs.put16.Statement.{statement}
@@ -30,7 +30,7 @@ returns : tie.Need-returns
 returns c =
     let a = c.args in
     rw
-    (putAt-parts a.b.now a.at 1 1 a.v, putAt-byte a.b.now a.at (a.v % 256) (omega arith), putAt-byte (set a.b.now a.at (a.v % 256)) (a.at + 1) (a.v / 256) (omega arith))
+    (put_at_parts a.b.now a.at 1 1 a.v, put_at_byte a.b.now a.at (a.v % 256) (omega arith), put_at_byte (set a.b.now a.at (a.v % 256)) (a.at + 1) (a.v / 256) (omega arith))
 
 pub put16-spec : {M : Type 1} → statement M
 put16-spec =

@@ -1,6 +1,6 @@
 -- `fields::put32`: the field is put in two parts of 2 bytes.
 -- Assumes nothing.
-use Rattle.fields.proofs.Field.{putAt-parts}
+use Rattle.fields.proofs.Field.{put_at_parts}
 use borrow.Author.Rules.{rules}
 use Rattle.fields.proofs.put32.Statement.{statement}
 use Rattle.fields.proofs.put32.Tie as tie
@@ -27,7 +27,7 @@ returns : tie.Need-returns
 returns c =
     let put16 = c.before.before.before.before.before.before.put16 in
     let a = c.before.before.before.before.before.before.before.before.before.args in
-    rw (c.before.before.put162.ensures, put16.ensures, putAt-parts a.b.now a.at 2 2 a.v)
+    rw (c.before.before.put162.ensures, put16.ensures, put_at_parts a.b.now a.at 2 2 a.v)
 
 pub put32-spec : {M : Type 1} → statement M
 put32-spec =

@@ -1,6 +1,6 @@
 -- `fields::put64`: the field is put in two parts of 4 bytes.
 -- Assumes nothing.
-use Rattle.fields.proofs.Field.{putAt-parts}
+use Rattle.fields.proofs.Field.{put_at_parts}
 use borrow.Author.Rules.{rules}
 use Rattle.fields.proofs.put64.Statement.{statement}
 use Rattle.fields.proofs.put64.Tie as tie
@@ -27,7 +27,7 @@ returns : tie.Need-returns
 returns c =
     let put32 = c.before.before.before.before.before.before.put32 in
     let a = c.before.before.before.before.before.before.before.before.before.args in
-    rw (c.before.before.put322.ensures, put32.ensures, putAt-parts a.b.now a.at 4 4 a.v)
+    rw (c.before.before.put322.ensures, put32.ensures, put_at_parts a.b.now a.at 4 4 a.v)
 
 pub put64-spec : {M : Type 1} → statement M
 put64-spec =

@@ -5,16 +5,16 @@ use mathlib.Core.Path.{◌≡◌, refl, ◌∙◌}
 use lib.ListN.{length, length-set}
 use lib.Seq.{paste, paste-zero}
 use Rattle.rules.specs.Entry as entry
-use Rattle.rules.specs.List.{recordsOf}
-use Rattle.fill.specs.Fills.{certsFrom}
-use Rattle.fill.proofs.Copies.{key-turn, record-turn, copied}
+use Rattle.rules.specs.List.{records_of}
+use Rattle.fill.specs.Fills.{certs_from}
+use Rattle.fill.proofs.Copies.{key-turn, record_turn, copied}
 use borrow.Author.Rules.{rules}
 use native.Mathlib.Omega.{arith}
 use Rattle.fill.proofs.copy.Statement.{statement}
 use Rattle.fill.proofs.copy.Tie as tie
 
 abbrev invariant-loop : tie.invariant-loop
-invariant-loop page first many keys₀ records₀ filled j₀ keys records j = (j ≤ many) × (length keys ≡ length keys₀) × (length records ≡ length records₀) × (keys ≡ paste keys₀ filled (entry.keys (certsFrom page first many)) j) × (records ≡ paste records₀ filled (recordsOf (certsFrom page first many)) j)
+invariant-loop page first many keys₀ records₀ filled j₀ keys records j = (j ≤ many) × (length keys ≡ length keys₀) × (length records ≡ length records₀) × (keys ≡ paste keys₀ filled (entry.keys (certs_from page first many)) j) × (records ≡ paste records₀ filled (records_of (certs_from page first many)) j)
 
 abbrev decreases-loop : tie.decreases-loop
 decreases-loop page first many keys₀ records₀ filled j₀ keys records j = many - j
@@ -22,12 +22,12 @@ decreases-loop page first many keys₀ records₀ filled j₀ keys records j = m
 loop-holds : tie.Need-loop-init invariant-loop decreases-loop
 loop-holds c =
     let args = c.before.before.before.args in
-    let certs = certsFrom args.page.now args.first args.many in (
+    let certs = certs_from args.page.now args.first args.many in (
       omega arith,
       refl,
       refl,
       paste-zero args.keys.now args.filled (entry.keys certs),
-      paste-zero args.records.now args.filled (recordsOf certs),
+      paste-zero args.records.now args.filled (records_of certs),
     )
 
 add-cert-key : tie.Need-overflow-add-cert-key invariant-loop decreases-loop
@@ -79,7 +79,7 @@ loop-again c =
     let wide = length-set loop.records at value.result ∙ loop.invariant.2 in
     let keys = key-turn args.page.now args.first args.many args.keys.now loop.keys args.filled
     loop.j key.result loop-test.true pre.2 loop.invariant.3 key.ensures in
-    let records = record-turn args.page.now args.first args.many args.records.now loop.records
+    let records = record_turn args.page.now args.first args.many args.records.now loop.records
     args.filled loop.j value.result loop-test.true pre.3 loop.invariant.4 value.ensures in
     (omega (arith, loop-test.true), long, wide, keys, records)
 

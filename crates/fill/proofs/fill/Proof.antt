@@ -5,7 +5,7 @@ use mathlib.Core.Path.{◌≡◌, refl, ap, sym, ◌∙◌}
 use lib.ListN.{length}
 use Rattle.leaves.specs.Cursors.{nexting}
 use Rattle.fill.proofs.Copies.{roomy-kept}
-use Rattle.fill.proofs.Fills.{Writing, writing_begins, writing-full, writing-damaged, writing-reached, writing-ends, writing-on, writing-less, reached-inside, reached-count, reached-rises, roomy-from}
+use Rattle.fill.proofs.Fills.{Writing, writing_begins, writing-full, writing-damaged, writing-reached, writing-ends, writing-on, writing_less, reached-inside, reached-count, reached-rises, roomy-from}
 use borrow.Author.Rules.{rules}
 use native.Mathlib.Omega.{arith}
 use Rattle.fill.proofs.fill.Statement.{statement}
@@ -116,7 +116,7 @@ loop-less c =
     let if1 = c.before.before.before.before.before.before.before.before.before.before.before.before.before.before.before.before.before.before.before.before.before.before.before.if1 in
     let next = c.before.before.before.before.before.before.before.before.before.before.before.before.before.before.before.before.before.before.before.before.before.next in
     let leaf = c.before.before.before.before.before.before.before.before.before.before.before.before.before.before.before.before.before.leaf in
-    writing-less loop.invariant.3 if1.true loop.key next.new.0 leaf.given.0.0 (ap (nexting next.new.0) (sym leaf.given.1) ∙ next.ensures) (omega (arith, c.before.before.if2.false))
+    writing_less loop.invariant.3 if1.true loop.key next.new.0 leaf.given.0.0 (ap (nexting next.new.0) (sym leaf.given.1) ∙ next.ensures) (omega (arith, c.before.before.if2.false))
 
 loop-again : tie.Need-loop-preserved invariant-loop decreases-loop
 loop-again c =

@@ -2,9 +2,9 @@
 -- Assumes nothing.
 use mathlib.Core.Path.{◌≡◌, refl}
 use lib.ListN.{length}
-use Rattle.dry.proofs.Leads.{wayLeft}
+use Rattle.dry.proofs.Leads.{way_left}
 use Rattle.fill.proofs.Copies.{roomy-kept}
-use Rattle.fill.proofs.Calms.{Filling, filling-begins, filling-sure, filling-full, filling-ends, filling-breaks, filling-less, filling-on, filling-passes, filling-inside, filling-count, filling-rises, filling-leaf}
+use Rattle.fill.proofs.Calms.{Filling, filling-begins, filling_sure, filling-full, filling-ends, filling-breaks, filling_less, filling_on, filling-passes, filling-inside, filling-count, filling-rises, filling-leaf}
 use borrow.Author.Rules.{rules}
 use native.Mathlib.Omega.{arith}
 use Rattle.fill.proofs.fill_known.Statement.{statement}
@@ -14,7 +14,7 @@ abbrev invariant-loop : tie.invariant-loop
 invariant-loop t n a keys₀ records₀ c₀ filled₀ mended₀ keys records c filled mended = (length mended ≡ 128) × (length keys ≡ length keys₀) × (length records ≡ length records₀) × Filling n a t keys₀ records₀ c filled mended keys records
 
 abbrev decreases-loop : tie.decreases-loop
-decreases-loop t n a keys₀ records₀ c₀ filled₀ mended₀ keys records c filled mended = wayLeft c
+decreases-loop t n a keys₀ records₀ c₀ filled₀ mended₀ keys records c filled mended = way_left c
 
 at-root-requires : tie.Need-at-root-requires invariant-loop decreases-loop
 at-root-requires c κs = search rules
@@ -22,7 +22,7 @@ at-root-requires c κs = search rules
 loop-holds : tie.Need-loop-init invariant-loop decreases-loop
 loop-holds c =
     let pre = c.before.before.before.before.requires in
-    (refl, refl, refl, filling-begins pre.0 pre.1 c.at-root.result c.at-root.ensures)
+    (refl, refl, refl, filling-begins pre.0 pre.1 c.at_root_lem.result c.at_root_lem.ensures)
 
 slice-aggregate-next : tie.Need-slice-aggregate-next invariant-loop decreases-loop
 slice-aggregate-next c = search rules
@@ -31,7 +31,7 @@ next-requires : tie.Need-next-requires invariant-loop decreases-loop
 next-requires c κs =
     let pre = c.before.before.before.before.before.before.before.before.requires in
     let loop = c.before.before.before.loop in
-    (pre.0.long, loop.invariant.3.going.leads, λ h. filling-sure pre.0 loop.invariant.3 c.before.if1.true)
+    (pre.0.long, loop.invariant.3.going.leads, λ h. filling_sure pre.0 loop.invariant.3 c.before.if1.true)
 
 enum-known-s : tie.Need-enum-known-s invariant-loop decreases-loop
 enum-known-s c = search rules
@@ -42,7 +42,7 @@ loop-less c =
     let loop = c.before.before.before.before.before.before.before.before.loop in
     let if1 = c.before.before.before.before.before.before.if1 in
     let next = c.before.before.before.before.next in
-    filling-less pre.0 loop.invariant.3 if1.true next.ensures c.before.s.given.0.0 c.before.s.given.1
+    filling_less pre.0 loop.invariant.3 if1.true next.ensures c.before.s.given.0.0 c.before.s.given.1
 
 loop-again : tie.Need-loop-preserved invariant-loop decreases-loop
 loop-again c =
@@ -50,7 +50,7 @@ loop-again c =
     let loop = c.before.before.before.before.before.before.before.before.loop in
     let if1 = c.before.before.before.before.before.before.if1 in
     let next = c.before.before.before.before.next in
-    (omega arith, loop.invariant.1, loop.invariant.2, filling-on pre.0 loop.invariant.3 if1.true next.ensures c.before.s.given.0.0 c.before.s.given.1 (omega arith))
+    (omega arith, loop.invariant.1, loop.invariant.2, filling_on pre.0 loop.invariant.3 if1.true next.ensures c.before.s.given.0.0 c.before.s.given.1 (omega arith))
 
 enum-known-s-2 : tie.Need-enum-known-s-2 invariant-loop decreases-loop
 enum-known-s-2 c = search rules

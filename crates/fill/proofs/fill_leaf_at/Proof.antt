@@ -1,7 +1,7 @@
 -- `fill::fill_leaf_at`: the same on a page of the table.
 -- Assumes nothing.
-use Rattle.rules.proofs.bytes.Tables.{length-pageAt}
-use Rattle.entries.proofs.Part.{page-part}
+use Rattle.rules.proofs.Bytes.Tables.{length-page_at}
+use Rattle.entries.proofs.Part.{page_part}
 use native.Mathlib.Omega.{arith}
 use borrow.Author.Rules.{rules}
 use Rattle.fill.proofs.fill_leaf_at.Statement.{statement}
@@ -26,8 +26,8 @@ fill-leaf-requires : tie.Need-fill-leaf-requires
 fill-leaf-requires c κs =
     let args = c.before.before.before.before.before.before.args in
     let pre = c.before.before.before.before.before.before.requires in
-    let long = length-pageAt args.t.now args.page (omega arith) in
-    rw (page-part args.t.now args.page)
+    let long = length-page_at args.t.now args.page (omega arith) in
+    rw (page_part args.t.now args.page)
     (omega (arith, long, pre.1), omega (arith, long), pre.2, pre.3, pre.4)
 
 same_length : tie.Need-same-length
@@ -40,7 +40,7 @@ returns : tie.Need-returns
 returns c =
     let args = c.before.before.before.before.before.before.before.before.before.before.before.args in
     let fill-leaf = c.before.before.before.before.fill-leaf in
-    rw (page-part args.t.now args.page) at fill-leaf.ensures
+    rw (page_part args.t.now args.page) at fill-leaf.ensures
 
 pub fill-leaf-at-spec : {M : Type 1} → statement M
 fill-leaf-at-spec =

@@ -3,7 +3,7 @@ use Prim.Native.Nat.{◌+◌, ◌-◌}
 use mathlib.Core.Path.{◌≡◌, refl, ap, sym, ◌∙◌}
 use lib.ListN.{length}
 use Rattle.leaves.specs.Cursors.{nexting}
-use Rattle.fill.proofs.Fills.{Mending, mending-begins, mending-stops, mending-ends, mending-on, mending-less}
+use Rattle.fill.proofs.Fills.{Mending, mending-begins, mending-stops, mending-ends, mending_on, mending_less}
 use borrow.Author.Rules.{rules}
 use native.Mathlib.Omega.{arith}
 use Rattle.fill.proofs.mend.Statement.{statement}
@@ -74,7 +74,7 @@ loop-less c =
     let loop = c.before.before.before.before.before.before.before.before.before.before.before.before.before.before.before.loop in
     let next = c.before.before.before.before.before.before.before.before.before.before.before.next in
     let leaf = c.before.before.before.before.before.before.before.leaf in
-    mending-less loop.invariant.1 pre.4 loop.key next.new.0 leaf.given.0.0 (ap (nexting next.new.0) (sym leaf.given.1) ∙ next.ensures) (omega (arith, c.before.before.if2.false))
+    mending_less loop.invariant.1 pre.4 loop.key next.new.0 leaf.given.0.0 (ap (nexting next.new.0) (sym leaf.given.1) ∙ next.ensures) (omega (arith, c.before.before.if2.false))
 
 loop-again : tie.Need-loop-preserved invariant-loop decreases-loop
 loop-again c =
@@ -82,7 +82,7 @@ loop-again c =
     let loop = c.before.before.before.before.before.before.before.before.before.before.before.before.before.before.before.loop in
     let next = c.before.before.before.before.before.before.before.before.before.before.before.next in
     let leaf = c.before.before.before.before.before.before.before.leaf in
-    (omega (arith, next.auto.0, loop.invariant.0), mending-on loop.invariant.1 pre.4 loop.key next.new.0 leaf.given.0.0 (ap (nexting next.new.0) (sym leaf.given.1) ∙ next.ensures) (omega (arith, c.before.before.if2.false)))
+    (omega (arith, next.auto.0, loop.invariant.0), mending_on loop.invariant.1 pre.4 loop.key next.new.0 leaf.given.0.0 (ap (nexting next.new.0) (sym leaf.given.1) ∙ next.ensures) (omega (arith, c.before.before.if2.false)))
 
 same-length-3 : tie.Need-same-length-3 invariant-loop decreases-loop
 same-length-3 c = c.before.before.loop.invariant.0

@@ -1,7 +1,7 @@
 -- `fill::start`: no key is below 0; otherwise those below are those not above the number before. Assumes nothing.
 use mathlib.Core.Path.{sym, ◌∙◌}
-use Rattle.entries.specs.Spot.{keysIn, start_of}
-use Rattle.rules.specs.Layout.{leafHeader, certSize}
+use Rattle.entries.specs.Spot.{keys_in, start_of}
+use Rattle.rules.specs.Layout.{leaf_header, cert_size}
 use Rattle.entries.proofs.Cut.{start-spot}
 use native.Mathlib.Omega.{arith}
 use borrow.Author.Rules.{rules}
@@ -22,7 +22,7 @@ returns-2 : tie.Need-returns-2
 returns-2 c =
     let args = c.before.before.before.args in
     c.spot.ensures ∙ sym
-    (start-spot args.low (keysIn leafHeader certSize args.count args.page.now) (let o = c.before.if1.false in omega arith))
+    (start-spot args.low (keys_in leaf_header cert_size args.count args.page.now) (let o = c.before.if1.false in omega arith))
 
 pub start_spec : {M : Type 1} → statement M
 start_spec = tie.close (tie.spec returns sub-spot spot-requires returns-2)

@@ -4,7 +4,7 @@ use borrow.Author.Tests.{not-true, not-false}
 use mathlib.Core.Path.{◌≡◌, sym, ◌∙◌}
 use mathlib.Core.Bool.{true}
 use lib.ListN.{length}
-use Rattle.rules.specs.Table.{pages, setPage, goodLengths}
+use Rattle.rules.specs.Table.{pages, set_page, good_lengths}
 use Rattle.format.proofs.Whole.{few, long, refused, page-blank, made}
 use native.Mathlib.Omega.{arith}
 use borrow.Author.Rules.{rules}
@@ -12,7 +12,7 @@ use Rattle.format.proofs.format.Statement.{statement}
 use Rattle.format.proofs.format.Tie as tie
 
 -- past the test the lengths are good
-passed : (c : tie.Else1) → goodLengths c.before.before.before.before.before.args.working.now c.before.before.before.before.before.args.stable.now ≡ true
+passed : (c : tie.Else1) → good_lengths c.before.before.before.before.before.args.working.now c.before.before.before.before.before.args.stable.now ≡ true
 passed c = sym c.before.good-lengths.ensures ∙ not-false c.before.good-lengths.result c.if1.false
 
 good-lengths-requires : tie.Need-good-lengths-requires
@@ -24,8 +24,8 @@ same_length c = search rules
 returns : tie.Need-returns
 returns c =
     let args = c.before.before.before.before.before.args in
-    let good-lengths = c.before.good-lengths in
-    let failed = sym good-lengths.ensures ∙ not-true good-lengths.result c.if1.true in
+    let good_lengths_lem = c.before.good-lengths in
+    let failed = sym good_lengths_lem.ensures ∙ not-true good_lengths_lem.result c.if1.true in
     refused args.working.now args.stable.now failed
 
 cast-n : tie.Need-overflow-cast-n
@@ -67,7 +67,7 @@ same-length-2 : tie.Need-same-length-2
 same-length-2 c = search rules
 
 returns-2 : tie.Need-returns-2
-unfolding setPage pages
+unfolding set_page pages
 returns-2 c =
     let clear = c.before.before.before.before.before.before.before.before.before.before.clear in
     let name-root = c.before.before.before.before.before.before.name-root in

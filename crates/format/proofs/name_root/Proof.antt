@@ -1,6 +1,6 @@
 -- `format::name_root`: the six puts are those of `named`.
 -- Assumes nothing.
-use Rattle.rules.specs.Table.{setNumber, setRoot}
+use Rattle.rules.specs.Table.{set_number, set_root}
 use Rattle.format.specs.Formats.{named}
 use borrow.Author.Rules.{rules}
 use Rattle.format.proofs.name_root.Statement.{statement}
@@ -28,7 +28,7 @@ same_length : tie.Need-same-length
 same_length c = search rules
 
 returns : tie.Need-returns
-unfolding named setNumber setRoot
+unfolding named set_number set_root
 returns c =
     let put16 = c.before.before.before.before.before.before.before.before.before.before.before.before.before.before.before.before.before.before.before.before.before.before.put16 in
     let put162 = c.before.before.before.before.before.before.before.before.before.before.before.before.before.before.before.before.before.before.put162 in

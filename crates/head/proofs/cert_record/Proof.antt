@@ -1,8 +1,8 @@
 -- `head::cert_record`: the field of an entry is a field of the page, further on.
 -- Assumes nothing.
-use Rattle.rules.specs.Page.{certIn}
-use Rattle.head.specs.Head.{certAt}
-use Rattle.fields.proofs.Field.{leAt-drop}
+use Rattle.rules.specs.Page.{cert_in}
+use Rattle.head.specs.Head.{cert_at}
+use Rattle.fields.proofs.Field.{le_at-drop}
 use borrow.Author.Rules.{rules}
 use Rattle.head.proofs.cert_record.Statement.{statement}
 use Rattle.head.proofs.cert_record.Tie as tie
@@ -20,8 +20,8 @@ get32-requires : tie.Need-get32-requires
 get32-requires c κs = search rules
 
 returns : tie.Need-returns
-unfolding certAt certIn
-returns c = rw (c.get32.ensures, leAt-drop)
+unfolding cert_at cert_in
+returns c = rw (c.get32.ensures, le_at-drop)
 
 pub cert-record-spec : {M : Type 1} → statement M
 cert-record-spec = tie.close (tie.spec mul-get32 add-get32 add-get32-2 get32-requires returns)

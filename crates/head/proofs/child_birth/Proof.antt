@@ -1,8 +1,8 @@
 -- `head::child_birth`: the field of an entry is a field of the page, further on.
 -- Assumes nothing.
-use Rattle.rules.specs.Page.{childIn}
-use Rattle.head.specs.Head.{childAt}
-use Rattle.fields.proofs.Field.{leAt-drop}
+use Rattle.rules.specs.Page.{child_in}
+use Rattle.head.specs.Head.{child_at}
+use Rattle.fields.proofs.Field.{le_at-drop}
 use borrow.Author.Rules.{rules}
 use Rattle.head.proofs.child_birth.Statement.{statement}
 use Rattle.head.proofs.child_birth.Tie as tie
@@ -20,8 +20,8 @@ get32-requires : tie.Need-get32-requires
 get32-requires c κs = search rules
 
 returns : tie.Need-returns
-unfolding childAt childIn
-returns c = rw (c.get32.ensures, leAt-drop)
+unfolding child_at child_in
+returns c = rw (c.get32.ensures, le_at-drop)
 
 pub child-birth-spec : {M : Type 1} → statement M
 child-birth-spec = tie.close (tie.spec mul-get32 add-get32 add-get32-2 get32-requires returns)

@@ -1,7 +1,7 @@
 -- `head::child_key_at`: the part lent is the page.
 -- Assumes nothing.
 use native.Mathlib.Nat.{add-sub_cancel_left}
-use Rattle.rules.specs.Table.{pageAt}
+use Rattle.rules.specs.Table.{page_at}
 use borrow.Author.Rules.{rules}
 use Rattle.head.proofs.child_key_at.Statement.{statement}
 use Rattle.head.proofs.child_key_at.Tie as tie
@@ -25,7 +25,7 @@ child-key-requires : tie.Need-child-key-requires
 child-key-requires c κs = search rules
 
 returns : tie.Need-returns
-unfolding pageAt
+unfolding page_at
 returns c = rw (c.child-key.ensures, add-sub_cancel_left)
 
 pub child-key-at-spec : {M : Type 1} → statement M

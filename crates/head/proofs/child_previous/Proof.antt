@@ -1,8 +1,8 @@
 -- `head::child_previous`: the field of an entry is a field of the page, further on.
 -- Assumes nothing.
-use Rattle.rules.specs.Page.{childIn}
-use Rattle.head.specs.Head.{childAt}
-use Rattle.fields.proofs.Field.{leAt-drop}
+use Rattle.rules.specs.Page.{child_in}
+use Rattle.head.specs.Head.{child_at}
+use Rattle.fields.proofs.Field.{le_at-drop}
 use borrow.Author.Rules.{rules}
 use Rattle.head.proofs.child_previous.Statement.{statement}
 use Rattle.head.proofs.child_previous.Tie as tie
@@ -20,8 +20,8 @@ get16-requires : tie.Need-get16-requires
 get16-requires c κs = search rules
 
 returns : tie.Need-returns
-unfolding childAt childIn
-returns c = rw (c.get16.ensures, leAt-drop)
+unfolding child_at child_in
+returns c = rw (c.get16.ensures, le_at-drop)
 
 pub child-previous-spec : {M : Type 1} → statement M
 child-previous-spec = tie.close (tie.spec mul-get16 add-get16 add-get16-2 get16-requires returns)

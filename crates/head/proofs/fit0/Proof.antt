@@ -2,9 +2,9 @@
 -- Assumes nothing.
 use Prim.Native.Nat.{◌-◌}
 use borrow.Author.Tests.{ne_eqb}
-use Rattle.rules.specs.Layout.{zeroKind}
-use Rattle.rules.proofs.entries.Tests.{between-below, between-above}
-use Rattle.head.proofs.PageZero.{fit0-fails, fit0-last}
+use Rattle.rules.specs.Layout.{zero_kind}
+use Rattle.rules.proofs.Entries.Tests.{between-below, between-above}
+use Rattle.head.proofs.PageZero.{fit0_fails, fit0-last}
 use native.Mathlib.Omega.{arith}
 use borrow.Author.Rules.{rules}
 use Rattle.head.proofs.fit0.Statement.{statement}
@@ -18,7 +18,7 @@ returns c =
     let args = c.before.before.before.before.args in
     let read-zero = c.before.before.read-zero in
     let z = read-zero.result in
-    fit0-fails args.n args.table.now z read-zero.ensures 0 (ne_eqb z.kind zeroKind c.if1.true)
+    fit0_fails args.n args.table.now z read-zero.ensures 0 (ne_eqb z.kind zero_kind c.if1.true)
 
 cast-if2 : tie.Need-overflow-cast-if2
 cast-if2 c = search rules
@@ -29,7 +29,7 @@ returns-2 c =
     let read-zero = c.before.before.before.before.read-zero in
     let n = args.n in
     let z = read-zero.result in
-    fit0-fails n args.table.now z read-zero.ensures 1 (ne_eqb z.n n c.if2.true)
+    fit0_fails n args.table.now z read-zero.ensures 1 (ne_eqb z.n n c.if2.true)
 
 returns-3 : tie.Need-returns-3
 returns-3 c =
@@ -37,7 +37,7 @@ returns-3 c =
     let read-zero = c.before.before.before.before.before.before.read-zero in
     let n = args.n in
     let z = read-zero.result in
-    fit0-fails n args.table.now z read-zero.ensures 2 (between-below 1 (n - 1) z.root (omega arith))
+    fit0_fails n args.table.now z read-zero.ensures 2 (between-below 1 (n - 1) z.root (omega arith))
 
 cast-if4 : tie.Need-overflow-cast-if4
 cast-if4 c = search rules
@@ -48,7 +48,7 @@ returns-4 c =
     let read-zero = c.before.before.before.before.before.before.before.before.read-zero in
     let n = args.n in
     let z = read-zero.result in
-    fit0-fails n args.table.now z read-zero.ensures 2 (between-above 1 (n - 1) z.root (omega arith))
+    fit0_fails n args.table.now z read-zero.ensures 2 (between-above 1 (n - 1) z.root (omega arith))
 
 cast-result : tie.Need-overflow-cast-result
 cast-result c = search rules

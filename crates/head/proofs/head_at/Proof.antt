@@ -1,7 +1,7 @@
 -- `head::head_at`: the part lent is the page.
 -- Assumes nothing.
 use native.Mathlib.Nat.{add-sub_cancel_left}
-use Rattle.rules.specs.Table.{pageAt}
+use Rattle.rules.specs.Table.{page_at}
 use borrow.Author.Rules.{rules}
 use Rattle.head.proofs.head_at.Statement.{statement}
 use Rattle.head.proofs.head_at.Tie as tie
@@ -25,7 +25,7 @@ read-head-requires : tie.Need-read-head-requires
 read-head-requires c κs = search rules
 
 returns : tie.Need-returns
-unfolding pageAt
+unfolding page_at
 returns c = rw (c.read_head.ensures, add-sub_cancel_left)
 
 pub head-at-spec : {M : Type 1} → statement M

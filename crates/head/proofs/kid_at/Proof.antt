@@ -1,7 +1,7 @@
 -- `head::kid_at`: the part lent is the page.
 -- Assumes nothing.
 use native.Mathlib.Nat.{add-sub_cancel_left}
-use Rattle.rules.specs.Table.{pageAt}
+use Rattle.rules.specs.Table.{page_at}
 use borrow.Author.Rules.{rules}
 use Rattle.head.proofs.kid_at.Statement.{statement}
 use Rattle.head.proofs.kid_at.Tie as tie
@@ -25,7 +25,7 @@ kid-requires : tie.Need-kid-requires
 kid-requires c κs = search rules
 
 returns : tie.Need-returns
-unfolding pageAt
+unfolding page_at
 returns c = rw (c.kid.ensures, add-sub_cancel_left)
 
 pub kid-at-spec : {M : Type 1} → statement M

@@ -1,6 +1,6 @@
 -- `head::read_head`: each field is read at its own offset.
 -- Assumes nothing.
-use Rattle.head.specs.Head.{headIn}
+use Rattle.head.specs.Head.{head_in}
 use borrow.Author.Rules.{rules}
 use Rattle.head.proofs.read_head.Statement.{statement}
 use Rattle.head.proofs.read_head.Tie as tie
@@ -27,7 +27,7 @@ get64-requires-2 : tie.Need-get64-requires-2
 get64-requires-2 c κs = search rules
 
 returns : tie.Need-returns
-unfolding headIn
+unfolding head_in
 returns c =
     let get16 = c.before.before.before.before.before.before.get16 in
     let get162 = c.before.before.before.before.before.get162 in

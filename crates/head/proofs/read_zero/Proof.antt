@@ -1,6 +1,6 @@
 -- `head::read_zero`: each field is read at its own offset.
 -- Assumes nothing.
-use Rattle.head.specs.Head.{zeroIn}
+use Rattle.head.specs.Head.{zero_in}
 use Rattle.rules.specs.Table.{kind0, n0, number0, root0, previous0, birth0}
 use borrow.Author.Rules.{rules}
 use Rattle.head.proofs.read_zero.Statement.{statement}
@@ -25,7 +25,7 @@ get32-requires-2 : tie.Need-get32-requires-2
 get32-requires-2 c κs = search rules
 
 returns : tie.Need-returns
-unfolding zeroIn kind0 n0 number0 root0 previous0 birth0
+unfolding zero_in kind0 n0 number0 root0 previous0 birth0
 returns c =
     let get16 = c.before.before.before.before.before.get16 in
     let get162 = c.before.before.before.before.get162 in

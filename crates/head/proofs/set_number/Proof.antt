@@ -1,6 +1,6 @@
 -- `head::set_number`: one field of page 0.
 -- Assumes nothing.
-use Rattle.rules.specs.Table.{setNumber}
+use Rattle.rules.specs.Table.{set_number}
 use borrow.Author.Rules.{rules}
 use Rattle.head.proofs.set_number.Statement.{statement}
 use Rattle.head.proofs.set_number.Tie as tie
@@ -12,7 +12,7 @@ same_length : tie.Need-same-length
 same_length c = search rules
 
 returns : tie.Need-returns
-unfolding setNumber
+unfolding set_number
 returns c = search rules
 
 pub set-number-spec : {M : Type 1} → statement M

@@ -1,6 +1,6 @@
 -- `head::set_root`: three fields of page 0, one after the other.
 -- Assumes nothing.
-use Rattle.rules.specs.Table.{setRoot}
+use Rattle.rules.specs.Table.{set_root}
 use borrow.Author.Rules.{rules}
 use Rattle.head.proofs.set_root.Statement.{statement}
 use Rattle.head.proofs.set_root.Tie as tie
@@ -18,7 +18,7 @@ same_length : tie.Need-same-length
 same_length c = search rules
 
 returns : tie.Need-returns
-unfolding setRoot
+unfolding set_root
 returns c =
     let put16 = c.before.before.before.before.before.before.before.before.before.before.put16 in
     let put162 = c.before.before.before.before.before.before.put162 in

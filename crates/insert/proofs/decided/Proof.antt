@@ -1,6 +1,6 @@
 -- `insert::decided`: no pages, a damaged place; else what the plan answers.
 -- Assumes nothing.
-use Rattle.insert.proofs.Along.{leaf-within, leaf-head, leaf-holds, planning, decided-nowhere, decided-planned}
+use Rattle.insert.proofs.Along.{leaf-within, leaf-head, leaf-holds, planning, decided-nowhere, decided_planned}
 use borrow.Author.Rules.{rules}
 use Rattle.insert.proofs.decided.Statement.{statement}
 use Rattle.insert.proofs.decided.Tie as tie
@@ -29,7 +29,7 @@ returns-2 c =
     let is-present = c.before.before.is-present in
     let plan = c.before.plan in
     let answer-of = c.answer-of in
-    λ d. decided-planned (d.walked if1.false) if1.false is-present.result is-present.ensures plan.result (plan.ensures (planning (d.walked if1.false) d.counter d.chosen)) answer-of.result answer-of.ensures
+    λ d. decided_planned (d.walked if1.false) if1.false is-present.result is-present.ensures plan.result (plan.ensures (planning (d.walked if1.false) d.counter d.chosen)) answer-of.result answer-of.ensures
 
 pub decided-spec : {M : Type 1} → statement M
 decided-spec =

@@ -3,17 +3,17 @@
 use Prim.Native.Nat.{ℕ}
 use mathlib.Core.Path.{refl, sym, ap, ◌∙◌, subst}
 use Rattle.rules.specs.Report.{Reported, nothing}
-use Rattle.rules.specs.Walk.{wayReport}
-use Rattle.rules.specs.Insert.{insertKey}
+use Rattle.rules.specs.Walk.{way_report}
+use Rattle.rules.specs.Insert.{insert_key}
 use Rattle.rules.specs.declared.Session.{Session}
-use Rattle.rules.proofs.bytes.Lengths.{lengthsFor-true}
+use Rattle.rules.proofs.Bytes.Lengths.{lengths_for_true}
 use Rattle.insert.proofs.Along.{not_done}
-use Rattle.insert.proofs.Call.{told-too, passed-report, nothing-told, test-refused, test-passed, way-short, deciding, key-refused, key-ready, key-done}
+use Rattle.insert.proofs.Call.{told_too, passed-report, nothing-told, test_refused, test_passed, way-short, deciding, key-refused, key-ready, key-done}
 use native.Mathlib.Omega.{arith}
 use Rattle.way.specs.Ways.{Walking}
 use Rattle.rules.specs.Marks.{counted}
-use Rattle.plan.specs.Plan.{splitsBy, headsOf}
-use Rattle.apply.specs.Leads.{marksBy, ReadySession, done}
+use Rattle.plan.specs.Plan.{splits_by, heads_of}
+use Rattle.apply.specs.Leads.{marks_by, ReadySession, done}
 use borrow.Author.Rules.{rules}
 use Rattle.insert.proofs.insert.Statement.{statement}
 use Rattle.insert.proofs.insert.Tie as tie
@@ -35,9 +35,9 @@ returns c =
     let args = c.before.before.before.before.before.before.args in
     let tested = c.before.before.tested in
     let no = not_done tested.result c.before.match.keys2 in
-    told-too args.working.now args.stable.now args.session args.model args.serial args.issue
+    told_too args.working.now args.stable.now args.session args.model args.serial args.issue
     args.value
-    (test-refused args.working.now args.stable.now args.session args.model args.serial args.issue
+    (test_refused args.working.now args.stable.now args.session args.model args.serial args.issue
     args.value tested.result (tested.ensures args.session refl) no)
     (c.nothing.ensures
     ∙ sym (nothing-told args.working.now args.stable.now args.session args.model args.serial args.issue args.value tested.result (tested.ensures args.session refl) no))
@@ -52,10 +52,10 @@ way-of-requires : tie.Need-way-of-requires
 way-of-requires c κs =
     let args = c.before.before.before.before.before.before.before.before.before.args in
     let tested = c.before.before.before.before.before.tested in
-    let p = test-passed args.working.now args.stable.now args.session args.model args.serial
+    let p = test_passed args.working.now args.stable.now args.session args.model args.serial
     args.issue args.value tested.result (tested.ensures args.session refl)
     c.before.before.before.enum_told.given.1 in
-    let l = lengthsFor-true args.session args.working.now args.stable.now p.lengths in
+    let l = lengths_for_true args.session args.working.now args.stable.now p.lengths in
     (l.working, p.zero)
 
 choose-requires : tie.Need-choose-requires
@@ -64,15 +64,15 @@ choose-requires c κs =
     let slice-known = c.before.before.before.before.before.before.before.before.before.before.before.before.slice-known in
     let tested = c.before.before.before.before.before.before.before.before.before.tested in
     let enum-told' = c.before.before.before.before.before.before.before.enum_told in
-    let key-of = c.before.before.before.before.before.before.key-of in
+    let key_of_lem = c.before.before.before.before.before.before.key-of in
     let Way-of = c.before.before.before.Way-of in
     let way-is = ap (λ (y : Reported Walking). y.left) Way-of.ensures in
-    let p = test-passed args.working.now args.stable.now args.session args.model args.serial
+    let p = test_passed args.working.now args.stable.now args.session args.model args.serial
     args.issue args.value tested.result (tested.ensures args.session refl) enum-told'.given.1 in
-    let l = lengthsFor-true args.session args.working.now args.stable.now p.lengths in (
+    let l = lengths_for_true args.session args.working.now args.stable.now p.lengths in (
       l.most,
-      way-short key-of.result args.value args.session args.working.now l.working p.zero
-          slice-known.given (omega (arith, c.before.before.before.before.before.before.before.before.before.before.before.before.before.well-formed)) (omega (arith, key-of.type-inv)) Way-of.new.0 Way-of.result.way
+      way-short key_of_lem.result args.value args.session args.working.now l.working p.zero
+          slice-known.given (omega (arith, c.before.before.before.before.before.before.before.before.before.before.before.before.before.well-formed)) (omega (arith, key_of_lem.type-inv)) Way-of.new.0 Way-of.result.way
           way-is,
     )
 
@@ -83,15 +83,15 @@ decided-requires c κs =
     let slice-known = c.before.before.before.before.before.before.before.before.before.before.before.before.before.before.slice-known in
     let tested = c.before.before.before.before.before.before.before.before.before.before.before.tested in
     let enum-told' = c.before.before.before.before.before.before.before.before.before.enum_told in
-    let key-of = c.before.before.before.before.before.before.before.before.key-of in
+    let key_of_lem = c.before.before.before.before.before.before.before.before.key-of in
     let Way-of = c.before.before.before.before.before.Way-of in
     let way-is = ap (λ (y : Reported Walking). y.left) Way-of.ensures in
     let choose = c.before.choose in
-    let p = test-passed args.working.now args.stable.now args.session args.model args.serial
+    let p = test_passed args.working.now args.stable.now args.session args.model args.serial
     args.issue args.value tested.result (tested.ensures args.session refl) enum-told'.given.1 in
-    let l = lengthsFor-true args.session args.working.now args.stable.now p.lengths in
-    deciding key-of.result args.value args.session args.working.now l.working p.zero
-    slice-known.given (omega (arith, good)) (omega (arith, key-of.type-inv)) Way-of.new.0 Way-of.result.way
+    let l = lengths_for_true args.session args.working.now args.stable.now p.lengths in
+    deciding key_of_lem.result args.value args.session args.working.now l.working p.zero
+    slice-known.given (omega (arith, good)) (omega (arith, key_of_lem.type-inv)) Way-of.new.0 Way-of.result.way
     way-is l.most (omega (arith, Way-of.auto.0, l.working)) c.before.before.before.slice-known2.given
     choose.result choose.ensures
 
@@ -108,27 +108,27 @@ returns-2 c =
     let slice-known = c.before.before.before.before.before.before.before.before.before.before.before.before.before.before.before.before.slice-known in
     let tested = c.before.before.before.before.before.before.before.before.before.before.before.before.before.tested in
     let enum-told' = c.before.before.before.before.before.before.before.before.before.before.before.enum_told in
-    let key-of = c.before.before.before.before.before.before.before.before.before.before.key-of in
+    let key_of_lem = c.before.before.before.before.before.before.before.before.before.before.key-of in
     let Way-of = c.before.before.before.before.before.before.before.Way-of in
     let way-is = ap (λ (y : Reported Walking). y.left) Way-of.ensures in
     let slice-known2 = c.before.before.before.before.before.slice-known2 in
     let choose = c.before.before.before.choose in
     let decided = c.before.decided in
-    let p = test-passed args.working.now args.stable.now args.session args.model args.serial
+    let p = test_passed args.working.now args.stable.now args.session args.model args.serial
     args.issue args.value tested.result (tested.ensures args.session refl) enum-told'.given.1 in
-    let l = lengthsFor-true args.session args.working.now args.stable.now p.lengths in
-    told-too args.working.now args.stable.now args.session args.model args.serial args.issue
+    let l = lengths_for_true args.session args.working.now args.stable.now p.lengths in
+    told_too args.working.now args.stable.now args.session args.model args.serial args.issue
     args.value
-    (key-refused key-of.result args.value args.session args.working.now l.working p.zero
-    slice-known.given (omega (arith, good)) (omega (arith, key-of.type-inv)) Way-of.new.0 Way-of.result.way
+    (key-refused key_of_lem.result args.value args.session args.working.now l.working p.zero
+    slice-known.given (omega (arith, good)) (omega (arith, key_of_lem.type-inv)) Way-of.new.0 Way-of.result.way
     way-is l.most (omega (arith, Way-of.auto.0, l.working)) slice-known2.given choose.result
     choose.ensures decided.result
-    (decided.ensures (deciding key-of.result args.value args.session args.working.now l.working p.zero slice-known.given (omega (arith, good)) (omega (arith, key-of.type-inv)) Way-of.new.0 Way-of.result.way way-is l.most (omega (arith, Way-of.auto.0, l.working)) slice-known2.given choose.result choose.ensures))
+    (decided.ensures (deciding key_of_lem.result args.value args.session args.working.now l.working p.zero slice-known.given (omega (arith, good)) (omega (arith, key_of_lem.type-inv)) Way-of.new.0 Way-of.result.way way-is l.most (omega (arith, Way-of.auto.0, l.working)) slice-known2.given choose.result choose.ensures))
     args.stable.now (not_done decided.result c.match2.keys2)
     ∙
-    (ap (λ (k : ℕ). insertKey k args.value args.session args.working.now args.stable.now) key-of.ensures ∙ sym p.keyed))
+    (ap (λ (k : ℕ). insert_key k args.value args.session args.working.now args.stable.now) key_of_lem.ensures ∙ sym p.keyed))
     (ap (λ (y : Reported Walking). y.report) Way-of.ensures
-    ∙ (ap (λ (k : ℕ). wayReport args.session.n args.session.c k args.working.now nothing) key-of.ensures
+    ∙ (ap (λ (k : ℕ). way_report args.session.n args.session.c k args.working.now nothing) key_of_lem.ensures
     ∙ sym (passed-report args.working.now args.stable.now args.session args.model args.serial args.issue args.value p)))
 
 apply-requires : tie.Need-apply-requires
@@ -138,21 +138,21 @@ apply-requires c κs =
     let slice-known = c.before.before.before.before.before.before.before.before.before.before.before.before.before.before.before.before.before.before.slice-known in
     let tested = c.before.before.before.before.before.before.before.before.before.before.before.before.before.before.before.tested in
     let enum-told' = c.before.before.before.before.before.before.before.before.before.before.before.before.before.enum_told in
-    let key-of = c.before.before.before.before.before.before.before.before.before.before.before.before.key-of in
+    let key_of_lem = c.before.before.before.before.before.before.before.before.before.before.before.before.key-of in
     let Way-of = c.before.before.before.before.before.before.before.before.before.Way-of in
     let way-is = ap (λ (y : Reported Walking). y.left) Way-of.ensures in
     let slice-known2 = c.before.before.before.before.before.before.before.slice-known2 in
     let choose = c.before.before.before.before.before.choose in
     let decided = c.before.before.before.decided in
     let enum-told2 = c.before.enum-told2 in
-    let p = test-passed args.working.now args.stable.now args.session args.model args.serial
+    let p = test_passed args.working.now args.stable.now args.session args.model args.serial
     args.issue args.value tested.result (tested.ensures args.session refl) enum-told'.given.1 in
-    let l = lengthsFor-true args.session args.working.now args.stable.now p.lengths in
-    let ready = key-ready key-of.result args.value args.session args.working.now l.working p.zero
-    slice-known.given (omega (arith, good)) (omega (arith, key-of.type-inv)) Way-of.new.0 Way-of.result.way
+    let l = lengths_for_true args.session args.working.now args.stable.now p.lengths in
+    let ready = key-ready key_of_lem.result args.value args.session args.working.now l.working p.zero
+    slice-known.given (omega (arith, good)) (omega (arith, key_of_lem.type-inv)) Way-of.new.0 Way-of.result.way
     way-is l.most (omega (arith, Way-of.auto.0, l.working)) slice-known2.given choose.result
     choose.ensures decided.result
-    (decided.ensures (deciding key-of.result args.value args.session args.working.now l.working p.zero slice-known.given (omega (arith, good)) (omega (arith, key-of.type-inv)) Way-of.new.0 Way-of.result.way way-is l.most (omega (arith, Way-of.auto.0, l.working)) slice-known2.given choose.result choose.ensures))
+    (decided.ensures (deciding key_of_lem.result args.value args.session args.working.now l.working p.zero slice-known.given (omega (arith, good)) (omega (arith, key_of_lem.type-inv)) Way-of.new.0 Way-of.result.way way-is l.most (omega (arith, Way-of.auto.0, l.working)) slice-known2.given choose.result choose.ensures))
     enum-told2.given.1 in
     record { session = counted args.session; counter = refl; ready = ready }
 
@@ -166,24 +166,24 @@ marked-requires c κs =
     let slice-known = c.before.before.before.before.before.before.before.before.before.before.before.before.before.before.before.before.before.before.before.before.before.before.slice-known in
     let tested = c.before.before.before.before.before.before.before.before.before.before.before.before.before.before.before.before.before.before.before.tested in
     let enum-told' = c.before.before.before.before.before.before.before.before.before.before.before.before.before.before.before.before.before.enum_told in
-    let key-of = c.before.before.before.before.before.before.before.before.before.before.before.before.before.before.before.before.key-of in
+    let key_of_lem = c.before.before.before.before.before.before.before.before.before.before.before.before.before.before.before.before.key-of in
     let Way-of = c.before.before.before.before.before.before.before.before.before.before.before.before.before.Way-of in
     let way-is = ap (λ (y : Reported Walking). y.left) Way-of.ensures in
     let slice-known2 = c.before.before.before.before.before.before.before.before.before.before.before.slice-known2 in
     let choose = c.before.before.before.before.before.before.before.before.before.choose in
     let decided = c.before.before.before.before.before.before.before.decided in
     let enum-told2 = c.before.before.before.before.before.enum-told2 in
-    let p = test-passed args.working.now args.stable.now args.session args.model args.serial
+    let p = test_passed args.working.now args.stable.now args.session args.model args.serial
     args.issue args.value tested.result (tested.ensures args.session refl) enum-told'.given.1 in
-    let l = lengthsFor-true args.session args.working.now args.stable.now p.lengths in
-    let ready = key-ready key-of.result args.value args.session args.working.now l.working p.zero
-    slice-known.given (omega (arith, good)) (omega (arith, key-of.type-inv)) Way-of.new.0 Way-of.result.way
+    let l = lengths_for_true args.session args.working.now args.stable.now p.lengths in
+    let ready = key-ready key_of_lem.result args.value args.session args.working.now l.working p.zero
+    slice-known.given (omega (arith, good)) (omega (arith, key_of_lem.type-inv)) Way-of.new.0 Way-of.result.way
     way-is l.most (omega (arith, Way-of.auto.0, l.working)) slice-known2.given choose.result
     choose.ensures decided.result
-    (decided.ensures (deciding key-of.result args.value args.session args.working.now l.working p.zero slice-known.given (omega (arith, good)) (omega (arith, key-of.type-inv)) Way-of.new.0 Way-of.result.way way-is l.most (omega (arith, Way-of.auto.0, l.working)) slice-known2.given choose.result choose.ensures))
+    (decided.ensures (deciding key_of_lem.result args.value args.session args.working.now l.working p.zero slice-known.given (omega (arith, good)) (omega (arith, key_of_lem.type-inv)) Way-of.new.0 Way-of.result.way way-is l.most (omega (arith, Way-of.auto.0, l.working)) slice-known2.given choose.result choose.ensures))
     enum-told2.given.1 in
     subst (λ (z : Session). ReadySession z Way-of.result.way choose.result.pages) (sym c.count.ensures)
-    (record { key = key-of.result; table = Way-of.new.0; ready = ready })
+    (record { key = key_of_lem.result; table = Way-of.new.0; ready = ready })
 
 same-length-3 : tie.Need-same-length-3
 same-length-3 c = search rules
@@ -195,39 +195,39 @@ returns-3 c =
     let slice-known = c.before.before.before.before.before.before.before.before.before.before.before.before.before.before.before.before.before.before.before.before.before.before.before.slice-known in
     let tested = c.before.before.before.before.before.before.before.before.before.before.before.before.before.before.before.before.before.before.before.before.tested in
     let enum-told' = c.before.before.before.before.before.before.before.before.before.before.before.before.before.before.before.before.before.before.enum_told in
-    let key-of = c.before.before.before.before.before.before.before.before.before.before.before.before.before.before.before.before.before.key-of in
+    let key_of_lem = c.before.before.before.before.before.before.before.before.before.before.before.before.before.before.before.before.before.key-of in
     let Way-of = c.before.before.before.before.before.before.before.before.before.before.before.before.before.before.Way-of in
     let way-is = ap (λ (y : Reported Walking). y.left) Way-of.ensures in
     let slice-known2 = c.before.before.before.before.before.before.before.before.before.before.before.before.slice-known2 in
     let choose = c.before.before.before.before.before.before.before.before.before.before.choose in
     let decided = c.before.before.before.before.before.before.before.before.decided in
     let enum-told2 = c.before.before.before.before.before.before.enum-told2 in
-    let p = test-passed args.working.now args.stable.now args.session args.model args.serial
+    let p = test_passed args.working.now args.stable.now args.session args.model args.serial
     args.issue args.value tested.result (tested.ensures args.session refl) enum-told'.given.1 in
-    let l = lengthsFor-true args.session args.working.now args.stable.now p.lengths in
-    let ready = key-ready key-of.result args.value args.session args.working.now l.working p.zero
-    slice-known.given (omega (arith, good)) (omega (arith, key-of.type-inv)) Way-of.new.0 Way-of.result.way
+    let l = lengths_for_true args.session args.working.now args.stable.now p.lengths in
+    let ready = key-ready key_of_lem.result args.value args.session args.working.now l.working p.zero
+    slice-known.given (omega (arith, good)) (omega (arith, key_of_lem.type-inv)) Way-of.new.0 Way-of.result.way
     way-is l.most (omega (arith, Way-of.auto.0, l.working)) slice-known2.given choose.result
     choose.ensures decided.result
-    (decided.ensures (deciding key-of.result args.value args.session args.working.now l.working p.zero slice-known.given (omega (arith, good)) (omega (arith, key-of.type-inv)) Way-of.new.0 Way-of.result.way way-is l.most (omega (arith, Way-of.auto.0, l.working)) slice-known2.given choose.result choose.ensures))
+    (decided.ensures (deciding key_of_lem.result args.value args.session args.working.now l.working p.zero slice-known.given (omega (arith, good)) (omega (arith, key_of_lem.type-inv)) Way-of.new.0 Way-of.result.way way-is l.most (omega (arith, Way-of.auto.0, l.working)) slice-known2.given choose.result choose.ensures))
     enum-told2.given.1 in
     let count = c.before.count in
     let apply = c.before.before.before.before.apply in
     let marked = c.marked in
-    told-too args.working.now args.stable.now args.session args.model args.serial args.issue
+    told_too args.working.now args.stable.now args.session args.model args.serial args.issue
     args.value
-    (key-done key-of.result args.value args.session args.working.now l.working p.zero
-    slice-known.given (omega (arith, good)) (omega (arith, key-of.type-inv)) Way-of.new.0 Way-of.result.way
+    (key-done key_of_lem.result args.value args.session args.working.now l.working p.zero
+    slice-known.given (omega (arith, good)) (omega (arith, key_of_lem.type-inv)) Way-of.new.0 Way-of.result.way
     way-is l.most (omega (arith, Way-of.auto.0, l.working)) slice-known2.given choose.result
     choose.ensures decided.result
-    (decided.ensures (deciding key-of.result args.value args.session args.working.now l.working p.zero slice-known.given (omega (arith, good)) (omega (arith, key-of.type-inv)) Way-of.new.0 Way-of.result.way way-is l.most (omega (arith, Way-of.auto.0, l.working)) slice-known2.given choose.result choose.ensures))
+    (decided.ensures (deciding key_of_lem.result args.value args.session args.working.now l.working p.zero slice-known.given (omega (arith, good)) (omega (arith, key_of_lem.type-inv)) Way-of.new.0 Way-of.result.way way-is l.most (omega (arith, Way-of.auto.0, l.working)) slice-known2.given choose.result choose.ensures))
     enum-told2.given.1 args.stable.now marked.result apply.new.0
-    (ap (λ (z : Session). done z apply.new.0 args.stable.now) (marked.ensures ∙ ap (marksBy Way-of.result.way choose.result.pages (splitsBy (headsOf Way-of.result.way))) count.ensures)
+    (ap (λ (z : Session). done z apply.new.0 args.stable.now) (marked.ensures ∙ ap (marks_by Way-of.result.way choose.result.pages (splits_by (heads_of Way-of.result.way))) count.ensures)
     ∙ apply.ensures (record { session = counted args.session; counter = refl; ready = ready }) args.stable.now)
     ∙
-    (ap (λ (k : ℕ). insertKey k args.value args.session args.working.now args.stable.now) key-of.ensures ∙ sym p.keyed))
+    (ap (λ (k : ℕ). insert_key k args.value args.session args.working.now args.stable.now) key_of_lem.ensures ∙ sym p.keyed))
     (ap (λ (y : Reported Walking). y.report) Way-of.ensures
-    ∙ (ap (λ (k : ℕ). wayReport args.session.n args.session.c k args.working.now nothing) key-of.ensures
+    ∙ (ap (λ (k : ℕ). way_report args.session.n args.session.c k args.working.now nothing) key_of_lem.ensures
     ∙ sym (passed-report args.working.now args.stable.now args.session args.model args.serial args.issue args.value p)))
 
 pub insert-spec : {M : Type 1} → statement M

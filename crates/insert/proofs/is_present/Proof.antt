@@ -3,7 +3,7 @@
 use mathlib.Core.Path.{sym, ◌∙◌}
 use Rattle.rules.specs.Entry.{find}
 use Rattle.rules.specs.Table.{read}
-use Rattle.insert.proofs.Along.{not_found, is_found}
+use Rattle.insert.proofs.Along.{not_found, is_found_lem}
 use borrow.Author.Rules.{rules}
 use Rattle.insert.proofs.is_present.Statement.{statement}
 use Rattle.insert.proofs.is_present.Tie as tie
@@ -24,7 +24,7 @@ returns c =
 returns-2 : tie.Need-returns-2
 returns-2 c =
     let args = c.before.before.before.before.args in
-    is_found (find args.key (read args.table.now args.leaf.place.child).view.certs) _
+    is_found_lem (find args.key (read args.table.now args.leaf.place.child).view.certs) _
     (sym c.enum_told.given.1 ∙ c.before.before.find_at.ensures)
 
 pub is-present-spec : {M : Type 1} → statement M

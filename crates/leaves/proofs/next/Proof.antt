@@ -1,11 +1,11 @@
 -- `leaves::next`: at each turn the rules' descent from the place at hand is what is left to do, and to report.
 -- Assumes nothing.
 use mathlib.Core.Path.{sym, ap, ◌∙◌}
-use Rattle.rules.proofs.bytes.PageZero.{has-zero}
+use Rattle.rules.proofs.Bytes.PageZero.{has-zero}
 use Rattle.enter.specs.Entering.{entering}
 use Rattle.climbs.specs.Ground.{Ground}
 use Rattle.way.proofs.Ending.{Seeking, goes_on}
-use Rattle.leaves.proofs.Climbing.{begins-lies, held-lies, held-leads, begins, runs-out, damaged, leaf_room, leaf-rise, ends, leads}
+use Rattle.leaves.proofs.Climbing.{begins-lies, held-lies, held-leads, begins, runs_out, damaged, leaf_room_lem, leaf-rise, ends, leads}
 use borrow.Author.Rules.{rules}
 use native.Mathlib.Omega.{arith}
 use Rattle.leaves.proofs.next.Statement.{statement}
@@ -54,13 +54,13 @@ look-ahead-requires : tie.Need-look-ahead-requires invariant-loop decreases-loop
 look-ahead-requires c κs =
     let loop = c.before.before.loop in
     let ready = loop.invariant.descent.ready in
-    omega (arith, ready.long, ready.child-below)
+    omega (arith, ready.long, ready.child_below)
 
 enter-requires : tie.Need-enter-requires invariant-loop decreases-loop
 enter-requires c κs =
     let loop = c.before.before.before.before.loop in
     let ready = loop.invariant.descent.ready in
-    (ready.long, ready.child-below)
+    (ready.long, ready.child_below)
 
 enum-known-page : tie.Need-enum-known-page invariant-loop decreases-loop
 enum-known-page c = search rules
@@ -95,7 +95,7 @@ spot-at-requires c κs =
     let o = loop-test.true in
     let q = c.before.if1.true in
     let f = ap (entering enter.new.0) (sym page.given.1) ∙ enter.ensures in
-    (omega (arith, enter.auto.0, loop.invariant.descent.ready.long, loop.invariant.descent.ready.child-below), leaf_room loop.invariant o enter.new.0 page.given.0.0 page.given.0.1.0 f q, leaf-rise loop.invariant o enter.new.0 page.given.0.0 page.given.0.1.0 f q)
+    (omega (arith, enter.auto.0, loop.invariant.descent.ready.long, loop.invariant.descent.ready.child_below), leaf_room_lem loop.invariant o enter.new.0 page.given.0.0 page.given.0.1.0 f q, leaf-rise loop.invariant o enter.new.0 page.given.0.0 page.given.0.1.0 f q)
 
 same-length-2 : tie.Need-same-length-2 invariant-loop decreases-loop
 same-length-2 c =
@@ -124,7 +124,7 @@ place-below-requires c κs =
     let enter = c.before.before.before.before.before.before.before.before.before.enter in
     let page = c.before.before.before.before.before.page in
     let f = ap (entering enter.new.0) (sym page.given.1) ∙ enter.ensures in
-    (omega (arith, enter.auto.0, loop.invariant.descent.ready.long, loop.invariant.descent.ready.child-below), leads loop.invariant loop-test.true enter.new.0 page.given.0.0 page.given.0.1.0 f c.before.if1.false)
+    (omega (arith, enter.auto.0, loop.invariant.descent.ready.long, loop.invariant.descent.ready.child_below), leads loop.invariant loop-test.true enter.new.0 page.given.0.0 page.given.0.1.0 f c.before.if1.false)
 
 sub-level : tie.Need-overflow-sub-level invariant-loop decreases-loop
 sub-level c =
@@ -156,7 +156,7 @@ same-length-3 c =
 returns-3 : tie.Need-returns-3 invariant-loop decreases-loop
 returns-3 c =
     let args = c.before.before.before.before.before.before.before.before.args in
-    runs-out c.before.loop.invariant args.upto (omega (arith, c.loop-test.false))
+    runs_out c.before.loop.invariant args.upto (omega (arith, c.loop-test.false))
 
 pub next-spec : {M : Type 1} → statement M
 next-spec =

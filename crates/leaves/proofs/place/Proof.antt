@@ -6,7 +6,7 @@ use borrow.Author.Tests.{eq-eqb, ne_eqb}
 use Rattle.rules.specs.Table.{read}
 use Rattle.rules.specs.Place.{pick}
 use Rattle.head.specs.declared.Head.{Head}
-use Rattle.way.specs.Ways.{placesBelow, Leads}
+use Rattle.way.specs.Ways.{places_below, Leads}
 use Rattle.leaves.specs.Cursors.{place_in}
 use Rattle.leaves.proofs.Heads.{head_read}
 use borrow.Author.Rules.{rules}
@@ -55,7 +55,7 @@ returns-2 c =
     let head_at = c.before.before.head_at in
     let q = head_read args.t.now args.cursor.parent head_at.result head_at.ensures in
     rw (ne_eqb args.cursor.parent 0 if1.false, place_in)
-    (ap (λ (h : Head). pick args.key (placesBelow h (read args.t.now args.cursor.parent).view)) (sym q)
+    (ap (λ (h : Head). pick args.key (places_below h (read args.t.now args.cursor.parent).view)) (sym q)
     ∙ c.place-below.ensures)
 
 pub place-spec : {M : Type 1} → statement M

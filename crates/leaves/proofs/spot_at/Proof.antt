@@ -1,7 +1,7 @@
 -- `leaves::spot_at`: a guess confirmed among the leaf's keys.
 -- Assumes nothing.
-use Rattle.rules.proofs.bytes.Tables.{length-pageAt}
-use Rattle.entries.proofs.Part.{page-part}
+use Rattle.rules.proofs.Bytes.Tables.{length-page_at}
+use Rattle.entries.proofs.Part.{page_part}
 use native.Mathlib.Omega.{arith}
 use borrow.Author.Rules.{rules}
 use Rattle.leaves.proofs.spot_at.Statement.{statement}
@@ -26,14 +26,14 @@ confirm-requires : tie.Need-confirm-requires
 confirm-requires c κs =
     let args = c.before.before.args in
     let pre = c.before.before.requires in
-    let l = length-pageAt args.t.now args.child (omega arith) in
-    rw (page-part args.t.now args.child)
+    let l = length-page_at args.t.now args.child (omega arith) in
+    rw (page_part args.t.now args.child)
     (omega arith, omega (arith, l, pre.1), omega (arith, l), pre.2)
 
 returns : tie.Need-returns
 returns c =
     let args = c.before.before.before.args in
-    rw (page-part args.t.now args.child) at c.confirm.ensures
+    rw (page_part args.t.now args.child) at c.confirm.ensures
 
 pub spot-at-spec : {M : Type 1} → statement M
 spot-at-spec =

@@ -1,8 +1,8 @@
 -- `lines::feed_issue` meets its contract. Assumes nothing.
 use mathlib.Core.Path.{sym, ◌∙◌}
-use Rattle.lines.specs.Reader.{fedOf}
+use Rattle.lines.specs.Reader.{fed_of}
 use Rattle.lines.specs.Line.{most16}
-use Rattle.lines.proofs.Feeds.{fed-next, fed-early, fed-to, fed-not, grown-within}
+use Rattle.lines.proofs.Feeds.{fed-next, fed_early, fed-to, fed_not, grown-within}
 use native.Mathlib.Omega.{arith}
 use borrow.Author.Rules.{rules}
 use Rattle.lines.proofs.feed_issue.Statement.{statement}
@@ -12,17 +12,17 @@ after-issue-requires : tie.Need-after-issue-requires
 after-issue-requires c κs = search rules
 
 returns : tie.Need-returns
-unfolding fedOf
+unfolding fed_of
 returns c =
     let args = c.before.before.before.args in
     c.after-issue.ensures ∙ sym
     (fed-next most16 _ _ args.begun args.v args.b c.before.before.if1.true c.before.if2.true)
 
 returns-2 : tie.Need-returns-2
-unfolding fedOf
+unfolding fed_of
 returns-2 c =
     let args = c.before.before.args in
-    sym (fed-early most16 _ _ args.begun args.v args.b c.before.if1.true c.if2.false)
+    sym (fed_early most16 _ _ args.begun args.v args.b c.before.if1.true c.if2.false)
 
 grow-requires : tie.Need-grow-requires
 grow-requires c κs = search rules
@@ -34,11 +34,11 @@ enum_told : tie.Need-enum-told
 enum_told c = search rules
 
 returns-3 : tie.Need-returns-3
-unfolding fedOf
+unfolding fed_of
 returns-3 c =
     let args = c.before.before.before.before.args in
     sym
-    (fed-not most16 _ _ args.begun args.v args.b c.before.before.before.if1.false (sym c.before.before.grow.ensures ∙ c.enum_told.given.1))
+    (fed_not most16 _ _ args.begun args.v args.b c.before.before.before.if1.false (sym c.before.before.grow.ensures ∙ c.enum_told.given.1))
 
 cast-t12 : tie.Need-overflow-cast-t12
 cast-t12 c =
@@ -48,7 +48,7 @@ cast-t12 c =
     (arith, grown-within most16 args.v args.b n.given.0.0 (sym c.before.before.before.grow.ensures ∙ n.given.1))
 
 returns-4 : tie.Need-returns-4
-unfolding fedOf
+unfolding fed_of
 returns-4 c =
     let args = c.before.before.before.before.before.args in
     let if1 = c.before.before.before.before.if1 in

@@ -2,23 +2,23 @@
 use native.Mathlib.Omega.{arith}
 use mathlib.Core.Path.{sym, ◌∙◌}
 use Rattle.lines.specs.Line.{most16}
-use Rattle.lines.specs.Reader.{fedOf}
-use Rattle.lines.proofs.Feeds.{fed-next, fed-early, fed-to, fed-not, grown-within}
+use Rattle.lines.specs.Reader.{fed_of}
+use Rattle.lines.proofs.Feeds.{fed-next, fed_early, fed-to, fed_not, grown-within}
 use borrow.Author.Rules.{rules}
 use Rattle.lines.proofs.feed_model.Statement.{statement}
 use Rattle.lines.proofs.feed_model.Tie as tie
 
 returns : tie.Need-returns
-unfolding fedOf
+unfolding fed_of
 returns c =
     let args = c.before.before.args in
     sym (fed-next most16 _ _ args.begun args.v args.b c.before.if1.true c.if2.true)
 
 returns-2 : tie.Need-returns-2
-unfolding fedOf
+unfolding fed_of
 returns-2 c =
     let args = c.before.before.args in
-    sym (fed-early most16 _ _ args.begun args.v args.b c.before.if1.true c.if2.false)
+    sym (fed_early most16 _ _ args.begun args.v args.b c.before.if1.true c.if2.false)
 
 grow-requires : tie.Need-grow-requires
 grow-requires c κs = search rules
@@ -30,11 +30,11 @@ enum_told : tie.Need-enum-told
 enum_told c = search rules
 
 returns-3 : tie.Need-returns-3
-unfolding fedOf
+unfolding fed_of
 returns-3 c =
     let args = c.before.before.before.before.args in
     sym
-    (fed-not most16 _ _ args.begun args.v args.b c.before.before.before.if1.false (sym c.before.before.grow.ensures ∙ c.enum_told.given.1))
+    (fed_not most16 _ _ args.begun args.v args.b c.before.before.before.if1.false (sym c.before.before.grow.ensures ∙ c.enum_told.given.1))
 
 cast-t10 : tie.Need-overflow-cast-t10
 cast-t10 c =
@@ -44,7 +44,7 @@ cast-t10 c =
     (arith, grown-within most16 args.v args.b n.given.0.0 (sym c.before.before.before.grow.ensures ∙ n.given.1))
 
 returns-4 : tie.Need-returns-4
-unfolding fedOf
+unfolding fed_of
 returns-4 c =
     let args = c.before.before.before.before.before.args in
     let if1 = c.before.before.before.before.if1 in

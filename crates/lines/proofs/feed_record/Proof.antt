@@ -1,14 +1,14 @@
 -- `lines::feed_record` meets its contract. Assumes nothing.
 use mathlib.Core.Path.{sym, ◌∙◌}
-use Rattle.lines.specs.Reader.{fedOf}
+use Rattle.lines.specs.Reader.{fed_of}
 use Rattle.lines.specs.Line.{most32}
-use Rattle.lines.proofs.Feeds.{fed-space, fed-to, fed-not}
+use Rattle.lines.proofs.Feeds.{fed-space, fed-to, fed_not}
 use borrow.Author.Rules.{rules}
 use Rattle.lines.proofs.feed_record.Statement.{statement}
 use Rattle.lines.proofs.feed_record.Tie as tie
 
 returns : tie.Need-returns
-unfolding fedOf
+unfolding fed_of
 returns c =
     let args = c.before.args in
     sym (fed-space most32 _ args.begun args.v args.b c.if1.true)
@@ -23,14 +23,14 @@ enum_told : tie.Need-enum-told
 enum_told c = search rules
 
 returns-2 : tie.Need-returns-2
-unfolding fedOf
+unfolding fed_of
 returns-2 c =
     let args = c.before.before.before.before.args in
     sym
-    (fed-not most32 _ _ args.begun args.v args.b c.before.before.before.if1.false (sym c.before.before.grow.ensures ∙ c.enum_told.given.1))
+    (fed_not most32 _ _ args.begun args.v args.b c.before.before.before.if1.false (sym c.before.before.grow.ensures ∙ c.enum_told.given.1))
 
 returns-3 : tie.Need-returns-3
-unfolding fedOf
+unfolding fed_of
 returns-3 c =
     let args = c.before.before.before.before.before.args in
     let if1 = c.before.before.before.before.if1 in

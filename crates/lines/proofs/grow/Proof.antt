@@ -1,6 +1,6 @@
 -- `lines::grow` meets its contract. Assumes nothing.
 use mathlib.Core.Path.{sym}
-use Rattle.lines.proofs.Feeds.{grown-low, grown-high, grown-to, grown-over}
+use Rattle.lines.proofs.Feeds.{grown-low, grown-high, grown_to_lem, grown-over}
 use borrow.Author.Rules.{rules}
 use Rattle.lines.proofs.grow.Statement.{statement}
 use Rattle.lines.proofs.grow.Tie as tie
@@ -29,7 +29,7 @@ returns-3 : tie.Need-returns-3
 returns-3 c =
     let args = c.before.before.before.args in
     sym
-    (grown-to args.limit args.v args.b c.before.before.if1.false c.before.if2.false c.if3.true)
+    (grown_to_lem args.limit args.v args.b c.before.before.if1.false c.before.if2.false c.if3.true)
 
 returns-4 : tie.Need-returns-4
 returns-4 c =

@@ -2,8 +2,8 @@
 use mathlib.Core.Path.{sym, ◌∙◌}
 use borrow.Author.Tests.{not-true, not-false}
 use Rattle.rules.specs.Walk.{walk_of}
-use Rattle.rules.proofs.entries.Tests.{not-both}
-use Rattle.list.proofs.Tells.{known-ahead, calm-ahead, tell-calm, tell-damaged, tell-filled}
+use Rattle.rules.proofs.Entries.Tests.{not_both}
+use Rattle.list.proofs.Tells.{known_ahead, calm-ahead, tell_calm, tell_damaged, tell_filled}
 use native.Mathlib.Omega.{arith}
 use borrow.Author.Rules.{rules}
 use Rattle.list.proofs.look.Statement.{statement}
@@ -19,8 +19,8 @@ mend-requires c κs =
     let fits = c.before.before.before.before.before.before.before.before.ranges in
     let slice-known = c.before.before.before.before.before.before.before.slice-known in
     let dry-of = c.before.before.before.dry-of in
-    let whole = known-ahead args.n args.a args.t.now pre.2 pre.0 pre.1 dry-of.result dry-of.ensures args.c slice-known.given (omega (arith, fits.c)) in
-    (pre.0, pre.2, pre.3, pre.4, λ h. absurd (not-both h (sym whole ∙ not-true dry-of.result.whole c.before.if1.true)))
+    let whole = known_ahead args.n args.a args.t.now pre.2 pre.0 pre.1 dry-of.result dry-of.ensures args.c slice-known.given (omega (arith, fits.c)) in
+    (pre.0, pre.2, pre.3, pre.4, λ h. absurd (not_both h (sym whole ∙ not-true dry-of.result.whole c.before.if1.true)))
 
 same_length : tie.Need-same-length
 same_length c = search rules
@@ -34,8 +34,8 @@ returns c =
     let dry-of = c.before.before.before.before.before.before.dry-of in
     let if1 = c.before.before.before.before.if1 in
     let mend = c.before.before.mend in
-    let whole = known-ahead args.n args.a args.t.now pre.2 pre.0 pre.1 dry-of.result dry-of.ensures args.c slice-known.given (omega (arith, fits.c)) in
-    tell-damaged args.keys.now args.records.now (walk_of args.n args.c args.a args.t.now) (sym whole ∙ not-true dry-of.result.whole if1.true) mend.new.0 mend.result mend.ensures
+    let whole = known_ahead args.n args.a args.t.now pre.2 pre.0 pre.1 dry-of.result dry-of.ensures args.c slice-known.given (omega (arith, fits.c)) in
+    tell_damaged args.keys.now args.records.now (walk_of args.n args.c args.a args.t.now) (sym whole ∙ not-true dry-of.result.whole if1.true) mend.new.0 mend.result mend.ensures
 
 mends-nothing-requires : tie.Need-mends-nothing-requires
 mends-nothing-requires c κs = search rules
@@ -72,7 +72,7 @@ returns-2 c =
     let mends-nothing = c.before.before.before.before.before.before.before.before.before.before.mends-nothing in
     let if2 = c.before.before.before.before.before.before.before.before.before.if2 in
     let fill-Known = c.before.before.before.before.before.fill-Known in
-    tell-calm args.n args.a args.t.now pre.2 pre.0 pre.1 dry-of.result dry-of.ensures (not-false dry-of.result.whole if1.false) (sym mends-nothing.ensures ∙ if2.true) args.c slice-known.given (omega (arith, fits.c)) args.keys.now args.records.now fill-Known.result fill-Known.new.1.1.1.0 fill-Known.new.1.1.1.1.0 fill-Known.ensures c.nothing.result c.nothing.ensures
+    tell_calm args.n args.a args.t.now pre.2 pre.0 pre.1 dry-of.result dry-of.ensures (not-false dry-of.result.whole if1.false) (sym mends-nothing.ensures ∙ if2.true) args.c slice-known.given (omega (arith, fits.c)) args.keys.now args.records.now fill-Known.result fill-Known.new.1.1.1.0 fill-Known.new.1.1.1.1.0 fill-Known.ensures c.nothing.result c.nothing.ensures
 
 fill-requires : tie.Need-fill-requires
 fill-requires c κs =
@@ -82,7 +82,7 @@ fill-requires c κs =
     let slice-known = c.before.before.before.before.before.before.before.before.before.before.before.slice-known in
     let dry-of = c.before.before.before.before.before.before.before.dry-of in
     let if1 = c.before.before.before.before.before.if1 in
-    let whole = known-ahead args.n args.a args.t.now pre.2 pre.0 pre.1 dry-of.result dry-of.ensures args.c slice-known.given (omega (arith, fits.c)) in
+    let whole = known_ahead args.n args.a args.t.now pre.2 pre.0 pre.1 dry-of.result dry-of.ensures args.c slice-known.given (omega (arith, fits.c)) in
     (pre.0, pre.2, pre.3, pre.4, pre.5, sym whole ∙ not-false dry-of.result.whole if1.false)
 
 same-length-5 : tie.Need-same-length-5
@@ -103,8 +103,8 @@ returns-3 c =
     let dry-of = c.before.before.before.before.before.before.before.before.before.before.before.before.before.before.before.dry-of in
     let if1 = c.before.before.before.before.before.before.before.before.before.before.before.before.before.if1 in
     let fill = c.before.before.before.before.before.before.before.fill in
-    let whole = known-ahead args.n args.a args.t.now pre.2 pre.0 pre.1 dry-of.result dry-of.ensures args.c slice-known.given (omega (arith, fits.c)) in
-    tell-filled args.keys.now args.records.now (walk_of args.n args.c args.a args.t.now) (sym whole ∙ not-false dry-of.result.whole if1.false) fill.new.0 fill.result fill.new.1.1.1.1.0 fill.new.1.1.1.1.1.0 fill.ensures
+    let whole = known_ahead args.n args.a args.t.now pre.2 pre.0 pre.1 dry-of.result dry-of.ensures args.c slice-known.given (omega (arith, fits.c)) in
+    tell_filled args.keys.now args.records.now (walk_of args.n args.c args.a args.t.now) (sym whole ∙ not-false dry-of.result.whole if1.false) fill.new.0 fill.result fill.new.1.1.1.1.0 fill.new.1.1.1.1.1.0 fill.ensures
 
 pub look_spec : {M : Type 1} → statement M
 look_spec =

@@ -2,11 +2,11 @@
 -- Assumes nothing.
 use mathlib.Core.Path.{ap, sym, ◌∙◌}
 use Rattle.rules.specs.Entry.{find}
-use Rattle.rules.specs.Page.{pageIn}
-use Rattle.rules.specs.Table.{pageAt, read}
-use Rattle.rules.proofs.bytes.Tables.{length-pageAt}
-use Rattle.entries.proofs.Part.{page-part}
-use Rattle.lookup.specs.Looks.{lookedIn}
+use Rattle.rules.specs.Page.{page_in}
+use Rattle.rules.specs.Table.{page_at, read}
+use Rattle.rules.proofs.Bytes.Tables.{length-page_at}
+use Rattle.entries.proofs.Part.{page_part}
+use Rattle.lookup.specs.Looks.{looked_in}
 use Rattle.way.proofs.Leaf.{certs-are, holds-room, holds-rise}
 use native.Mathlib.Omega.{arith}
 use borrow.Author.Rules.{rules}
@@ -35,23 +35,23 @@ cast-seek-in : tie.Need-overflow-cast-seek-in
 cast-seek-in c = search rules
 
 seek-in-requires : tie.Need-seek-in-requires
-unfolding read pageIn
+unfolding read page_in
 seek-in-requires c κs =
     let args = c.before.before.before.before.args in
     let pre = c.before.before.before.before.requires in
-    let b = pageAt args.table.now args.leaf.place.child in
-    let l = length-pageAt args.table.now args.leaf.place.child (omega arith) in
-    rw (page-part args.table.now args.leaf.place.child)
+    let b = page_at args.table.now args.leaf.place.child in
+    let l = length-page_at args.table.now args.leaf.place.child (omega arith) in
+    rw (page_part args.table.now args.leaf.place.child)
     (omega (arith, l, holds-room b args.leaf.head pre.1 pre.2), omega (arith, l), holds-rise b args.leaf.head pre.1 pre.2)
 
 returns : tie.Need-returns
-unfolding read pageIn
+unfolding read page_in
 returns c =
     let args = c.before.before.before.before.before.args in
     let pre = c.before.before.before.before.before.requires in
-    let b = pageAt args.table.now args.leaf.place.child in
-    rw (page-part args.table.now args.leaf.place.child) at c.seek-in.ensures
-    ∙ ap (λ xs. lookedIn (find args.key xs)) (sym (certs-are b args.leaf.head pre.1 pre.2))
+    let b = page_at args.table.now args.leaf.place.child in
+    rw (page_part args.table.now args.leaf.place.child) at c.seek-in.ensures
+    ∙ ap (λ xs. looked_in (find args.key xs)) (sym (certs-are b args.leaf.head pre.1 pre.2))
 
 pub find-at-spec : {M : Type 1} → statement M
 find-at-spec =

@@ -1,6 +1,6 @@
 -- `lookup::find_on`: the same on a page of the table.
 -- Assumes nothing.
-use Rattle.entries.proofs.Part.{page-part}
+use Rattle.entries.proofs.Part.{page_part}
 use borrow.Author.Rules.{rules}
 use Rattle.lookup.proofs.find_on.Statement.{statement}
 use Rattle.lookup.proofs.find_on.Tie as tie
@@ -26,7 +26,7 @@ find-in-requires c κs = search rules
 returns : tie.Need-returns
 returns c =
     let args = c.before.before.before.args in
-    rw (page-part args.table.now args.i) at c.find-in.ensures
+    rw (page_part args.table.now args.i) at c.find-in.ensures
 
 pub find-on-spec : {M : Type 1} → statement M
 find-on-spec =

@@ -3,7 +3,7 @@
 use mathlib.Core.Path.{sym, ◌∙◌}
 use borrow.Author.Tests.{not-true, not-false}
 use Rattle.tables.proofs.Sizes.{sized}
-use Rattle.lookup.proofs.Call.{bad-length, bad-key, bad-zero, looked-up}
+use Rattle.lookup.proofs.Call.{bad_length_lem, bad_key, bad_zero, looked-up}
 use native.Mathlib.Omega.{arith}
 use borrow.Author.Rules.{rules}
 use Rattle.lookup.proofs.lean.Statement.{statement}
@@ -21,9 +21,9 @@ same_length c = search rules
 returns : tie.Need-returns
 returns c =
     let args = c.before.before.before.before.before.before.args in
-    let lengths-for = c.before.before.lengths-for in
-    λ s same-n same-c. bad-length args.working.now args.stable.now s same-n same-c args.model args.serial args.issue
-    (sym (lengths-for.ensures s same-n) ∙ not-true lengths-for.result c.before.if1.true) c.nothing.ensures
+    let lengths_for_lem = c.before.before.lengths-for in
+    λ s same-n same-c. bad_length_lem args.working.now args.stable.now s same-n same-c args.model args.serial args.issue
+    (sym (lengths_for_lem.ensures s same-n) ∙ not-true lengths_for_lem.result c.before.if1.true) c.nothing.ensures
 
 good-parts-requires : tie.Need-good-parts-requires
 good-parts-requires c κs = search rules
@@ -37,19 +37,19 @@ same-length-2 c = search rules
 returns-2 : tie.Need-returns-2
 returns-2 c =
     let args = c.before.before.before.before.before.before.before.before.args in
-    let lengths-for = c.before.before.before.before.lengths-for in
-    let good-parts = c.before.before.good-parts in
+    let lengths_for_lem = c.before.before.before.before.lengths-for in
+    let good_parts_lem = c.before.before.good-parts in
     let if1 = c.before.before.before.if1 in
-    λ s same-n same-c. bad-key args.working.now args.stable.now s same-n same-c args.model args.serial args.issue
-    (sym (lengths-for.ensures s same-n) ∙ not-false lengths-for.result if1.false)
-    (sym good-parts.ensures ∙ not-true good-parts.result c.before.if2.true) c.nothing2.ensures
+    λ s same-n same-c. bad_key args.working.now args.stable.now s same-n same-c args.model args.serial args.issue
+    (sym (lengths_for_lem.ensures s same-n) ∙ not-false lengths_for_lem.result if1.false)
+    (sym good_parts_lem.ensures ∙ not-true good_parts_lem.result c.before.if2.true) c.nothing2.ensures
 
 fit0-requires : tie.Need-fit0-requires
 fit0-requires c κs =
     let args = c.before.before.before.before.before.before.before.before.args in
-    let lengths-for = c.before.before.before.before.lengths-for in
-    let sizes = sized args.n args.working.now args.stable.now lengths-for.result lengths-for.ensures
-    (not-false lengths-for.result c.before.before.before.if1.false) in
+    let lengths_for_lem = c.before.before.before.before.lengths-for in
+    let sizes = sized args.n args.working.now args.stable.now lengths_for_lem.result lengths_for_lem.ensures
+    (not-false lengths_for_lem.result c.before.before.before.if1.false) in
     omega (arith, sizes.working, sizes.least)
 
 nothing-requires-3 : tie.Need-nothing-requires-3
@@ -61,14 +61,14 @@ same-length-3 c = search rules
 returns-3 : tie.Need-returns-3
 returns-3 c =
     let args = c.before.before.before.before.before.before.before.before.before.before.before.args in
-    let lengths-for = c.before.before.before.before.before.before.before.lengths-for in
+    let lengths_for_lem = c.before.before.before.before.before.before.before.lengths-for in
     let if1 = c.before.before.before.before.before.before.if1 in
-    let good-parts = c.before.before.before.before.before.good-parts in
+    let good_parts_lem = c.before.before.before.before.before.good-parts in
     let if2 = c.before.before.before.before.if2 in
     let fit0 = c.before.before.fit0 in
-    λ s same-n same-c. bad-zero args.working.now args.stable.now s same-n same-c args.model args.serial args.issue
-    (sym (lengths-for.ensures s same-n) ∙ not-false lengths-for.result if1.false)
-    (sym good-parts.ensures ∙ not-false good-parts.result if2.false)
+    λ s same-n same-c. bad_zero args.working.now args.stable.now s same-n same-c args.model args.serial args.issue
+    (sym (lengths_for_lem.ensures s same-n) ∙ not-false lengths_for_lem.result if1.false)
+    (sym good_parts_lem.ensures ∙ not-false good_parts_lem.result if2.false)
     (sym fit0.ensures ∙ not-true fit0.result c.before.if3.true) c.nothing3.ensures
 
 key-of-requires : tie.Need-key-of-requires
@@ -77,11 +77,11 @@ key-of-requires c κs = search rules
 look-requires : tie.Need-look-requires
 look-requires c κs =
     let args = c.before.before.before.before.before.before.before.before.before.before.before.before.args in
-    let lengths-for = c.before.before.before.before.before.before.before.before.lengths-for in
+    let lengths_for_lem = c.before.before.before.before.before.before.before.before.lengths-for in
     let if1 = c.before.before.before.before.before.before.before.if1 in
     let fit0 = c.before.before.before.fit0 in (
-      (sized args.n args.working.now args.stable.now lengths-for.result lengths-for.ensures
-          (not-false lengths-for.result if1.false)).working,
+      (sized args.n args.working.now args.stable.now lengths_for_lem.result lengths_for_lem.ensures
+          (not-false lengths_for_lem.result if1.false)).working,
       sym fit0.ensures ∙ not-false fit0.result c.before.before.if3.false,
     )
 
@@ -91,19 +91,19 @@ same-length-4 c = search rules
 returns-4 : tie.Need-returns-4
 returns-4 c =
     let args = c.before.before.before.before.before.before.before.before.before.before.before.before.before.before.before.args in
-    let lengths-for = c.before.before.before.before.before.before.before.before.before.before.before.lengths-for in
+    let lengths_for_lem = c.before.before.before.before.before.before.before.before.before.before.before.lengths-for in
     let if1 = c.before.before.before.before.before.before.before.before.before.before.if1 in
-    let good-parts = c.before.before.before.before.before.before.before.before.before.good-parts in
+    let good_parts_lem = c.before.before.before.before.before.before.before.before.before.good-parts in
     let if2 = c.before.before.before.before.before.before.before.before.if2 in
     let fit0 = c.before.before.before.before.before.before.fit0 in
     let if3 = c.before.before.before.before.before.if3 in
-    let key-of = c.before.before.before.key-of in
+    let key_of_lem = c.before.before.before.key-of in
     let look = c.before.before.look in
     λ s same-n same-c. looked-up args.working.now args.stable.now s same-n same-c args.model args.serial args.issue
-    (sym (lengths-for.ensures s same-n) ∙ not-false lengths-for.result if1.false)
-    (sym good-parts.ensures ∙ not-false good-parts.result if2.false)
-    (sym fit0.ensures ∙ not-false fit0.result if3.false) look.new.0 look.result key-of.result
-    key-of.ensures look.ensures
+    (sym (lengths_for_lem.ensures s same-n) ∙ not-false lengths_for_lem.result if1.false)
+    (sym good_parts_lem.ensures ∙ not-false good_parts_lem.result if2.false)
+    (sym fit0.ensures ∙ not-false fit0.result if3.false) look.new.0 look.result key_of_lem.result
+    key_of_lem.ensures look.ensures
 
 pub lean-spec : {M : Type 1} → statement M
 lean-spec =

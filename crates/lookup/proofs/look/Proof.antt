@@ -6,7 +6,7 @@ use Rattle.rules.specs.Report.{Reported}
 use Rattle.way.specs.Ways.{Ending}
 use Rattle.way.proofs.Stood.{way-stands}
 use Rattle.way.proofs.Ending.{whole_of, whole-way, end-spot}
-use Rattle.lookup.proofs.Along.{reported-too, no-leaf, ended, leaf-below, spot-within, looked-before}
+use Rattle.lookup.proofs.Along.{reported_too, no_leaf, ended, leaf-below, spot-within, looked-before}
 use native.Mathlib.Omega.{arith}
 use borrow.Author.Rules.{rules}
 use Rattle.lookup.proofs.look.Statement.{statement}
@@ -30,7 +30,7 @@ returns c =
     let v = whole-way args.key x leaf-of.new.0 leaf-of.result.end end_is in
     let a = way-stands args.n args.c args.key args.t.now pre.0 pre.1 slice-known.given
     (omega (arith, fits.c)) (omega (arith, fits.key)) in
-    reported-too (ap (λ (y : Reported Ending). y.report) leaf-of.ensures) (no-leaf args.n args.key x leaf-of.new.0 (whole_of x leaf-of.result.end) v a c.if1.true)
+    reported_too (ap (λ (y : Reported Ending). y.report) leaf-of.ensures) (no_leaf args.n args.key x leaf-of.new.0 (whole_of x leaf-of.result.end) v a c.if1.true)
 
 find-on-requires : tie.Need-find-on-requires
 find-on-requires c κs =
@@ -70,7 +70,7 @@ returns-2 c =
     (omega (arith, fits.c)) (omega (arith, fits.key)) in
     let d = ended args.n args.key x leaf-of.new.0 (whole_of x leaf-of.result.end) v a
     c.before.before.if1.false in
-    reported-too (ap (λ (y : Reported Ending). y.report) leaf-of.ensures) (looked-before args.n args.key x leaf-of.new.0 (whole_of x leaf-of.result.end) v a d
+    reported_too (ap (λ (y : Reported Ending). y.report) leaf-of.ensures) (looked-before args.n args.key x leaf-of.new.0 (whole_of x leaf-of.result.end) v a d
     leaf-of.result.end.spot (end-spot args.key x leaf-of.new.0 leaf-of.result.end end_is)
     find-on.result find-on.ensures)
 

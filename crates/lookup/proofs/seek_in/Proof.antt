@@ -1,7 +1,7 @@
 -- `lookup::seek_in`: the spot, and what stands before it.
 -- Assumes nothing.
 use mathlib.Core.Path.{◌∙◌}
-use Rattle.lookup.proofs.Leaf.{rising-keysIn, spot-within, found_before}
+use Rattle.lookup.proofs.Leaf.{rising-keys_in, spot-within, found_before_lem}
 use native.Mathlib.Omega.{arith}
 use Rattle.lookup.proofs.seek_in.Statement.{statement}
 use Rattle.lookup.proofs.seek_in.Tie as tie
@@ -10,7 +10,7 @@ seek-requires : tie.Need-seek-requires
 seek-requires c κs =
     let args = c.before.args in
     let pre = c.before.requires in
-    (omega arith, pre.0, pre.1, rising-keysIn args.page.now args.count pre.2)
+    (omega arith, pre.0, pre.1, rising-keys_in args.page.now args.count pre.2)
 
 find-in-requires : tie.Need-find-in-requires
 find-in-requires c κs =
@@ -24,7 +24,7 @@ returns : tie.Need-returns
 returns c =
     let args = c.before.before.before.args in
     let seek = c.before.seek in
-    c.find-in.ensures ∙ found_before args.page.now args.count c.before.before.before.requires.2 args.key
+    c.find-in.ensures ∙ found_before_lem args.page.now args.count c.before.before.before.requires.2 args.key
     seek.result seek.ensures
 
 pub seek-in-spec : {M : Type 1} → statement M

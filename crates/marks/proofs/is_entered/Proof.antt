@@ -4,14 +4,14 @@ use mathlib.Core.Path.{◌≡◌, refl, sym, ◌∙◌}
 use Prim.Native.Nat.{◌≤◌, ◌-◌}
 use lib.ListN.{drop}
 use Rattle.rules.specs.Test.{mem}
-use Rattle.marks.specs.Lowest.{enteredBy}
+use Rattle.marks.specs.Lowest.{entered_by}
 use Rattle.marks.proofs.Member.{mem-here, mem-later, mem-end}
 use borrow.Author.Rules.{rules}
 use Rattle.marks.proofs.is_entered.Statement.{statement}
 use Rattle.marks.proofs.is_entered.Tie as tie
 
 abbrev invariant-loop : tie.invariant-loop
-invariant-loop i e j₀ j = (j ≤ e.count) × (mem i (enteredBy e) ≡ mem i (drop j (enteredBy e)))
+invariant-loop i e j₀ j = (j ≤ e.count) × (mem i (entered_by e) ≡ mem i (drop j (entered_by e)))
 
 abbrev decreases-loop : tie.decreases-loop
 decreases-loop i e j₀ j = e.count - j

@@ -2,22 +2,22 @@
 -- Assumes nothing.
 use mathlib.Core.Path.{sym, ◌∙◌}
 use Prim.Native.Nat.{◌-◌}
-use Rattle.marks.specs.Lowest.{enteredBy}
+use Rattle.marks.specs.Lowest.{entered_by}
 use Rattle.marks.proofs.Search.{free-first}
-use Rattle.marks.proofs.Choosing.{Choosing, choosing-none, choosing-more, choosing-nothing, choosing-all}
+use Rattle.marks.proofs.Choosing.{Choosing, choosing_none, choosing_more, choosing_nothing, choosing_all}
 use native.Mathlib.Omega.{arith}
 use borrow.Author.Rules.{rules}
 use Rattle.marks.proofs.lowest.Statement.{statement}
 use Rattle.marks.proofs.lowest.Tie as tie
 
 abbrev invariant-loop : tie.invariant-loop
-invariant-loop s e need pages₀ count₀ from₀ pages count from = Choosing s (enteredBy e) need pages count from
+invariant-loop s e need pages₀ count₀ from₀ pages count from = Choosing s (entered_by e) need pages count from
 
 abbrev decreases-loop : tie.decreases-loop
 decreases-loop s e need pages₀ count₀ from₀ pages count from = need - count
 
 loop-holds : tie.Need-loop-init invariant-loop decreases-loop
-loop-holds c = choosing-none c.args.s (enteredBy c.args.e) c.args.need
+loop-holds c = choosing_none c.args.s (entered_by c.args.e) c.args.need
 
 first-free-requires : tie.Need-first-free-requires invariant-loop decreases-loop
 first-free-requires c κs = search rules
@@ -32,7 +32,7 @@ returns : tie.Need-returns invariant-loop decreases-loop
 returns c =
     let a = c.before.before.before.before.before.args in
     let found = sym c.before.before.first-free.ensures ∙ c.enum_told.given.1 in
-    choosing-nothing a.s (enteredBy a.e) a.need c.before.before.before.before.loop.invariant found
+    choosing_nothing a.s (entered_by a.e) a.need c.before.before.before.before.loop.invariant found
 
 mul-pages : tie.Need-overflow-mul-pages invariant-loop decreases-loop
 mul-pages c = search rules
@@ -50,7 +50,7 @@ add-from c =
     let i = c.before.i in
     let a = c.before.before.before.before.before.before.args in
     let found = sym c.before.before.before.first-free.ensures ∙ i.given.1 in
-    omega (arith, pre, (free-first a.s (enteredBy a.e) loop.from i.given.0.0 found).0)
+    omega (arith, pre, (free-first a.s (entered_by a.e) loop.from i.given.0.0 found).0)
 
 loop-less : tie.Need-loop-smaller invariant-loop decreases-loop
 loop-less c = search rules
@@ -62,13 +62,13 @@ loop-again c =
     let i = c.before.i in
     let a = c.before.before.before.before.before.before.args in
     let found = sym c.before.before.before.first-free.ensures ∙ i.given.1 in
-    choosing-more a.s (enteredBy a.e) a.need loop.invariant i.given.0.0 found loop-test.true
+    choosing_more a.s (entered_by a.e) a.need loop.invariant i.given.0.0 found loop-test.true
     (search rules)
 
 returns-2 : tie.Need-returns-2 invariant-loop decreases-loop
 returns-2 c =
     let a = c.before.before.args in
-    choosing-all a.s (enteredBy a.e) a.need c.before.loop.invariant c.loop-test.false
+    choosing_all a.s (entered_by a.e) a.need c.before.loop.invariant c.loop-test.false
 
 pub lowest-spec : {M : Type 1} → statement M
 lowest-spec =

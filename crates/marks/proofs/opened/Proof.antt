@@ -1,29 +1,29 @@
 -- `marks::opened`: the loop's invariant says that the free marks below i are filled in.
 -- Assumes nothing.
-use Rattle.marks.proofs.Opening.{openedBy-made}
+use Rattle.marks.proofs.Opening.{opened_by-made}
 use mathlib.Core.Path.{◌≡◌, refl, ap, ◌∙◌}
 use mathlib.Core.Bool.{Bool, false}
 use mathlib.Core.List.{List}
 use Prim.Native.Nat.{ℕ, ◌≤◌, ◌-◌}
 use native.Mathlib.Omega.{arith}
 use lib.ListN.{set}
-use Rattle.rules.specs.Layout.{mostPages}
-use Rattle.rules.specs.Marks.{marksFrom, marks}
-use Rattle.rules.proofs.bytes.Marked.{length-marks}
-use Rattle.marks.specs.Opened.{freeAtOpening}
+use Rattle.rules.specs.Layout.{most_pages}
+use Rattle.rules.specs.Marks.{marks_from, marks}
+use Rattle.rules.proofs.Bytes.Marked.{length-marks}
+use Rattle.marks.specs.Opened.{free_at_opening}
 use Rattle.marks.proofs.Fill.{filled, filled_more, filled-all}
 use borrow.Author.Rules.{rules}
 use Rattle.marks.proofs.opened.Statement.{statement}
 use Rattle.marks.proofs.opened.Tie as tie
 
 abbrev invariant-loop : tie.invariant-loop
-invariant-loop n c total children spared free₀ i₀ free i = (i ≤ 128) × (free ≡ filled (freeAtOpening n children spared) i (marks (λ i. false)))
+invariant-loop n c total children spared free₀ i₀ free i = (i ≤ 128) × (free ≡ filled (free_at_opening n children spared) i (marks (λ i. false)))
 
 abbrev decreases-loop : tie.decreases-loop
 decreases-loop n c total children spared free₀ i₀ free i = 128 - i
 
 loop-holds : tie.Need-loop-init invariant-loop decreases-loop
-unfolding marks marksFrom
+unfolding marks marks_from
 loop-holds c = (search rules, refl)
 
 is-page-requires : tie.Need-is-page-requires invariant-loop decreases-loop
@@ -48,7 +48,7 @@ loop-again : tie.Need-loop-preserved invariant-loop decreases-loop
 loop-again c =
     let args = c.before.before.before.args in
     let loop = c.before.before.loop in
-    let free = freeAtOpening args.n args.t4 args.t5 in
+    let free = free_at_opening args.n args.t4 args.t5 in
     let i = loop.i in
     let none = marks (λ j. false) in
     let filling = filled_more free i none (omega (arith, length-marks (λ j. false), c.before.loop-test.true)) in
@@ -58,12 +58,12 @@ returns : tie.Need-returns invariant-loop decreases-loop
 returns c =
     let args = c.before.before.args in
     let loop = c.before.loop in
-    let free = freeAtOpening args.n args.t4 args.t5 in
+    let free = free_at_opening args.n args.t4 args.t5 in
     let none = marks (λ j. false) in
     let i = loop.i in
-    let all : i ≡ mostPages = omega (arith, loop.invariant.0, c.loop-test.false) in
+    let all : i ≡ most_pages = omega (arith, loop.invariant.0, c.loop-test.false) in
     let filling = ap (λ (k : ℕ). filled free k none) all ∙ filled-all free none (length-marks (λ j. false)) in
-    openedBy-made args.n args.c args.total args.t4 args.t5 loop.free (loop.invariant.1 ∙ filling)
+    opened_by-made args.n args.c args.total args.t4 args.t5 loop.free (loop.invariant.1 ∙ filling)
 
 pub opened-spec : {M : Type 1} → statement M
 opened-spec =

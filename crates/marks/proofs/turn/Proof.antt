@@ -1,12 +1,12 @@
 -- `marks::turn`: the loop's invariant says that the pages below i have turned. The measure is what is left of the marks.
 -- Assumes nothing.
-use Rattle.rules.specs.Layout.{mostPages}
+use Rattle.rules.specs.Layout.{most_pages}
 use Rattle.rules.specs.Marks.{raised}
 use Rattle.rules.specs.declared.Session.{Session}
 use mathlib.Core.Path.{◌≡◌, ap, ◌∙◌}
 use Prim.Native.Nat.{◌≤◌, ◌-◌}
 use native.Mathlib.Omega.{arith}
-use Rattle.marks.proofs.Turning.{turning, turnPage, turning-more, turning-none, turning-all}
+use Rattle.marks.proofs.Turning.{turning, turn_page, turning-more, turning-none, turning-all}
 use borrow.Author.Rules.{rules}
 use Rattle.marks.proofs.turn.Statement.{statement}
 use Rattle.marks.proofs.turn.Tie as tie
@@ -48,7 +48,7 @@ loop-again c =
     let s = args.s in
     let i = loop.i in
     let turned = turning-more s (search rules) (search rules) i c.before.before.before.loop-test.true in
-    (search rules, rw c.before.before.is-page.ensures (ap (turnPage s.n i) loop.invariant.1 ∙ turned))
+    (search rules, rw c.before.before.is-page.ensures (ap (turn_page s.n i) loop.invariant.1 ∙ turned))
 
 raise-requires : tie.Need-raise-requires invariant-loop decreases-loop
 raise-requires c κs = omega (arith, ap (λ (t : Session). t.c) c.before.loop.invariant.1, c.before.before.requires)
@@ -57,7 +57,7 @@ returns : tie.Need-returns invariant-loop decreases-loop
 returns c =
     let loop = c.before.before.loop in
     let s = c.before.before.before.args.s in
-    let all : loop.i ≡ mostPages = omega (arith, loop.invariant.0, c.before.loop-test.false) in
+    let all : loop.i ≡ most_pages = omega (arith, loop.invariant.0, c.before.loop-test.false) in
     c.raise.ensures ∙ (ap raised (loop.invariant.1 ∙ ap (turning s) all) ∙ turning-all s (search rules) (search rules))
 
 pub turn_spec : {M : Type 1} → statement M

@@ -1,5 +1,5 @@
 -- `newest::last_on`: the same on a page of the table. Assumes nothing.
-use Rattle.entries.proofs.Part.{page-part}
+use Rattle.entries.proofs.Part.{page_part}
 use borrow.Author.Rules.{rules}
 use Rattle.newest.proofs.last_on.Statement.{statement}
 use Rattle.newest.proofs.last_on.Tie as tie
@@ -25,7 +25,7 @@ last-in-requires c κs = search rules
 returns : tie.Need-returns
 returns c =
     let args = c.before.before.before.args in
-    rw (page-part args.table.now args.i) at c.last-in.ensures
+    rw (page_part args.table.now args.i) at c.last-in.ensures
 
 pub last-on-spec : {M : Type 1} → statement M
 last-on-spec =

@@ -1,6 +1,6 @@
 -- `newest::look`: at each turn the walk behind the last leaf is what is left to do. Assumes nothing.
 use Prim.Native.Nat.{◌+◌, ◌-◌}
-use Rattle.newest.proofs.Turns.{Going, goes_first, ends-damaged, reached, spot-room, turns-less, ends-leaf, goes-next}
+use Rattle.newest.proofs.Turns.{Going, goes_first, ends-damaged, reached, spot-room, turns_less, ends-leaf, goes-next}
 use native.Mathlib.Omega.{arith}
 use borrow.Author.Rules.{rules}
 use Rattle.newest.proofs.look.Statement.{statement}
@@ -55,7 +55,7 @@ last-on-requires c κs =
     let next = c.before.before.before.before.before.before.next in
     let leaf = c.before.before.leaf in
     let k = reached loop.invariant next.ensures leaf.given.1 in
-    (omega (arith, k.child-below, k.ground.long), spot-room loop.invariant next.ensures leaf.given.1)
+    (omega (arith, k.child_below, k.ground.long), spot-room loop.invariant next.ensures leaf.given.1)
 
 same-length-2 : tie.Need-same-length-2 invariant-loop decreases-loop
 same-length-2 c =
@@ -83,7 +83,7 @@ loop-less c =
     let loop = c.before.before.before.before.before.before.before.before.before.before.before.before.before.before.before.loop in
     let next = c.before.before.before.before.before.before.before.before.before.before.before.before.next in
     let leaf = c.before.before.before.before.before.before.before.before.leaf in
-    turns-less loop.invariant next.ensures leaf.given.1
+    turns_less loop.invariant next.ensures leaf.given.1
 
 loop-again : tie.Need-loop-preserved invariant-loop decreases-loop
 loop-again c =

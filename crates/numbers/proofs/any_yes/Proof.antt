@@ -1,6 +1,6 @@
 -- `numbers::any_yes`: variant by variant.
 -- Assumes nothing.
-use Rattle.rules.specs.Call.{anyYes}
+use Rattle.rules.specs.Call.{any_yes}
 use borrow.Author.Rules.{rules}
 use Rattle.numbers.proofs.any_yes.Statement.{statement}
 use Rattle.numbers.proofs.any_yes.Tie as tie
@@ -21,23 +21,23 @@ enum-told-5 : tie.Need-enum-told-5
 enum-told-5 c = search rules
 
 returns : tie.Need-returns
-unfolding anyYes
+unfolding any_yes
 returns c = search rules
 
 returns-2 : tie.Need-returns-2
-unfolding anyYes
+unfolding any_yes
 returns-2 c = search rules
 
 returns-3 : tie.Need-returns-3
-unfolding anyYes
+unfolding any_yes
 returns-3 c = search rules
 
 returns-4 : tie.Need-returns-4
-unfolding anyYes
+unfolding any_yes
 returns-4 c = search rules
 
 returns-5 : tie.Need-returns-5
-unfolding anyYes
+unfolding any_yes
 returns-5 c = search rules
 
 pub any-yes-spec : {M : Type 1} → statement M

@@ -1,6 +1,6 @@
 -- `numbers::formatted`: variant by variant.
 -- Assumes nothing.
-use Rattle.rules.specs.Call.{formattedNo}
+use Rattle.rules.specs.Call.{formatted_no}
 use borrow.Author.Rules.{rules}
 use Rattle.numbers.proofs.formatted.Statement.{statement}
 use Rattle.numbers.proofs.formatted.Tie as tie
@@ -12,11 +12,11 @@ enum-told-2 : tie.Need-enum-told-2
 enum-told-2 c = search rules
 
 returns : tie.Need-returns
-unfolding formattedNo
+unfolding formatted_no
 returns c = search rules
 
 returns-2 : tie.Need-returns-2
-unfolding formattedNo
+unfolding formatted_no
 returns-2 c = search rules
 
 pub formatted-spec : {M : Type 1} → statement M

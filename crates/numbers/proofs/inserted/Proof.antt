@@ -1,6 +1,6 @@
 -- `numbers::inserted`: variant by variant.
 -- Assumes nothing.
-use Rattle.rules.specs.Call.{insertedNo}
+use Rattle.rules.specs.Call.{inserted_no}
 use borrow.Author.Rules.{rules}
 use Rattle.numbers.proofs.inserted.Statement.{statement}
 use Rattle.numbers.proofs.inserted.Tie as tie
@@ -27,31 +27,31 @@ enum-told-7 : tie.Need-enum-told-7
 enum-told-7 c = search rules
 
 returns : tie.Need-returns
-unfolding insertedNo
+unfolding inserted_no
 returns c = search rules
 
 returns-2 : tie.Need-returns-2
-unfolding insertedNo
+unfolding inserted_no
 returns-2 c = search rules
 
 returns-3 : tie.Need-returns-3
-unfolding insertedNo
+unfolding inserted_no
 returns-3 c = search rules
 
 returns-4 : tie.Need-returns-4
-unfolding insertedNo
+unfolding inserted_no
 returns-4 c = search rules
 
 returns-5 : tie.Need-returns-5
-unfolding insertedNo
+unfolding inserted_no
 returns-5 c = search rules
 
 returns-6 : tie.Need-returns-6
-unfolding insertedNo
+unfolding inserted_no
 returns-6 c = search rules
 
 returns-7 : tie.Need-returns-7
-unfolding insertedNo
+unfolding inserted_no
 returns-7 c = search rules
 
 pub inserted-spec : {M : Type 1} → statement M

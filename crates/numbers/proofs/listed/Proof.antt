@@ -1,6 +1,6 @@
 -- `numbers::listed`: variant by variant.
 -- Assumes nothing.
-use Rattle.rules.specs.Call.{listedNo}
+use Rattle.rules.specs.Call.{listed_no}
 use borrow.Author.Rules.{rules}
 use Rattle.numbers.proofs.listed.Statement.{statement}
 use Rattle.numbers.proofs.listed.Tie as tie
@@ -15,15 +15,15 @@ enum-told-3 : tie.Need-enum-told-3
 enum-told-3 c = search rules
 
 returns : tie.Need-returns
-unfolding listedNo
+unfolding listed_no
 returns c = search rules
 
 returns-2 : tie.Need-returns-2
-unfolding listedNo
+unfolding listed_no
 returns-2 c = search rules
 
 returns-3 : tie.Need-returns-3
-unfolding listedNo
+unfolding listed_no
 returns-3 c = search rules
 
 pub listed-spec : {M : Type 1} → statement M

@@ -1,6 +1,6 @@
 -- `numbers::listed_count`: variant by variant.
 -- Assumes nothing.
-use Rattle.rules.specs.Call.{listedCount}
+use Rattle.rules.specs.Call.{listed_count}
 use borrow.Author.Rules.{rules}
 use Rattle.numbers.proofs.listed_count.Statement.{statement}
 use Rattle.numbers.proofs.listed_count.Tie as tie
@@ -15,15 +15,15 @@ enum-told-2 : tie.Need-enum-told-2
 enum-told-2 c = search rules
 
 returns : tie.Need-returns
-unfolding listedCount
+unfolding listed_count
 returns c = search rules
 
 returns-2 : tie.Need-returns-2
-unfolding listedCount
+unfolding listed_count
 returns-2 c = search rules
 
 returns-3 : tie.Need-returns-3
-unfolding listedCount
+unfolding listed_count
 returns-3 c = search rules
 
 pub listed-count-spec : {M : Type 1} → statement M

@@ -1,6 +1,6 @@
 -- `numbers::looked`: variant by variant.
 -- Assumes nothing.
-use Rattle.rules.specs.Call.{lookedNo}
+use Rattle.rules.specs.Call.{looked_no}
 use borrow.Author.Rules.{rules}
 use Rattle.numbers.proofs.looked.Statement.{statement}
 use Rattle.numbers.proofs.looked.Tie as tie
@@ -21,23 +21,23 @@ enum-told-5 : tie.Need-enum-told-5
 enum-told-5 c = search rules
 
 returns : tie.Need-returns
-unfolding lookedNo
+unfolding looked_no
 returns c = search rules
 
 returns-2 : tie.Need-returns-2
-unfolding lookedNo
+unfolding looked_no
 returns-2 c = search rules
 
 returns-3 : tie.Need-returns-3
-unfolding lookedNo
+unfolding looked_no
 returns-3 c = search rules
 
 returns-4 : tie.Need-returns-4
-unfolding lookedNo
+unfolding looked_no
 returns-4 c = search rules
 
 returns-5 : tie.Need-returns-5
-unfolding lookedNo
+unfolding looked_no
 returns-5 c = search rules
 
 pub looked-spec : {M : Type 1} → statement M

@@ -1,6 +1,6 @@
 -- `numbers::looked_record`: variant by variant.
 -- Assumes nothing.
-use Rattle.rules.specs.Call.{lookedRecord}
+use Rattle.rules.specs.Call.{looked_record}
 use borrow.Author.Rules.{rules}
 use Rattle.numbers.proofs.looked_record.Statement.{statement}
 use Rattle.numbers.proofs.looked_record.Tie as tie
@@ -21,23 +21,23 @@ enum-told-4 : tie.Need-enum-told-4
 enum-told-4 c = search rules
 
 returns : tie.Need-returns
-unfolding lookedRecord
+unfolding looked_record
 returns c = search rules
 
 returns-2 : tie.Need-returns-2
-unfolding lookedRecord
+unfolding looked_record
 returns-2 c = search rules
 
 returns-3 : tie.Need-returns-3
-unfolding lookedRecord
+unfolding looked_record
 returns-3 c = search rules
 
 returns-4 : tie.Need-returns-4
-unfolding lookedRecord
+unfolding looked_record
 returns-4 c = search rules
 
 returns-5 : tie.Need-returns-5
-unfolding lookedRecord
+unfolding looked_record
 returns-5 c = search rules
 
 pub looked-record-spec : {M : Type 1} → statement M

@@ -1,6 +1,6 @@
 -- `numbers::newest_issue`: variant by variant.
 -- Assumes nothing.
-use Rattle.rules.specs.Call.{newestIssue}
+use Rattle.rules.specs.Call.{newest_issue}
 use borrow.Author.Rules.{rules}
 use Rattle.numbers.proofs.newest_issue.Statement.{statement}
 use Rattle.numbers.proofs.newest_issue.Tie as tie
@@ -24,23 +24,23 @@ enum-told-4 : tie.Need-enum-told-4
 enum-told-4 c = search rules
 
 returns : tie.Need-returns
-unfolding newestIssue
+unfolding newest_issue
 returns c = search rules
 
 returns-2 : tie.Need-returns-2
-unfolding newestIssue
+unfolding newest_issue
 returns-2 c = search rules
 
 returns-3 : tie.Need-returns-3
-unfolding newestIssue
+unfolding newest_issue
 returns-3 c = search rules
 
 returns-4 : tie.Need-returns-4
-unfolding newestIssue
+unfolding newest_issue
 returns-4 c = search rules
 
 returns-5 : tie.Need-returns-5
-unfolding newestIssue
+unfolding newest_issue
 returns-5 c = search rules
 
 pub newest-issue-spec : {M : Type 1} → statement M

@@ -1,6 +1,6 @@
 -- `numbers::opened`: variant by variant.
 -- Assumes nothing.
-use Rattle.rules.specs.Call.{openedNo}
+use Rattle.rules.specs.Call.{opened_no}
 use borrow.Author.Rules.{rules}
 use Rattle.numbers.proofs.opened.Statement.{statement}
 use Rattle.numbers.proofs.opened.Tie as tie
@@ -18,19 +18,19 @@ enum-told-4 : tie.Need-enum-told-4
 enum-told-4 c = search rules
 
 returns : tie.Need-returns
-unfolding openedNo
+unfolding opened_no
 returns c = search rules
 
 returns-2 : tie.Need-returns-2
-unfolding openedNo
+unfolding opened_no
 returns-2 c = search rules
 
 returns-3 : tie.Need-returns-3
-unfolding openedNo
+unfolding opened_no
 returns-3 c = search rules
 
 returns-4 : tie.Need-returns-4
-unfolding openedNo
+unfolding opened_no
 returns-4 c = search rules
 
 pub opened-spec : {M : Type 1} → statement M

@@ -1,6 +1,6 @@
 -- `numbers::synced`: variant by variant.
 -- Assumes nothing.
-use Rattle.rules.specs.Call.{syncedNo}
+use Rattle.rules.specs.Call.{synced_no}
 use borrow.Author.Rules.{rules}
 use Rattle.numbers.proofs.synced.Statement.{statement}
 use Rattle.numbers.proofs.synced.Tie as tie
@@ -15,15 +15,15 @@ enum-told-3 : tie.Need-enum-told-3
 enum-told-3 c = search rules
 
 returns : tie.Need-returns
-unfolding syncedNo
+unfolding synced_no
 returns c = search rules
 
 returns-2 : tie.Need-returns-2
-unfolding syncedNo
+unfolding synced_no
 returns-2 c = search rules
 
 returns-3 : tie.Need-returns-3
-unfolding syncedNo
+unfolding synced_no
 returns-3 c = search rules
 
 pub synced-spec : {M : Type 1} → statement M

@@ -1,6 +1,6 @@
 -- `numbers::withdrawn`: variant by variant.
 -- Assumes nothing.
-use Rattle.rules.specs.Call.{withdrawnNo}
+use Rattle.rules.specs.Call.{withdrawn_no}
 use borrow.Author.Rules.{rules}
 use Rattle.numbers.proofs.withdrawn.Statement.{statement}
 use Rattle.numbers.proofs.withdrawn.Tie as tie
@@ -21,23 +21,23 @@ enum-told-5 : tie.Need-enum-told-5
 enum-told-5 c = search rules
 
 returns : tie.Need-returns
-unfolding withdrawnNo
+unfolding withdrawn_no
 returns c = search rules
 
 returns-2 : tie.Need-returns-2
-unfolding withdrawnNo
+unfolding withdrawn_no
 returns-2 c = search rules
 
 returns-3 : tie.Need-returns-3
-unfolding withdrawnNo
+unfolding withdrawn_no
 returns-3 c = search rules
 
 returns-4 : tie.Need-returns-4
-unfolding withdrawnNo
+unfolding withdrawn_no
 returns-4 c = search rules
 
 returns-5 : tie.Need-returns-5
-unfolding withdrawnNo
+unfolding withdrawn_no
 returns-5 c = search rules
 
 pub withdrawn-spec : {M : Type 1} → statement M

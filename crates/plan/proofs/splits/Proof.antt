@@ -3,15 +3,15 @@ use Prim.Native.Nat.{◌+◌, ◌-◌, ◌≤◌}
 use mathlib.Core.Path.{◌≡◌, sym, ◌∙◌}
 use borrow.Author.Tests.{not-true, not-false}
 use lib.ListN.{drop}
-use Rattle.plan.specs.Plan.{headsOf, splitsBy}
-use Rattle.plan.proofs.Heads.{splits-stop, splits-next, splits-done}
+use Rattle.plan.specs.Plan.{heads_of, splits_by}
+use Rattle.plan.proofs.Heads.{splits_stop, splits-next, splits-done}
 use borrow.Author.Rules.{rules}
 use native.Mathlib.Omega.{arith}
 use Rattle.plan.proofs.splits.Statement.{statement}
 use Rattle.plan.proofs.splits.Tie as tie
 
 abbrev invariant-loop : tie.invariant-loop
-invariant-loop way i₀ i = (splitsBy (headsOf way) ≡ i + splitsBy (drop i (headsOf way))) × (i ≤ way.len)
+invariant-loop way i₀ i = (splits_by (heads_of way) ≡ i + splits_by (drop i (heads_of way))) × (i ≤ way.len)
 
 abbrev decreases-loop : tie.decreases-loop
 decreases-loop way i₀ i = way.len - i
@@ -31,9 +31,9 @@ returns c =
     let pre = c.before.before.before.before.before.before.requires in
     let loop = c.before.before.before.before.before.loop in
     let head-on = c.before.before.head-on in
-    let is-full = c.before.is-full in
-    splits-stop args.way pre loop.i loop.invariant.0 head-on.result c.before.before.before.if1.true
-    (head-on.ensures head-on.result) (sym is-full.ensures ∙ not-true is-full.result c.if2.true)
+    let is_full_lem = c.before.is-full in
+    splits_stop args.way pre loop.i loop.invariant.0 head-on.result c.before.before.before.if1.true
+    (head-on.ensures head-on.result) (sym is_full_lem.ensures ∙ not-true is_full_lem.result c.if2.true)
 
 add-i : tie.Need-overflow-add-i invariant-loop decreases-loop
 add-i c = search rules
@@ -48,9 +48,9 @@ loop-again c =
     let loop = c.before.before.before.before.before.loop in
     let if1 = c.before.before.before.if1 in
     let head-on = c.before.before.head-on in
-    let is-full = c.before.is-full in (
+    let is_full_lem = c.before.is-full in (
       splits-next args.way pre loop.i loop.invariant.0 head-on.result if1.true
-          (head-on.ensures head-on.result) (sym is-full.ensures ∙ not-false is-full.result c.if2.false),
+          (head-on.ensures head-on.result) (sym is_full_lem.ensures ∙ not-false is_full_lem.result c.if2.false),
       omega (arith, if1.true),
     )
 

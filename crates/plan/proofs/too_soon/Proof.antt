@@ -2,15 +2,15 @@
 use Prim.Native.Nat.{◌-◌, ◌≤◌}
 use mathlib.Core.Path.{◌≡◌, refl, sym, ◌∙◌}
 use lib.ListN.{take, drop}
-use Rattle.plan.specs.Plan.{headsOf, tooSoonBy}
-use Rattle.plan.proofs.Heads.{soon-stop, soon-next, soon-done}
+use Rattle.plan.specs.Plan.{heads_of, too_soon_by}
+use Rattle.plan.proofs.Heads.{soon_stop, soon_next, soon_done}
 use borrow.Author.Rules.{rules}
 use native.Mathlib.Omega.{arith}
 use Rattle.plan.proofs.too_soon.Statement.{statement}
 use Rattle.plan.proofs.too_soon.Tie as tie
 
 abbrev invariant-loop : tie.invariant-loop
-invariant-loop c way splits i₀ i = (tooSoonBy c (take splits (headsOf way)) ≡ tooSoonBy c (drop i (take splits (headsOf way)))) × (i ≤ splits)
+invariant-loop c way splits i₀ i = (too_soon_by c (take splits (heads_of way)) ≡ too_soon_by c (drop i (take splits (heads_of way)))) × (i ≤ splits)
 
 abbrev decreases-loop : tie.decreases-loop
 decreases-loop c way splits i₀ i = splits - i
@@ -30,7 +30,7 @@ returns c =
     let pre = c.before.before.before.before.before.requires in
     let loop = c.before.before.before.before.loop in
     let head-on = c.before.before.head-on in
-    soon-stop args.way pre.1 args.splits pre.0 args.c loop.i loop.invariant.0 head-on.result
+    soon_stop args.way pre.1 args.splits pre.0 args.c loop.i loop.invariant.0 head-on.result
     c.before.before.before.loop-test.true (head-on.ensures head-on.result)
     (sym c.before.is-late.ensures ∙ c.if1.true)
 
@@ -47,7 +47,7 @@ loop-again c =
     let loop = c.before.before.before.before.loop in
     let loop-test = c.before.before.before.loop-test in
     let head-on = c.before.before.head-on in (
-      soon-next args.way pre.1 args.splits pre.0 args.c loop.i loop.invariant.0 head-on.result
+      soon_next args.way pre.1 args.splits pre.0 args.c loop.i loop.invariant.0 head-on.result
           loop-test.true (head-on.ensures head-on.result) (sym c.before.is-late.ensures ∙ c.if1.false),
       omega (arith, loop-test.true),
     )
@@ -57,7 +57,7 @@ returns-2 c =
     let args = c.before.before.args in
     let pre = c.before.before.requires in
     let loop = c.before.loop in
-    soon-done args.way pre.1 args.splits pre.0 args.c loop.i loop.invariant.0 args.way.leaf.head
+    soon_done args.way pre.1 args.splits pre.0 args.c loop.i loop.invariant.0 args.way.leaf.head
     c.loop-test.false
 
 pub too-soon-spec : {M : Type 1} → statement M

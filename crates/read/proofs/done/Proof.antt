@@ -1,5 +1,5 @@
 -- `read::done`: variant by variant. Assumes nothing.
-use Rattle.exchange.specs.ReadFile.{readCount}
+use Rattle.exchange.specs.ReadFile.{read_count}
 use borrow.Author.Rules.{rules}
 use Rattle.read.proofs.done.Statement.{statement}
 use Rattle.read.proofs.done.Tie as tie
@@ -14,15 +14,15 @@ enum-told-2 : tie.Need-enum-told-2
 enum-told-2 c = search rules
 
 returns : tie.Need-returns
-unfolding readCount
+unfolding read_count
 returns c = search rules
 
 returns-2 : tie.Need-returns-2
-unfolding readCount
+unfolding read_count
 returns-2 c = search rules
 
 returns-3 : tie.Need-returns-3
-unfolding readCount
+unfolding read_count
 returns-3 c = search rules
 
 pub done-spec : {M : Type 1} → statement M

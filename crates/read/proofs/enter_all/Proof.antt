@@ -3,10 +3,10 @@ use Prim.Native.Nat.{◌+◌, ◌-◌, ◌≤◌}
 use mathlib.Core.Path.{◌≡◌, refl, sym, ap, ◌∙◌}
 use lib.ListN.{length, drop}
 use Rattle.rules.specs.declared.Report.{Report}
-use Rattle.exchange.specs.Told.{certsIn}
-use Rattle.exchange.specs.ReadFile.{asItem, asItems}
+use Rattle.exchange.specs.Told.{certs_in}
+use Rattle.exchange.specs.ReadFile.{as_item, as_items}
 use Rattle.exchange.specs.declared.Certificate.{Certificate}
-use Rattle.read.specs.Readings.{Running, running, oneMore, goes}
+use Rattle.read.specs.Readings.{Running, running, one_more, goes}
 use Rattle.read.proofs.Turns.{there, one_at_most, turn_at, turns-end}
 use native.Mathlib.Omega.{arith}
 use borrow.Author.Rules.{rules}
@@ -14,7 +14,7 @@ use Rattle.read.proofs.enter_all.Statement.{statement}
 use Rattle.read.proofs.enter_all.Tie as tie
 
 abbrev invariant-loop : tie.invariant-loop
-invariant-loop working₀ stable file count made₀ place₀ working made place = (place ≤ count) × (made.done ≤ place) × (length working ≡ length working₀) × (goes stable (running made working) (drop place (asItems (certsIn file))) ≡ goes stable (running made₀ working₀) (asItems (certsIn file)))
+invariant-loop working₀ stable file count made₀ place₀ working made place = (place ≤ count) × (made.done ≤ place) × (length working ≡ length working₀) × (goes stable (running made working) (drop place (as_items (certs_in file))) ≡ goes stable (running made₀ working₀) (as_items (certs_in file)))
 
 abbrev decreases-loop : tie.decreases-loop
 decreases-loop working₀ stable file count made₀ place₀ working made place = count - place
@@ -39,11 +39,11 @@ loop-less c = search rules
 
 loop-again : tie.Need-loop-preserved invariant-loop decreases-loop
 loop-again c =
-    let e = c.before.before.enter.ensures ∙ ap (λ (x : Certificate). oneMore c.before.before.before.before.before.before.before.before.before.before.before.args.stable.now (running c.before.before.before.before.before.before.loop.made c.before.before.before.before.before.before.loop.working) (asItem x)) c.before.before.before.before.cert-at.ensures in (
+    let e = c.before.before.enter.ensures ∙ ap (λ (x : Certificate). one_more c.before.before.before.before.before.before.before.before.before.before.before.args.stable.now (running c.before.before.before.before.before.before.loop.made c.before.before.before.before.before.before.loop.working) (as_item x)) c.before.before.before.before.cert-at.ensures in (
       omega (arith, c.before.before.before.before.before.loop-test.true),
-      omega (arith, c.before.before.before.before.before.before.loop.invariant.1, ap (λ (x : Running). x.done) c.before.before.enter.ensures, one_at_most c.before.before.before.before.before.before.before.before.before.before.before.args.stable.now (running c.before.before.before.before.before.before.loop.made c.before.before.before.before.before.before.loop.working) (asItem c.before.before.before.before.cert-at.result)),
+      omega (arith, c.before.before.before.before.before.before.loop.invariant.1, ap (λ (x : Running). x.done) c.before.before.enter.ensures, one_at_most c.before.before.before.before.before.before.before.before.before.before.before.args.stable.now (running c.before.before.before.before.before.before.loop.made c.before.before.before.before.before.before.loop.working) (as_item c.before.before.before.before.cert-at.result)),
       c.before.before.enter.auto.0 ∙ c.before.before.before.before.before.before.loop.invariant.2,
-      ap (λ (x : Running). goes c.before.before.before.before.before.before.before.before.before.before.before.args.stable.now x (drop (c.before.before.before.before.before.before.loop.place + 1) (asItems (certsIn c.before.before.before.before.before.before.before.before.before.before.before.args.file.now)))) e
+      ap (λ (x : Running). goes c.before.before.before.before.before.before.before.before.before.before.before.args.stable.now x (drop (c.before.before.before.before.before.before.loop.place + 1) (as_items (certs_in c.before.before.before.before.before.before.before.before.before.before.before.args.file.now)))) e
           ∙ (sym (turn_at c.before.before.before.before.before.before.before.before.before.before.before.args.file.now c.before.before.before.before.before.before.before.before.before.before.before.args.count c.before.before.before.before.before.before.before.before.before.before.before.requires c.before.before.before.before.before.before.before.before.before.before.before.args.stable.now c.before.before.before.before.before.before.loop.place c.before.before.before.before.before.loop-test.true (running c.before.before.before.before.before.before.loop.made c.before.before.before.before.before.before.loop.working)) ∙ c.before.before.before.before.before.before.loop.invariant.3),
     )
 
@@ -54,7 +54,7 @@ returns : tie.Need-returns invariant-loop decreases-loop
 returns c =
     sym (turns-end c.before.before.before.before.before.before.args.file.now c.before.before.before.before.before.before.args.count c.before.before.before.before.before.before.requires c.before.before.before.before.before.before.args.stable.now c.before.loop.place (omega (arith, c.before.loop.invariant.0, c.loop-test.false)) (running c.before.loop.made c.before.loop.working))
     ∙ (c.before.loop.invariant.3
-    ∙ ap (λ (x : Report). goes c.before.before.before.before.before.before.args.stable.now (running (record { done = 0; report = x; session = c.before.before.before.before.before.before.args.session }) c.before.before.before.before.before.before.args.working.now) (asItems (certsIn c.before.before.before.before.before.before.args.file.now))) c.before.before.nothing.ensures)
+    ∙ ap (λ (x : Report). goes c.before.before.before.before.before.before.args.stable.now (running (record { done = 0; report = x; session = c.before.before.before.before.before.before.args.session }) c.before.before.before.before.before.before.args.working.now) (as_items (certs_in c.before.before.before.before.before.before.args.file.now))) c.before.before.nothing.ensures)
 
 pub enter-all-spec : {M : Type 1} → statement M
 enter-all-spec =

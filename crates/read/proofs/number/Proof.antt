@@ -1,5 +1,5 @@
 -- `read::number`: variant by variant. Assumes nothing.
-use Rattle.exchange.specs.ReadFile.{readNo}
+use Rattle.exchange.specs.ReadFile.{read_no}
 use borrow.Author.Rules.{rules}
 use Rattle.read.proofs.number.Statement.{statement}
 use Rattle.read.proofs.number.Tie as tie
@@ -14,15 +14,15 @@ enum-told-3 : tie.Need-enum-told-3
 enum-told-3 c = search rules
 
 returns : tie.Need-returns
-unfolding readNo
+unfolding read_no
 returns c = search rules
 
 returns-2 : tie.Need-returns-2
-unfolding readNo
+unfolding read_no
 returns-2 c = search rules
 
 returns-3 : tie.Need-returns-3
-unfolding readNo
+unfolding read_no
 returns-3 c = search rules
 
 pub number-spec : {M : Type 1} → statement M

@@ -1,5 +1,5 @@
 -- `sections::put_cert`: its meter's place, its issue and its record. Assumes nothing.
-use Rattle.sections.specs.Puts.{putCert}
+use Rattle.sections.specs.Puts.{put_cert}
 use borrow.Author.Rules.{rules}
 use Rattle.sections.proofs.put_cert.Statement.{statement}
 use Rattle.sections.proofs.put_cert.Tie as tie
@@ -26,7 +26,7 @@ same_length : tie.Need-same-length
 same_length c = search rules
 
 returns : tie.Need-returns
-unfolding putCert
+unfolding put_cert
 returns c = rw (c.before.before.put-cert.ensures, c.before.before.before.before.before.before.last_of.ensures)
 
 pub put-cert-spec : {M : Type 1} → statement M

@@ -1,5 +1,5 @@
 -- `sections::put_counts`: each count before its section. Assumes nothing.
-use Rattle.sections.proofs.Puts.{starts-at, starts-are, counts-are}
+use Rattle.sections.proofs.Puts.{starts_at_lem, starts-are, counts-are}
 use native.Mathlib.Omega.{arith}
 use borrow.Author.Rules.{rules}
 use Rattle.sections.proofs.put_counts.Statement.{statement}
@@ -9,7 +9,7 @@ cast-put32 : tie.Need-overflow-cast-put32
 cast-put32 c = search rules
 
 put32-requires : tie.Need-put32-requires
-put32-requires c κs = omega (arith, (starts-at c.before.before.before.args.c).end, c.before.before.before.requires.3)
+put32-requires c κs = omega (arith, (starts_at_lem c.before.before.before.args.c).end, c.before.before.before.requires.3)
 
 sub-put32 : tie.Need-overflow-sub-put32
 sub-put32 c = omega (arith, (starts-are c.before.before.before.before.before.before.before.before.requires.2).meters)
@@ -18,7 +18,7 @@ cast-put32-2 : tie.Need-overflow-cast-put32-2
 cast-put32-2 c = search rules
 
 put32-requires-2 : tie.Need-put32-requires-2
-put32-requires-2 c κs = omega (arith, (starts-at c.before.before.before.before.before.before.before.before.before.args.c).end, c.before.before.before.before.before.before.before.before.before.requires.3, (starts-are c.before.before.before.before.before.before.before.before.before.requires.2).meters, c.before.before.before.before.before.put32.auto.0)
+put32-requires-2 c κs = omega (arith, (starts_at_lem c.before.before.before.before.before.before.before.before.before.args.c).end, c.before.before.before.before.before.before.before.before.before.requires.3, (starts-are c.before.before.before.before.before.before.before.before.before.requires.2).meters, c.before.before.before.before.before.put32.auto.0)
 
 sub-put32-2 : tie.Need-overflow-sub-put32-2
 sub-put32-2 c = omega (arith, (starts-are c.before.before.before.before.before.before.before.before.before.before.before.before.before.before.requires.2).certs)
@@ -27,7 +27,7 @@ cast-put32-3 : tie.Need-overflow-cast-put32-3
 cast-put32-3 c = search rules
 
 put32-requires-3 : tie.Need-put32-requires-3
-put32-requires-3 c κs = omega (arith, (starts-at c.before.before.before.before.before.before.before.before.before.before.before.before.before.before.before.args.c).end, c.before.before.before.before.before.before.before.before.before.before.before.before.before.before.before.requires.3, (starts-are c.before.before.before.before.before.before.before.before.before.before.before.before.before.before.before.requires.2).certs, c.before.before.before.before.before.before.before.before.before.before.before.put32.auto.0, c.before.before.before.before.before.put322.auto.0)
+put32-requires-3 c κs = omega (arith, (starts_at_lem c.before.before.before.before.before.before.before.before.before.before.before.before.before.before.before.args.c).end, c.before.before.before.before.before.before.before.before.before.before.before.before.before.before.before.requires.3, (starts-are c.before.before.before.before.before.before.before.before.before.before.before.before.before.before.before.requires.2).certs, c.before.before.before.before.before.before.before.before.before.before.before.put32.auto.0, c.before.before.before.before.before.put322.auto.0)
 
 same_length : tie.Need-same-length
 same_length c = search rules

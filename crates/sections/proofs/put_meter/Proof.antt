@@ -1,7 +1,7 @@
 -- `sections::put_meter`: a meter that is there already is not written. Assumes nothing.
 use mathlib.Core.Path.{sym, ap, ◌∙◌}
 use Prim.Native.Nat.{ℕ, ◌+◌, ◌*◌, ◌/◌, ◌%◌}
-use Rattle.exchange.specs.Item.{itemFor, putItem}
+use Rattle.exchange.specs.Item.{item_for, put_item}
 use Rattle.exchange.specs.declared.Section.{Section}
 use Rattle.sections.proofs.Puts.{meter-same, meter-new}
 use borrow.Author.Rules.{rules}
@@ -33,7 +33,7 @@ same_length : tie.Need-same-length
 same_length c = search rules
 
 returns-2 : tie.Need-returns-2
-returns-2 c = c.before.before.put-meter.ensures ∙ ap (λ (p : ℕ). putItem Section.Meters c.before.before.before.before.before.before.before.before.before.before.before.args.out.now (c.before.before.before.before.before.before.before.before.before.before.before.args.s.meters + 6 * c.before.before.before.before.before.before.before.before.before.before.before.args.c.meters) (itemFor p (c.before.before.before.before.before.before.before.before.before.before.before.args.key / 65536 % 4294967296) 0)) c.before.before.before.before.before.before.last_of.ensures ∙ sym (meter-new c.before.before.before.before.before.before.before.before.before.before.before.args.c c.before.before.before.before.before.before.before.before.before.before.before.args.d c.before.before.before.before.before.before.before.before.before.before.before.args.key c.before.before.before.before.before.before.before.before.before.before.before.args.out.now c.before.before.before.before.before.before.before.before.before.before.before.args.s c.before.before.before.before.before.before.before.if1.false)
+returns-2 c = c.before.before.put-meter.ensures ∙ ap (λ (p : ℕ). put_item Section.Meters c.before.before.before.before.before.before.before.before.before.before.before.args.out.now (c.before.before.before.before.before.before.before.before.before.before.before.args.s.meters + 6 * c.before.before.before.before.before.before.before.before.before.before.before.args.c.meters) (item_for p (c.before.before.before.before.before.before.before.before.before.before.before.args.key / 65536 % 4294967296) 0)) c.before.before.before.before.before.before.last_of.ensures ∙ sym (meter-new c.before.before.before.before.before.before.before.before.before.before.before.args.c c.before.before.before.before.before.before.before.before.before.before.before.args.d c.before.before.before.before.before.before.before.before.before.before.before.args.key c.before.before.before.before.before.before.before.before.before.before.before.args.out.now c.before.before.before.before.before.before.before.before.before.before.before.args.s c.before.before.before.before.before.before.before.if1.false)
 
 pub put-meter-spec : {M : Type 1} → statement M
 put-meter-spec =

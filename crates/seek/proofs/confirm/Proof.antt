@@ -2,7 +2,7 @@
 -- Assumes nothing.
 use mathlib.Core.Path.{sym, ◌∙◌}
 use borrow.Author.Tests.{eqb-true}
-use Rattle.entries.specs.Spot.{keysIn, spot_of}
+use Rattle.entries.specs.Spot.{keys_in, spot_of}
 use borrow.Author.Rules.{rules}
 use Rattle.seek.proofs.confirm.Statement.{statement}
 use Rattle.seek.proofs.confirm.Tie as tie
@@ -13,7 +13,7 @@ stands-requires c κs = search rules
 returns : tie.Need-returns
 returns c =
     let args = c.before.before.before.args in
-    eqb-true args.guess (spot_of args.key (keysIn args.header args.size args.count args.page.now))
+    eqb-true args.guess (spot_of args.key (keys_in args.header args.size args.count args.page.now))
     (sym c.before.stands.ensures ∙ c.if1.true)
 
 seek-requires : tie.Need-seek-requires

@@ -3,7 +3,7 @@
 use mathlib.Core.Path.{sym, ◌∙◌}
 use borrow.Author.Tests.{not-true, not-false}
 use Rattle.entries.proofs.Passed.{within}
-use Rattle.seek.proofs.Spots.{beyond-all, not-reached, reached-all, reached-next}
+use Rattle.seek.proofs.Spots.{beyond_all, not_reached, reached-all, reached-next}
 use native.Mathlib.Omega.{arith}
 use borrow.Author.Rules.{rules}
 use Rattle.seek.proofs.stands.Statement.{statement}
@@ -12,7 +12,7 @@ use Rattle.seek.proofs.stands.Tie as tie
 returns : tie.Need-returns
 returns c =
     let args = c.before.before.args in
-    beyond-all args.key args.header args.size args.count args.number args.page.now c.if1.true
+    beyond_all args.key args.header args.size args.count args.number args.page.now c.if1.true
 
 reached-requires : tie.Need-reached-requires
 reached-requires c κs = search rules
@@ -21,7 +21,7 @@ returns-2 : tie.Need-returns-2
 returns-2 c =
     let args = c.before.before.before.before.args in
     let reached = c.before.reached in
-    not-reached args.key args.header args.size args.count args.number args.page.now
+    not_reached args.key args.header args.size args.count args.number args.page.now
     (sym reached.ensures ∙ not-true reached.result c.if2.true)
 
 returns-3 : tie.Need-returns-3

@@ -4,10 +4,10 @@ use Rattle.std.proofs.Common.{ℕ, ◌+◌, ◌*◌, ◌<◌, sym, ap, ◌∙◌
 use Rattle.rules.specs.Tree.{tree}
 use Rattle.seen.specs.declared.Run.{Run}
 use Rattle.seen.specs.declared.Tally.{Tally}
-use Rattle.seen.specs.Note.{tally, seenOf, note}
+use Rattle.seen.specs.Note.{tally, seen_of, note}
 use Rattle.seen.proofs.Noting.{note-broken}
 use Rattle.seen.proofs.Shows.{showing}
-use Rattle.seen.proofs.Trees.{run_none, run_step, lies-rest, page-deep, page-damaged, certsOf, page-walk}
+use Rattle.seen.proofs.Trees.{run_none, run_step, lies-rest, page-deep, page-damaged, certs_of, page-walk}
 use borrow.Fn.Kinds.{In}
 use borrow.Fn.PlainCycle.{Measures, is, falls, and}
 use Rattle.seen.proofs.walk_entries.Reads as walk-entries
@@ -60,7 +60,7 @@ walk-entries-returns : (t : ℕ) → walk-entries-lts.Need-returns (walk-entries
 walk-entries-returns t c =
     let args = c.before.before.before.before.before.args in
     run_none (tree args.level args.n args.table.now) args.table.now args.high args.r
-    (seenOf args.sum args.children.now args.spared.now) c.if1.true
+    (seen_of args.sum args.children.now args.spared.now) c.if1.true
 
 walk-entries-place-in-requires : (t : ℕ) → walk-entries-lts.Need-place-in-requires (walk-entries-in t) (walk-entries-at t) walk-entries.Post
 walk-entries-place-in-requires t c κs = search rules
@@ -99,9 +99,9 @@ walk-entries-returns-2 t c =
     let rest_of = c.before.before.before.before.before.before.before.rest_of in
     let walk-entries' = c.before.before.before.before.walk-entries in
     run_step (tree args.level args.n args.table.now) args.table.now args.high args.r
-    (seenOf args.sum args.children.now args.spared.now) IsPlace-in.result rest_of.result
-    (seenOf walk-page'.result walk-page'.new.1.1.1.1.1.0 walk-page'.new.1.1.1.1.1.1.0)
-    (seenOf walk-entries'.result walk-entries'.new.1.1.1.1.1.1.0 walk-entries'.new.1.1.1.1.1.1.1.0)
+    (seen_of args.sum args.children.now args.spared.now) IsPlace-in.result rest_of.result
+    (seen_of walk-page'.result walk-page'.new.1.1.1.1.1.0 walk-page'.new.1.1.1.1.1.1.0)
+    (seen_of walk-entries'.result walk-entries'.new.1.1.1.1.1.1.0 walk-entries'.new.1.1.1.1.1.1.1.0)
     (omega (arith, if1.false)) IsPlace-in.ensures rest_of.ensures walk-page'.ensures walk-entries'.ensures
 
 walk-page-damaged-requires : (t : ℕ) → walk-page-lts.Need-damaged-requires (walk-page-in t) (walk-page-at t) walk-page.Post
@@ -110,9 +110,9 @@ walk-page-damaged-requires t c κs = search rules
 walk-page-returns : (t : ℕ) → walk-page-lts.Need-returns (walk-page-in t) (walk-page-at t) walk-page.Post
 walk-page-returns t c =
     let args = c.before.before.before.before.before.args in
-    ap (λ (x : Tally). seenOf x args.children.now args.spared.now) c.damaged.ensures
-    ∙ note-broken (seenOf args.sum args.children.now args.spared.now)
-    ∙ ap (note (seenOf args.sum args.children.now args.spared.now))
+    ap (λ (x : Tally). seen_of x args.children.now args.spared.now) c.damaged.ensures
+    ∙ note-broken (seen_of args.sum args.children.now args.spared.now)
+    ∙ ap (note (seen_of args.sum args.children.now args.spared.now))
     (page-deep args.n args.table.now args.e args.level c.before.if1.true)
 
 walk-page-shown-at-requires : (t : ℕ) → walk-page-lts.Need-shown-at-requires (walk-page-in t) (walk-page-at t) walk-page.Post
@@ -131,9 +131,9 @@ walk-page-returns-2 : (t : ℕ) → walk-page-lts.Need-returns-2 (walk-page-in t
 walk-page-returns-2 t c =
     let args = c.before.before.before.before.before.before.before.before.args in
     let pre = c.before.before.before.before.before.before.before.before.requires in
-    ap (λ (x : Tally). seenOf x args.children.now args.spared.now) c.damaged2.ensures
-    ∙ note-broken (seenOf args.sum args.children.now args.spared.now)
-    ∙ ap (note (seenOf args.sum args.children.now args.spared.now))
+    ap (λ (x : Tally). seen_of x args.children.now args.spared.now) c.damaged2.ensures
+    ∙ note-broken (seen_of args.sum args.children.now args.spared.now)
+    ∙ ap (note (seen_of args.sum args.children.now args.spared.now))
     (page-damaged args.n args.table.now args.e pre.1 args.level c.before.before.before.before.if1.false (sym c.before.before.before.shown-at.ensures ∙ c.before.enum_told.given.1))
 
 walk-page-cast-name-place : (t : ℕ) → walk-page-lts.Need-overflow-cast-name-place (walk-page-in t) (walk-page-at t) walk-page.Post
@@ -174,13 +174,13 @@ walk-page-returns-3 t c =
     let r = c.before.before.before.before.before.before.before.before.before.before.before.before.before.before.before.before.before.r in
     let name-place = c.before.before.before.before.before.before.before.before.before.before.before.before.name-place in
     let count_at = c.before.before.before.before.before.before.before.count_at in
-    let certs = certsOf args.n args.table.now args.e pre.1 r.given.0.0 in
+    let certs = certs_of args.n args.table.now args.e pre.1 r.given.0.0 in
     let walk-entries' = c.before.before.before.before.walk-entries in
     page-walk args.n args.table.now args.e pre.1 args.level r.given.0.0
-    (seenOf args.sum args.children.now args.spared.now)
-    (seenOf (tally name-place.result count_at.result) name-place.new.1.1.1.0 name-place.new.1.1.1.1.0)
-    (seenOf walk-entries'.result walk-entries'.new.1.1.1.1.1.1.0 walk-entries'.new.1.1.1.1.1.1.1.0)
-    if1.false (sym shown-at.ensures ∙ r.given.1) (ap (λ (i : ℕ). seenOf (tally name-place.result i) name-place.new.1.1.1.0 name-place.new.1.1.1.1.0) count_at.ensures ∙ name-place.ensures args.sum.total certs) walk-entries'.ensures
+    (seen_of args.sum args.children.now args.spared.now)
+    (seen_of (tally name-place.result count_at.result) name-place.new.1.1.1.0 name-place.new.1.1.1.1.0)
+    (seen_of walk-entries'.result walk-entries'.new.1.1.1.1.1.1.0 walk-entries'.new.1.1.1.1.1.1.1.0)
+    if1.false (sym shown-at.ensures ∙ r.given.1) (ap (λ (i : ℕ). seen_of (tally name-place.result i) name-place.new.1.1.1.0 name-place.new.1.1.1.1.0) count_at.ensures ∙ name-place.ensures args.sum.total certs) walk-entries'.ensures
 
 pub +walk-entries-walk-page-spec : {M : Type 1} → statement M
 +walk-entries-walk-page-spec = close μ-walk-entries μ-walk-page (λ t. walk-entries-lts.spec (walk-entries-in t)

@@ -1,7 +1,7 @@
 -- `seen::good`: the loop's invariant says that no number below i has both marks.
 -- Assumes nothing.
 use Rattle.std.proofs.Common.{◌-◌, ◌≤◌, refl, rules}
-use Rattle.seen.proofs.Goods.{Compared, both-marked, one_at_most, all-compared}
+use Rattle.seen.proofs.Goods.{Compared, both-marked, one_at_most, all_compared}
 use Rattle.seen.proofs.good.Statement.{statement}
 use Rattle.seen.proofs.good.Tie as tie
 
@@ -45,7 +45,7 @@ loop-again c =
 returns-2 : tie.Need-returns-2 invariant-loop decreases-loop
 returns-2 c =
     let loop = c.before.loop in
-    all-compared c.before.before.args.t1 128 (search rules) (search rules) loop.i c.loop-test.false
+    all_compared c.before.before.args.t1 128 (search rules) (search rules) loop.i c.loop-test.false
     loop.invariant.1
 
 pub good-spec : {M : Type 1} → statement M

@@ -1,11 +1,11 @@
 -- `seen::mark`: beyond the marks nothing changes. Assumes nothing.
-use Rattle.seen.proofs.Beyond.{mark-beyond}
+use Rattle.seen.proofs.Beyond.{mark_beyond}
 use Rattle.std.proofs.Common.{rules}
 use Rattle.seen.proofs.mark.Statement.{statement}
 use Rattle.seen.proofs.mark.Tie as tie
 
 returns : tie.Need-returns
-returns c = mark-beyond c.before.args.marks.now c.before.args.i (search rules)
+returns c = mark_beyond c.before.args.marks.now c.before.args.i (search rules)
 
 slice-write-marks : tie.Need-slice-write-marks
 slice-write-marks c = search rules

@@ -1,11 +1,11 @@
 -- `seen::marked`: beyond the marks nothing is marked. Assumes nothing.
-use Rattle.seen.proofs.Beyond.{marked-beyond}
+use Rattle.seen.proofs.Beyond.{marked_beyond}
 use Rattle.std.proofs.Common.{rules}
 use Rattle.seen.proofs.marked.Statement.{statement}
 use Rattle.seen.proofs.marked.Tie as tie
 
 returns : tie.Need-returns
-returns c = marked-beyond c.before.args.marks.now c.before.args.i (search rules)
+returns c = marked_beyond c.before.args.marks.now c.before.args.i (search rules)
 
 shared-slice-read-result : tie.Need-shared-slice-read-result
 shared-slice-read-result c = search rules

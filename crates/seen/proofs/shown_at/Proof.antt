@@ -3,7 +3,7 @@
 use Rattle.std.proofs.Common.{sym, ap, ◌∙◌, rules}
 use Rattle.seen.specs.declared.Run.{Run}
 use Rattle.seen.specs.declared.Shown.{Shown}
-use Rattle.seen.proofs.Shows.{shown-fitting, shown-lost, shown-damaged, runs-fitting, runs-lost}
+use Rattle.seen.proofs.Shows.{shown-fitting, shown-lost, shown-damaged, runs_fitting, runs_lost}
 use Rattle.seen.proofs.shown_at.Statement.{statement}
 use Rattle.seen.proofs.shown_at.Tie as tie
 
@@ -17,7 +17,7 @@ run-in-requires : tie.Need-run-in-requires
 run-in-requires c κs =
     let args = c.before.before.before.before.args in
     let pre = c.before.before.before.before.requires in
-    runs-fitting args.n args.table.now args.e pre
+    runs_fitting args.n args.table.now args.e pre
     (sym c.before.before.fits-at.ensures ∙ c.before.if1.true)
 
 returns : tie.Need-returns
@@ -36,7 +36,7 @@ run-in-requires-2 : tie.Need-run-in-requires-2
 run-in-requires-2 c κs =
     let args = c.before.before.before.before.before.before.args in
     let pre = c.before.before.before.before.before.before.requires in
-    runs-lost args.n args.table.now args.e pre
+    runs_lost args.n args.table.now args.e pre
     (sym c.before.before.mendable-at.ensures ∙ c.before.if2.true)
 
 returns-2 : tie.Need-returns-2

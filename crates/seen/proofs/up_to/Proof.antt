@@ -1,7 +1,7 @@
 -- `seen::up_to`: the loop's invariant says that the entries before j have passed.
 -- Assumes nothing.
 use Rattle.std.proofs.Common.{◌-◌, ◌≤◌, arith, rules}
-use Rattle.seen.proofs.Spans.{Passed, pass-start, pass-stop, pass_on, pass-end}
+use Rattle.seen.proofs.Spans.{Passed, pass_start, pass_stop, pass_on, pass_end}
 use Rattle.seen.proofs.up_to.Statement.{statement}
 use Rattle.seen.proofs.up_to.Tie as tie
 
@@ -14,7 +14,7 @@ decreases-loop table page from count key j₀ j = count - j
 loop-holds : tie.Need-loop-init invariant-loop decreases-loop
 loop-holds c =
     let args = c.before.args in
-    (search rules, (search rules, pass-start args.table.now args.page args.from args.count args.key))
+    (search rules, (search rules, pass_start args.table.now args.page args.from args.count args.key))
 
 child-key-at-requires : tie.Need-child-key-at-requires invariant-loop decreases-loop
 child-key-at-requires c κs = search rules
@@ -26,7 +26,7 @@ returns : tie.Need-returns invariant-loop decreases-loop
 returns c =
     let args = c.before.before.before.before.before.args in
     let loop = c.before.before.before.loop in
-    pass-stop args.table.now args.page args.from args.count args.key loop.j loop.invariant.0
+    pass_stop args.table.now args.page args.from args.count args.key loop.j loop.invariant.0
     c.before.before.loop-test.true (omega (arith, c.if1.true, c.before.child-key-at.ensures))
     loop.invariant.1.1
 
@@ -56,7 +56,7 @@ returns-2 : tie.Need-returns-2 invariant-loop decreases-loop
 returns-2 c =
     let args = c.before.before.before.args in
     let loop = c.before.loop in
-    pass-end args.table.now args.page args.from args.count args.key loop.j loop.invariant.0
+    pass_end args.table.now args.page args.from args.count args.key loop.j loop.invariant.0
     c.loop-test.false loop.invariant.1.1
 
 pub up-to-spec : {M : Type 1} → statement M

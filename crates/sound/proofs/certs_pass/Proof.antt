@@ -1,7 +1,7 @@
 -- `sound::certs_pass`: before each round the answer is what is left to test after the last key.
 -- Assumes nothing.
 use Rattle.std.proofs.Common.{◌+◌, ◌-◌, ◌≤◌, refl, arith, rules}
-use Rattle.sound.proofs.Certs.{CertsLeft, no-cert, cert-below, cert-bad, certs-start, certs-stop, certs-on, certs-end}
+use Rattle.sound.proofs.Certs.{CertsLeft, no_cert, cert_below, cert_bad, certs-start, certs_stop, certs_on, certs-end}
 use Rattle.sound.proofs.certs_pass.Statement.{statement}
 use Rattle.sound.proofs.certs_pass.Tie as tie
 
@@ -14,7 +14,7 @@ decreases-loop page count low high last₀ j₀ last j = count - j
 returns : tie.Need-returns invariant-loop decreases-loop
 returns c =
     let a = c.before.before.args in
-    no-cert a.page.now a.count a.low a.high c.if1.true
+    no_cert a.page.now a.count a.low a.high c.if1.true
 
 cert-key-requires : tie.Need-cert-key-requires invariant-loop decreases-loop
 cert-key-requires c κs = search rules
@@ -23,7 +23,7 @@ returns-2 : tie.Need-returns-2 invariant-loop decreases-loop
 returns-2 c =
     let cert-key = c.before.cert-key in
     let a = c.before.before.before.before.args in
-    cert-below a.page.now a.count a.low a.high cert-key.result (omega arith) cert-key.ensures
+    cert_below a.page.now a.count a.low a.high cert-key.result (omega arith) cert-key.ensures
     c.if2.true
 
 good-key-requires : tie.Need-good-key-requires invariant-loop decreases-loop
@@ -33,7 +33,7 @@ returns-3 : tie.Need-returns-3 invariant-loop decreases-loop
 returns-3 c =
     let cert-key = c.before.before.before.cert-key in
     let a = c.before.before.before.before.before.before.args in
-    cert-bad a.page.now a.count a.low a.high cert-key.result (omega arith) cert-key.ensures
+    cert_bad a.page.now a.count a.low a.high cert-key.result (omega arith) cert-key.ensures
     c.before.good-key.ensures c.if3.true
 
 loop-holds : tie.Need-loop-init invariant-loop decreases-loop
@@ -60,7 +60,7 @@ returns-4 c =
     let cert-key2 = c.before.before.cert-key2 in
     let a = c.before.before.before.before.before.before.before.before.before.before.before.args in
     let l = c.before.before.before.before.loop in
-    certs-stop a.page.now a.count a.low a.high l.last l.j cert-key2.result
+    certs_stop a.page.now a.count a.low a.high l.last l.j cert-key2.result
     (omega (arith, c.before.before.before.loop-test.true)) cert-key2.ensures
     c.before.cert-follows.ensures l.invariant.2 c.if4.true
 
@@ -81,10 +81,10 @@ returns-5 c =
     let cert-key3 = c.before.before.cert-key3 in
     let a = c.before.before.before.before.before.before.before.before.before.before.before.before.before.before.args in
     let l = c.before.before.before.before.before.before.before.loop in
-    let on = certs-on a.page.now a.count a.low a.high l.last l.j cert-key2.result
+    let on = certs_on a.page.now a.count a.low a.high l.last l.j cert-key2.result
     (omega (arith, loop-test.true)) cert-key2.ensures cert-follows.ensures l.invariant.2 (l.j + 1) refl
     c.before.before.before.if4.false in
-    certs-stop a.page.now a.count a.low a.high cert-key2.result (l.j + 1) cert-key3.result
+    certs_stop a.page.now a.count a.low a.high cert-key2.result (l.j + 1) cert-key3.result
     (omega (arith, loop-test.true)) cert-key3.ensures c.before.cert-follows2.ensures on c.if5.true
 
 add-j : tie.Need-overflow-add-j invariant-loop decreases-loop
@@ -101,12 +101,12 @@ loop-again c =
     let cert-key3 = c.before.before.cert-key3 in
     let a = c.before.before.before.before.before.before.before.before.before.before.before.before.before.before.args in
     let l = c.before.before.before.before.before.before.before.loop in
-    let on = certs-on a.page.now a.count a.low a.high l.last l.j cert-key2.result
+    let on = certs_on a.page.now a.count a.low a.high l.last l.j cert-key2.result
     (omega (arith, loop-test.true)) cert-key2.ensures cert-follows.ensures l.invariant.2 (l.j + 1) refl
     c.before.before.before.if4.false in (
       omega arith,
       omega arith,
-      certs-on a.page.now a.count a.low a.high cert-key2.result (l.j + 1) cert-key3.result
+      certs_on a.page.now a.count a.low a.high cert-key2.result (l.j + 1) cert-key3.result
           (omega (arith, loop-test.true)) cert-key3.ensures c.before.cert-follows2.ensures on (l.j + 2)
           (omega arith) c.if5.false,
     )
@@ -128,7 +128,7 @@ returns-7 c =
     let cert-key4 = c.before.before.cert-key4 in
     let a = c.before.before.before.before.before.before.before.before.before.before.before.before.args in
     let l = c.before.before.before.before.before.loop in
-    certs-stop a.page.now a.count a.low a.high l.last l.j cert-key4.result (omega arith)
+    certs_stop a.page.now a.count a.low a.high l.last l.j cert-key4.result (omega arith)
     cert-key4.ensures c.before.cert-follows3.ensures l.invariant.2 c.if7.true
 
 returns-8 : tie.Need-returns-8 invariant-loop decreases-loop
@@ -137,7 +137,7 @@ returns-8 c =
     let a = c.before.before.before.before.before.before.before.before.before.before.before.before.args in
     let l = c.before.before.before.before.before.loop in
     certs-end a.page.now a.count a.low a.high cert-key4.result (l.j + 1) (omega arith)
-    (certs-on a.page.now a.count a.low a.high l.last l.j cert-key4.result (omega arith) cert-key4.ensures c.before.cert-follows3.ensures l.invariant.2 (l.j + 1) refl c.if7.false)
+    (certs_on a.page.now a.count a.low a.high l.last l.j cert-key4.result (omega arith) cert-key4.ensures c.before.cert-follows3.ensures l.invariant.2 (l.j + 1) refl c.if7.false)
 
 pub certs-pass-spec : {M : Type 1} → statement M
 certs-pass-spec =

@@ -1,7 +1,7 @@
 -- `sound::children_pass`: before each round the answer is what is left to test after the last key.
 -- Assumes nothing.
 use Rattle.std.proofs.Common.{◌+◌, ◌-◌, ◌≤◌, refl, arith, rules}
-use Rattle.sound.proofs.Children.{ChildrenLeft, no-child, starts-elsewhere, starts-bad, starts-on, children-stop, children-on, children-end}
+use Rattle.sound.proofs.Children.{ChildrenLeft, no_child, starts_elsewhere, starts_bad, starts_on, children_stop, children_on, children-end}
 use Rattle.sound.proofs.children_pass.Statement.{statement}
 use Rattle.sound.proofs.children_pass.Tie as tie
 
@@ -14,7 +14,7 @@ decreases-loop page count low high n last₀ j₀ last j = count - j
 returns : tie.Need-returns invariant-loop decreases-loop
 returns c =
     let a = c.before.before.args in
-    no-child a.page.now a.count a.low a.high a.n c.if1.true
+    no_child a.page.now a.count a.low a.high a.n c.if1.true
 
 child-key-requires : tie.Need-child-key-requires invariant-loop decreases-loop
 child-key-requires c κs = search rules
@@ -23,7 +23,7 @@ returns-2 : tie.Need-returns-2 invariant-loop decreases-loop
 returns-2 c =
     let child-key = c.before.child-key in
     let a = c.before.before.before.before.args in
-    starts-elsewhere a.page.now a.count a.low a.high a.n child-key.result (omega arith)
+    starts_elsewhere a.page.now a.count a.low a.high a.n child-key.result (omega arith)
     child-key.ensures c.if2.true
 
 names-pages-requires : tie.Need-names-pages-requires invariant-loop decreases-loop
@@ -33,7 +33,7 @@ returns-3 : tie.Need-returns-3 invariant-loop decreases-loop
 returns-3 c =
     let child-key = c.before.before.before.child-key in
     let a = c.before.before.before.before.before.before.args in
-    starts-bad a.page.now a.count a.low a.high a.n child-key.result (omega arith)
+    starts_bad a.page.now a.count a.low a.high a.n child-key.result (omega arith)
     child-key.ensures c.before.names-pages.ensures c.if3.true
 
 loop-holds : tie.Need-loop-init invariant-loop decreases-loop
@@ -42,7 +42,7 @@ loop-holds c =
     let a = c.before.before.before.before.before.before.args in (
       search rules,
       omega arith,
-      starts-on a.page.now a.count a.low a.high a.n child-key.result (omega arith)
+      starts_on a.page.now a.count a.low a.high a.n child-key.result (omega arith)
           child-key.ensures c.before.names-pages.ensures c.before.before.if2.false c.if3.false,
     )
 
@@ -60,7 +60,7 @@ returns-4 c =
     let child-key2 = c.before.before.child-key2 in
     let a = c.before.before.before.before.before.before.before.before.before.before.before.args in
     let l = c.before.before.before.before.loop in
-    children-stop a.page.now a.count a.low a.high a.n l.last l.j child-key2.result
+    children_stop a.page.now a.count a.low a.high a.n l.last l.j child-key2.result
     (omega (arith, c.before.before.before.loop-test.true)) child-key2.ensures
     c.before.child-follows.ensures l.invariant.2 c.if4.true
 
@@ -84,10 +84,10 @@ returns-5 c =
     let child-key3 = c.before.before.child-key3 in
     let a = c.before.before.before.before.before.before.before.before.before.before.before.before.before.before.args in
     let l = c.before.before.before.before.before.before.before.loop in
-    let on = children-on a.page.now a.count a.low a.high a.n l.last l.j child-key2.result
+    let on = children_on a.page.now a.count a.low a.high a.n l.last l.j child-key2.result
     (omega (arith, loop-test.true)) child-key2.ensures child-follows.ensures l.invariant.2 (l.j + 1) refl
     c.before.before.before.if4.false in
-    children-stop a.page.now a.count a.low a.high a.n child-key2.result (l.j + 1)
+    children_stop a.page.now a.count a.low a.high a.n child-key2.result (l.j + 1)
     child-key3.result (omega (arith, loop-test.true)) child-key3.ensures c.before.child-follows2.ensures
     on c.if5.true
 
@@ -105,12 +105,12 @@ loop-again c =
     let child-key3 = c.before.before.child-key3 in
     let a = c.before.before.before.before.before.before.before.before.before.before.before.before.before.before.args in
     let l = c.before.before.before.before.before.before.before.loop in
-    let on = children-on a.page.now a.count a.low a.high a.n l.last l.j child-key2.result
+    let on = children_on a.page.now a.count a.low a.high a.n l.last l.j child-key2.result
     (omega (arith, loop-test.true)) child-key2.ensures child-follows.ensures l.invariant.2 (l.j + 1) refl
     c.before.before.before.if4.false in (
       omega arith,
       omega arith,
-      children-on a.page.now a.count a.low a.high a.n child-key2.result (l.j + 1)
+      children_on a.page.now a.count a.low a.high a.n child-key2.result (l.j + 1)
           child-key3.result (omega (arith, loop-test.true)) child-key3.ensures
           c.before.child-follows2.ensures on (l.j + 2) (omega arith) c.if5.false,
     )
@@ -133,7 +133,7 @@ returns-7 c =
     let child-key4 = c.before.before.child-key4 in
     let a = c.before.before.before.before.before.before.before.before.before.before.before.before.args in
     let l = c.before.before.before.before.before.loop in
-    children-stop a.page.now a.count a.low a.high a.n l.last l.j child-key4.result
+    children_stop a.page.now a.count a.low a.high a.n l.last l.j child-key4.result
     (omega arith) child-key4.ensures c.before.child-follows3.ensures l.invariant.2 c.if7.true
 
 returns-8 : tie.Need-returns-8 invariant-loop decreases-loop
@@ -142,7 +142,7 @@ returns-8 c =
     let a = c.before.before.before.before.before.before.before.before.before.before.before.before.args in
     let l = c.before.before.before.before.before.loop in
     children-end a.page.now a.count a.low a.high a.n child-key4.result (l.j + 1) (omega arith)
-    (children-on a.page.now a.count a.low a.high a.n l.last l.j child-key4.result (omega arith) child-key4.ensures c.before.child-follows3.ensures l.invariant.2 (l.j + 1) refl c.if7.false)
+    (children_on a.page.now a.count a.low a.high a.n l.last l.j child-key4.result (omega arith) child-key4.ensures c.before.child-follows3.ensures l.invariant.2 (l.j + 1) refl c.if7.false)
 
 pub children-pass-spec : {M : Type 1} → statement M
 children-pass-spec =

@@ -2,8 +2,8 @@
 -- Assumes nothing.
 use Rattle.std.proofs.Common.{sym, ◌∙◌, arith, rules}
 use borrow.Author.Tests.{lt-leb, not-true, not-false}
-use Rattle.sound.proofs.ByKind.{inner_room}
-use Rattle.sound.proofs.Mending.{covers-fails, covers-last, starts-leaf, starts-inner}
+use Rattle.sound.proofs.ByKind.{inner_room_lem}
+use Rattle.sound.proofs.Mending.{covers_fails, covers-last, starts-leaf, starts-inner}
 use Rattle.sound.proofs.covers.Statement.{statement}
 use Rattle.sound.proofs.covers.Tie as tie
 
@@ -18,7 +18,7 @@ returns c =
     let read_head = c.before.before.read_head in
     let kind-asked = c.before.kind-asked in
     let a = c.before.before.before.before.args in
-    covers-fails a.n a.e a.page.now read_head.result read_head.ensures 1
+    covers_fails a.n a.e a.page.now read_head.result read_head.ensures 1
     (sym kind-asked.ensures ∙ not-true kind-asked.result c.if1.true)
 
 returns-2 : tie.Need-returns-2
@@ -26,14 +26,14 @@ returns-2 c =
     let read_head = c.before.before.before.before.before.read_head in
     let a = c.before.before.before.before.before.before.before.args in
     let h = read_head.result in
-    covers-fails a.n a.e a.page.now h read_head.ensures 2 (lt-leb h.low a.e.low c.if2.true)
+    covers_fails a.n a.e a.page.now h read_head.ensures 2 (lt-leb h.low a.e.low c.if2.true)
 
 returns-3 : tie.Need-returns-3
 returns-3 c =
     let read_head = c.before.before.before.before.before.before.before.before.read_head in
     let a = c.before.before.before.before.before.before.before.before.before.before.args in
     let h = read_head.result in
-    covers-fails a.n a.e a.page.now h read_head.ensures 3 (lt-leb a.e.high h.high c.if3.true)
+    covers_fails a.n a.e a.page.now h read_head.ensures 3 (lt-leb a.e.high h.high c.if3.true)
 
 sound-requires : tie.Need-sound-requires
 sound-requires c κs = search rules
@@ -43,7 +43,7 @@ returns-4 c =
     let read_head = c.before.before.before.before.before.before.before.before.before.before.read_head in
     let sound = c.before.sound in
     let a = c.before.before.before.before.before.before.before.before.before.before.before.before.args in
-    covers-fails a.n a.e a.page.now read_head.result read_head.ensures 0
+    covers_fails a.n a.e a.page.now read_head.result read_head.ensures 0
     (sym sound.ensures ∙ not-true sound.result c.if4.true)
 
 returns-5 : tie.Need-returns-5
@@ -71,7 +71,7 @@ has-key-requires c κs =
     let sound = c.before.before.before.before.sound in
     let a = c.before.before.before.before.before.before.before.before.before.before.before.before.before.before.before.args in
     omega
-    (arith, inner_room a.n a.page.now read_head.result read_head.ensures c.before.if5.false (sym sound.ensures ∙ not-false sound.result c.before.before.before.if4.false), pre)
+    (arith, inner_room_lem a.n a.page.now read_head.result read_head.ensures c.before.if5.false (sym sound.ensures ∙ not-false sound.result c.before.before.before.if4.false), pre)
 
 returns-6 : tie.Need-returns-6
 returns-6 c =

@@ -1,13 +1,13 @@
 -- `sound::has_key`: before each turn the answer is whether the key is among the entries left.
 -- Assumes nothing.
 use Rattle.std.proofs.Common.{◌≡◌, ◌-◌, ◌≤◌, arith, rules}
-use Rattle.head.specs.Head.{childAt}
-use Rattle.sound.proofs.Mending.{sought, soughtFrom, seek, seek_found, seek-on, seek-end}
+use Rattle.head.specs.Head.{child_at}
+use Rattle.sound.proofs.Mending.{sought, sought_from, seek, seek_found, seek_on, seek-end}
 use Rattle.sound.proofs.has_key.Statement.{statement}
 use Rattle.sound.proofs.has_key.Tie as tie
 
 abbrev invariant-loop : tie.invariant-loop
-invariant-loop page count key j₀ j = (j ≤ count) × (sought page count key ≡ soughtFrom page count key j)
+invariant-loop page count key j₀ j = (j ≤ count) × (sought page count key ≡ sought_from page count key j)
 
 abbrev decreases-loop : tie.decreases-loop
 decreases-loop page count key j₀ j = count - j
@@ -19,7 +19,7 @@ child-key-requires : tie.Need-child-key-requires invariant-loop decreases-loop
 child-key-requires c κs = search rules
 
 returns : tie.Need-returns invariant-loop decreases-loop
-unfolding childAt
+unfolding child_at
 returns c =
     let args = c.before.before.before.before.before.args in
     let loop = c.before.before.before.loop in
@@ -33,12 +33,12 @@ loop-less : tie.Need-loop-smaller invariant-loop decreases-loop
 loop-less c = search rules
 
 loop-again : tie.Need-loop-preserved invariant-loop decreases-loop
-unfolding childAt
+unfolding child_at
 loop-again c =
     let args = c.before.before.before.before.before.args in
     let loop = c.before.before.before.loop in (
       omega arith,
-      seek-on args.page.now args.count args.key loop.j c.before.before.loop-test.true
+      seek_on args.page.now args.count args.key loop.j c.before.before.loop-test.true
           c.before.child-key.ensures loop.invariant.1 c.if1.false,
     )
 

@@ -3,7 +3,7 @@
 use Rattle.std.proofs.Common.{sym, ◌∙◌, arith, rules}
 use native.Mathlib.Nat.{add-sub_cancel_left}
 use borrow.Author.Tests.{not-false}
-use Rattle.rules.specs.Table.{pageAt, read}
+use Rattle.rules.specs.Table.{page_at, read}
 use Rattle.sound.proofs.Mending.{names-none, names-some, names-within}
 use Rattle.sound.proofs.mendable_at.Statement.{statement}
 use Rattle.sound.proofs.mendable_at.Tie as tie
@@ -44,7 +44,7 @@ covers-requires : tie.Need-covers-requires
 covers-requires c κs = search rules
 
 returns-2 : tie.Need-returns-2
-unfolding read pageAt
+unfolding read page_at
 returns-2 c =
     let args = c.before.before.before.before.before.before.args in
     let names-previous = c.before.before.before.before.names-previous in

@@ -1,7 +1,7 @@
 -- `sound::names_pages`: the child by one comparison, then its previous.
 -- Assumes nothing.
-use Rattle.head.specs.Head.{childAt}
-use Rattle.sound.proofs.Children.{names-outside, names-by-previous}
+use Rattle.head.specs.Head.{child_at}
+use Rattle.sound.proofs.Children.{names_outside, names_by_previous}
 use Rattle.std.proofs.Common.{rules}
 use Rattle.sound.proofs.names_pages.Statement.{statement}
 use Rattle.sound.proofs.names_pages.Tie as tie
@@ -23,7 +23,7 @@ returns c =
     let wrapping-sub-usize = c.before.before.wrapping-sub-usize in
     let wrapping-sub-usize2 = c.before.wrapping-sub-usize2 in
     let a = c.before.before.before.before.before.args in
-    names-outside a.n (childAt a.page.now a.j) c.before.before.before.child-number.ensures
+    names_outside a.n (child_at a.page.now a.j) c.before.before.before.child-number.ensures
     wrapping-sub-usize.ensures wrapping-sub-usize2.ensures wrapping-sub-usize.type-inv wrapping-sub-usize2.type-inv
     c.if1.true
 
@@ -39,7 +39,7 @@ returns-2 c =
     let wrapping-sub-usize = c.before.before.before.wrapping-sub-usize in
     let wrapping-sub-usize2 = c.before.before.wrapping-sub-usize2 in
     let a = c.before.before.before.before.before.before.args in
-    names-by-previous a.n (childAt a.page.now a.j) child-number.ensures wrapping-sub-usize.ensures
+    names_by_previous a.n (child_at a.page.now a.j) child-number.ensures wrapping-sub-usize.ensures
     wrapping-sub-usize2.ensures wrapping-sub-usize.type-inv wrapping-sub-usize2.type-inv c.child-previous.ensures
     c.before.if1.false
 

@@ -1,6 +1,6 @@
 -- `sound::names_previous`: the number's range first, then that it is not the child's.
 -- Assumes nothing.
-use Rattle.sound.proofs.Mending.{names-zero, names-beyond, names-other}
+use Rattle.sound.proofs.Mending.{names-zero, names_beyond, names-other}
 use Rattle.std.proofs.Common.{rules}
 use Rattle.sound.proofs.names_previous.Statement.{statement}
 use Rattle.sound.proofs.names_previous.Tie as tie
@@ -14,7 +14,7 @@ cast-if2 c = search rules
 returns-2 : tie.Need-returns-2
 returns-2 c =
     let args = c.before.before.before.before.args in
-    names-beyond args.n args.e c.before.before.if1.false c.if2.true
+    names_beyond args.n args.e c.before.before.if1.false c.if2.true
 
 returns-3 : tie.Need-returns-3
 returns-3 c =

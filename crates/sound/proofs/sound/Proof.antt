@@ -1,6 +1,6 @@
 -- `sound::sound`: the header's tests first; of the entries only what the kind asks.
 -- Assumes nothing.
-use Rattle.sound.proofs.ByKind.{range-fails, leaf-overfull, leaf_last, kind-zero, kind-beyond, inner-overfull, inner_last}
+use Rattle.sound.proofs.ByKind.{range_fails, leaf_overfull, leaf_last, kind-zero, kind_beyond, inner_overfull, inner_last}
 use Rattle.std.proofs.Common.{rules}
 use Rattle.sound.proofs.sound.Statement.{statement}
 use Rattle.sound.proofs.sound.Tie as tie
@@ -12,13 +12,13 @@ returns : tie.Need-returns
 returns c =
     let args = c.before.before.before.before.args in
     let read_head = c.before.before.read_head in
-    range-fails args.n args.page.now read_head.result read_head.ensures c.if1.true
+    range_fails args.n args.page.now read_head.result read_head.ensures c.if1.true
 
 returns-2 : tie.Need-returns-2
 returns-2 c =
     let args = c.before.before.before.before.before.before.before.before.args in
     let read_head = c.before.before.before.before.before.before.read_head in
-    leaf-overfull args.n args.page.now read_head.result read_head.ensures c.before.before.if2.true
+    leaf_overfull args.n args.page.now read_head.result read_head.ensures c.before.before.if2.true
     c.if3.true
 
 cast-certs-pass : tie.Need-overflow-cast-certs-pass
@@ -48,14 +48,14 @@ returns-5 c =
     let args = c.before.before.before.before.before.before.before.before.before.before.args in
     let read_head = c.before.before.before.before.before.before.before.before.read_head in
     let if2 = c.before.before.before.before.if2 in
-    kind-beyond args.n args.page.now read_head.result read_head.ensures if2.false c.if5.true
+    kind_beyond args.n args.page.now read_head.result read_head.ensures if2.false c.if5.true
 
 returns-6 : tie.Need-returns-6
 returns-6 c =
     let args = c.before.before.before.before.before.before.before.before.before.before.before.before.args in
     let read_head = c.before.before.before.before.before.before.before.before.before.before.read_head in
     let if2 = c.before.before.before.before.before.before.if2 in
-    inner-overfull args.n args.page.now read_head.result read_head.ensures if2.false c.if6.true
+    inner_overfull args.n args.page.now read_head.result read_head.ensures if2.false c.if6.true
 
 cast-children-pass : tie.Need-overflow-cast-children-pass
 cast-children-pass c = search rules

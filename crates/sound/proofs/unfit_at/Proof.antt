@@ -1,9 +1,9 @@
 -- `sound::unfit_at`: the part lent is the page; beyond the table nothing is sound.
 -- Assumes nothing.
 use native.Mathlib.Nat.{add-sub_cancel_left}
-use Rattle.rules.specs.Table.{pageAt, read}
-use Rattle.rules.specs.Report.{reasonAt}
-use Rattle.sound.proofs.Fitting.{unfit-beyond}
+use Rattle.rules.specs.Table.{page_at, read}
+use Rattle.rules.specs.Report.{reason_at}
+use Rattle.sound.proofs.Fitting.{unfit_beyond}
 use Rattle.std.proofs.Common.{rules}
 use Rattle.sound.proofs.unfit_at.Statement.{statement}
 use Rattle.sound.proofs.unfit_at.Tie as tie
@@ -12,8 +12,8 @@ cast-child : tie.Need-overflow-cast-child
 cast-child c = search rules
 
 returns : tie.Need-returns
-unfolding reasonAt
-returns c = unfit-beyond c.before.before.before.args.n c.before.before.before.args.e.child c.before.before.before.args.table.now c.before.before.before.args.e c.before.before.before.requires c.if1.true
+unfolding reason_at
+returns c = unfit_beyond c.before.before.before.args.n c.before.before.before.args.e.child c.before.before.before.args.table.now c.before.before.before.args.e c.before.before.before.requires c.if1.true
 
 mul-from : tie.Need-overflow-mul-from
 mul-from c = search rules
@@ -34,7 +34,7 @@ unfit-requires : tie.Need-unfit-requires
 unfit-requires c κs = search rules
 
 returns-2 : tie.Need-returns-2
-unfolding reasonAt read pageAt
+unfolding reason_at read page_at
 returns-2 c = rw (c.unfit.ensures, add-sub_cancel_left)
 
 pub unfit-at-spec : {M : Type 1} → statement M

@@ -1,6 +1,6 @@
 -- `split::frees`: where the halves inherit, the split page's birth decides. Assumes nothing.
 use mathlib.Core.Path.{sym, ◌∙◌}
-use Rattle.split.proofs.ByHead.{frees-heir, frees-none}
+use Rattle.split.proofs.ByHead.{frees_heir, frees-none}
 use borrow.Author.Rules.{rules}
 use Rattle.split.proofs.frees.Statement.{statement}
 use Rattle.split.proofs.frees.Tie as tie
@@ -11,7 +11,7 @@ heirs-requires c κs = search rules
 returns : tie.Need-returns
 returns c =
     let args = c.before.before.before.args in
-    frees-heir args.c args.head (sym c.before.before.heirs.ensures ∙ c.before.if1.true)
+    frees_heir args.c args.head (sym c.before.before.heirs.ensures ∙ c.before.if1.true)
 
 returns-2 : tie.Need-returns-2
 returns-2 c =

@@ -11,7 +11,7 @@ add-build-root c = search rules
 build-root-requires : tie.Need-build-root-requires
 build-root-requires c κs =
     let pre = c.before.before.before.requires in
-    (search rules, omega (arith, pre.kind-from))
+    (search rules, omega (arith, pre.kind_from))
 
 root-previous-requires : tie.Need-root-previous-requires
 root-previous-requires c κs = search rules
@@ -27,11 +27,11 @@ returns c =
     let args = c.before.before.before.before.before.before.before.before.before.before.before.args in
     let pre = c.before.before.before.before.before.before.before.before.before.before.before.requires in
     let build-root = c.before.before.before.before.before.before.before.build-root in
-    let root-previous = c.before.before.before.root-previous in
+    let root_previous_lem = c.before.before.before.root-previous in
     let set-root = c.before.before.set-root in
-    λ s. grown args.c args.table.now args.e args.head args.new root-previous.result s
+    λ s. grown args.c args.table.now args.e args.head args.new root_previous_lem.result s
     build-root.new.0 set-root.new.0 pre.head build-root.ensures
-    root-previous.ensures set-root.ensures
+    root_previous_lem.ensures set-root.ensures
 
 pub grow_spec : {M : Type 1} → statement M
 grow_spec =

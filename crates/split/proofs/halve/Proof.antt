@@ -20,7 +20,7 @@ build-upper-requires c κs =
     let args = c.before.before.before.before.before.before.before.before.before.args in
     let pre = c.before.before.before.before.before.before.before.before.before.requires in
     let build-lower = c.before.before.before.build-lower in (
-      (omega (arith, pre.upper_in, build-lower.auto.0), omega (arith, pre.child-in, build-lower.auto.0)),
+      (omega (arith, pre.upper_in, build-lower.auto.0), omega (arith, pre.child_in_lem, build-lower.auto.0)),
       divides-still pre args.c build-lower.new.0 build-lower.ensures,
     )
 
@@ -34,7 +34,7 @@ put-twins-requires c κs =
     let middle-at = c.before.before.before.before.before.before.before.before.before.before.middle-at in
     let build-lower = c.before.before.before.before.before.before.before.before.build-lower in
     let build-upper = c.before.before.before.before.build-upper in (
-      omega (arith, pre.above_in, build-lower.auto.0, build-upper.auto.0),
+      omega (arith, pre.above_in_lem, build-lower.auto.0, build-upper.auto.0),
       takes-still pre args.c build-lower.new.0 build-lower.ensures (omega (arith, build-lower.auto.0))
           build-upper.new.0 build-upper.ensures middle-at.result middle-at.ensures,
     )

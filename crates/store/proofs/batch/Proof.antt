@@ -44,7 +44,7 @@ use Rattle.rules.proofs.Session.TheLaws as S'
 use Rattle.rules.specs.contracts.Item as I
 use Rattle.rules.specs.contracts.Batching as B
 use Rattle.batch.specs.Turns.{leaving}
-use Rattle.batch.proofs.Values.{sessionVal, session-typed, made-typed}
+use Rattle.batch.proofs.Values.{session_val, session_typed, made_typed}
 use Rattle.batch.specs.contracts.batch as below
 use Rattle.batch.proofs.batch.Symbol as below-def
 use Rattle.batch.proofs.batch.Symbol.{name as #batch·batch}
@@ -65,7 +65,7 @@ module _ {M : Type 1} {𝓤 : Ura M} (𝓛 : Logic 𝓤) (mem : Memory → SProp
 module _ {M : Type 1} {𝓤 : Ura M} (𝓛 : Logic 𝓤) (mem : Memory → SProp 𝓤) (run : Routine → Fun 𝓤)
     (κ₀ κ₁ κ₂ : Lft) (q₀ q₁ q₂ : Share) (x₀ x₁ : Bor (List ℕ)) (s : Session) (x₂ : Bor (List Item))
     (room₀ : Room u8 (length x₀.now)) (room₁ : Room u8 (length x₁.now)) (room₂ : Room I.the_row (length x₂.now))
-    (s-is : Is S.the_row s (sessionVal s ∷ [])) where
+    (s-is : Is S.the_row s (session_val s ∷ [])) where
   open 𝓛 use {H}
 
   abbrev v₀ : Val
@@ -90,7 +90,7 @@ module _ {M : Type 1} {𝓤 : Ura M} (𝓛 : Logic 𝓤) (mem : Memory → SProp
   a = (x₀, (x₁, (s, (x₂, tt))))
 
   abbrev vals : List Val × (List Val × (List Val × (List Val × Unit {0})))
-  vals = (v₀ ∷ [], (v₁ ∷ [], (sessionVal s ∷ [], (v₂ ∷ [], tt))))
+  vals = (v₀ ∷ [], (v₁ ∷ [], (session_val s ∷ [], (v₂ ∷ [], tt))))
 
   abbrev bound : (walk_of 𝓛 batch.ended stayed (batch.clauses 𝓛 mem run)).Ghost
   bound = ((κs, (q₀, (q₁, (q₂, tt))), tt, a, vals), tt)
@@ -123,11 +123,11 @@ module _ {M : Type 1} {𝓤 : Ura M} (𝓛 : Logic 𝓤) (mem : Memory → SProp
       says ! e $ frame ! $ nothing ! $ move ! (3 ∷ 0 ∷ []) $ fjoin ! $ nothing ! $ fjoin ! $ nothing ! $ fjoin ! $ move ! (2 ∷ 0 ∷ []) $ fjoin ! $ done !
 
   module _ (𝓣 : Tables 𝓤 H) (known : Triple 𝓤 (𝓣.C #batch·batch) (Below 𝓛 mem run)) where
-    walk : ent 𝓤 (on_entry 𝓛 batch.signature κs (q₀, (q₁, (q₂, tt))) a vals) (WpFn 𝓤 H 𝓣.C 𝓣.Λ code.function (v₀ ∷ v₁ ∷ sessionVal s ∷ v₂ ∷ []) Post)
+    walk : ent 𝓤 (on_entry 𝓛 batch.signature κs (q₀, (q₁, (q₂, tt))) a vals) (WpFn 𝓤 H 𝓣.C 𝓣.Λ code.function (v₀ ∷ v₁ ∷ session_val s ∷ v₂ ∷ []) Post)
     walk =
-        qed 𝓛 (Tokens ∷ ‵ Params ∷ []) ∵ enter ! 𝓣.C 𝓣.Λ code.function (v₀ ∷ v₁ ∷ sessionVal s ∷ v₂ ∷ []) _ $
+        qed 𝓛 (Tokens ∷ ‵ Params ∷ []) ∵ enter ! 𝓣.C 𝓣.Λ code.function (v₀ ∷ v₁ ∷ session_val s ∷ v₂ ∷ []) _ $
         alloc1 ! (λ l₀. alloc1 ! (λ l₁. alloc1 ! (λ l₂. alloc1 ! (λ l₃. alloc1 ! (λ l₄. alloc1 ! (λ l₅. alloc1 ! (λ l₆. alloc1 ! (λ l₇. alloc1 ! (λ l₈. alloc0 ! $ params1 ! $
-        pass1 ! (init ! 14 refl (tt, (tt, (record { fits = room₀.0 }, tt)))) $ pass1 ! (init ! 12 refl (tt, (tt, (record { fits = room₁.0 }, tt)))) $ pass1 ! (init ! 10 refl (session-typed 𝓛 s _ s-is)) $ pass1 ! (init ! 8 refl (tt, (tt, (record { fits = room₂.0 }, tt)))) $ pass0 ! $
+        pass1 ! (init ! 14 refl (tt, (tt, (record { fits = room₀.0 }, tt)))) $ pass1 ! (init ! 12 refl (tt, (tt, (record { fits = room₁.0 }, tt)))) $ pass1 ! (init ! 10 refl (session_typed 𝓛 s _ s-is)) $ pass1 ! (init ! 8 refl (tt, (tt, (record { fits = room₂.0 }, tt)))) $ pass0 ! $
         -- both lent slices under new names
         assigns ! (addr ! (from ! (fld ! refl (hop ! (look_in ! 14 (sub ! 0 refl (whole !))) (stop !))))) (from ! (stop !)) (init ! 6 refl (tt, tt)) $
         assigns ! (agg ! (and_then ! (load ! (from ! (stop !)) (look ! 6 refl)) (and_then ! (load ! (from ! (fld ! refl (stop !))) (look_in ! 14 (sub ! 1 refl (whole !)))) (no_more !)))) (from ! (stop !)) (init ! 4 refl (tt, (tt, (record { fits = room₀.0 }, tt)))) $
@@ -144,7 +144,7 @@ module _ {M : Type 1} {𝓤 : Ura M} (𝓛 : Logic 𝓤) (mem : Memory → SProp
         fsplit ! $ fsplit ! $ move ! (1 ∷ []) $ feq_l ! (λ k₀. move ! (1 ∷ []) $ fsplit ! $ drop ! $ fsplit ! $ drop ! $ fsplit ! $ fsplit ! $ move ! (1 ∷ []) $ feq_l ! (λ k₂.
         move ! (3 ∷ []) $ split ! $ move ! (1 ∷ []) $ peeks ! B.the_row (Is B.the_row) (shows 𝓛 B.the_row) r (v ∷ []) (λ is.
         -- [the result; tokens; items' last; nothing; working's last; the locals]
-        land ! (from ! (stop !)) (init ! 21 refl (made-typed 𝓛 r v is)) $
+        land ! (from ! (stop !)) (init ! 21 refl (made_typed 𝓛 r v is)) $
         returns ! (look ! 21 refl) $ forget ! 5 refl $ forget ! 7 refl $ forget ! 9 refl $ forget ! 11 refl $ forget ! 13 refl $ forget ! 15 refl $ forget ! 17 refl $ forget ! 19 refl $ forget ! 21 refl $
         move ! (21 ∷ 22 ∷ []) $ free1 ! $ move ! (19 ∷ 20 ∷ []) $ free1 ! $ move ! (17 ∷ 18 ∷ []) $ free1 ! $ move ! (15 ∷ 16 ∷ []) $ free1 ! $ move ! (13 ∷ 14 ∷ []) $ free1 ! $ move ! (11 ∷ 12 ∷ []) $ free1 ! $ move ! (9 ∷ 10 ∷ []) $ free1 ! $ move ! (7 ∷ 8 ∷ []) $ free1 ! $ move ! (5 ∷ 6 ∷ []) $ free1 ! $ free0 ! $
         keep ! (1 ∷ 0 ∷ 4 ∷ 2 ∷ []) $ by ! (exits v r ls.0 ls.1.1.1.0 e k₀ k₂)))))))))))))))))

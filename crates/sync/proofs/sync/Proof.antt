@@ -3,8 +3,8 @@
 use mathlib.Core.Path.{◌≡◌, refl, sym, ◌∙◌}
 use mathlib.Core.Bool.{true}
 use borrow.Author.Tests.{not-true, not-false}
-use Rattle.rules.specs.Table.{setNumber}
-use Rattle.rules.specs.Call.{lengthsFor}
+use Rattle.rules.specs.Table.{set_number}
+use Rattle.rules.specs.Call.{lengths_for}
 use Rattle.sync.proofs.Ways.{refused, spent, done, same, long}
 use native.Mathlib.Omega.{arith}
 use borrow.Author.Rules.{rules}
@@ -12,7 +12,7 @@ use Rattle.sync.proofs.sync.Statement.{statement}
 use Rattle.sync.proofs.sync.Tie as tie
 
 -- past the first test the lengths are good
-passed : (c : tie.Else1) → lengthsFor c.before.before.before.before.before.before.args.session c.before.before.before.before.before.before.args.working.now c.before.before.before.before.before.before.args.stable.now ≡ true
+passed : (c : tie.Else1) → lengths_for c.before.before.before.before.before.before.args.session c.before.before.before.before.before.before.args.working.now c.before.before.before.before.before.before.args.stable.now ≡ true
 passed c =
     sym (c.before.lengths-for.ensures c.before.before.before.before.before.before.args.session refl)
     ∙ not-false c.before.lengths-for.result c.if1.false
@@ -28,9 +28,9 @@ same-length-2 c = search rules
 
 returns : tie.Need-returns
 returns c =
-    let lengths-for = c.before.lengths-for in
+    let lengths_for_lem = c.before.lengths-for in
     let a = c.before.before.before.before.before.before.args in
-    let failed = sym (lengths-for.ensures a.session refl) ∙ not-true lengths-for.result c.if1.true in
+    let failed = sym (lengths_for_lem.ensures a.session refl) ∙ not-true lengths_for_lem.result c.if1.true in
     refused a.working.now a.stable.now a.session failed
 
 same-length-3 : tie.Need-same-length-3
@@ -69,7 +69,7 @@ same-length-6 : tie.Need-same-length-6
 same-length-6 c = search rules
 
 returns-3 : tie.Need-returns-3
-unfolding setNumber
+unfolding set_number
 returns-3 c =
     let if2 = c.before.before.before.before.before.before.before.before.before.before.if2 in
     let put32 = c.before.before.before.before.before.before.before.before.put32 in

@@ -1,7 +1,7 @@
 -- `tables::clear`: the loop's invariant says that the first i bytes are zero.
 -- Assumes nothing.
 use lib.ListN.{length, set}
-use Rattle.tables.proofs.Front.{front, zeros, length-zeros, zeros-more, length_front, front-all}
+use Rattle.tables.proofs.Front.{front, zeros, length_zeros, zeros_more, length_front, front_all}
 use mathlib.Core.List.{List}
 use mathlib.Core.Path.{◌≡◌, refl, ap, ◌∙◌}
 use Prim.Native.Nat.{ℕ, ◌≤◌, ◌-◌}
@@ -23,7 +23,7 @@ slice-write-table : tie.Need-slice-write-table invariant-loop decreases-loop
 slice-write-table c =
     let loop = c.before.loop in
     let t = c.before.before.args.table.now in
-    let l = length_front t (zeros t) (length-zeros t) loop.i (rw length-zeros loop.invariant.0) in
+    let l = length_front t (zeros t) (length_zeros t) loop.i (rw length_zeros loop.invariant.0) in
     omega (arith, ap length loop.invariant.1, l)
 
 add-i : tie.Need-overflow-add-i invariant-loop decreases-loop
@@ -37,20 +37,20 @@ loop-again c =
     let loop = c.before.loop in
     let t = c.before.before.args.table.now in (
       search rules,
-      ap (λ (l : List ℕ). set l loop.i 0) loop.invariant.1 ∙ zeros-more t loop.i c.loop-test.true,
+      ap (λ (l : List ℕ). set l loop.i 0) loop.invariant.1 ∙ zeros_more t loop.i c.loop-test.true,
     )
 
 same_length : tie.Need-same-length invariant-loop decreases-loop
 same_length c =
     let t = c.before.before.args.table.now in
     ap length c.before.loop.invariant.1
-    ∙ length_front t (zeros t) (length-zeros t) c.before.loop.i (rw length-zeros c.before.loop.invariant.0)
+    ∙ length_front t (zeros t) (length_zeros t) c.before.loop.i (rw length_zeros c.before.loop.invariant.0)
 
 returns : tie.Need-returns invariant-loop decreases-loop
 returns c =
     let loop = c.before.loop in
     let t = c.before.before.args.table.now in
-    loop.invariant.1 ∙ front-all t (zeros t) (length-zeros t) loop.i (rw length-zeros c.loop-test.false)
+    loop.invariant.1 ∙ front_all t (zeros t) (length_zeros t) loop.i (rw length_zeros c.loop-test.false)
 
 pub clear_spec : {M : Type 1} → statement M
 clear_spec =

@@ -4,7 +4,7 @@ use mathlib.Core.Path.{◌≡◌, refl, ap, ◌∙◌}
 use mathlib.Core.List.{List}
 use Prim.Native.Nat.{ℕ, ◌≤◌, ◌-◌}
 use lib.ListN.{length, set, get_or}
-use Rattle.tables.proofs.Front.{front, front-more, length_front, front-all}
+use Rattle.tables.proofs.Front.{front, front_more, length_front, front_all}
 use native.Mathlib.Omega.{arith}
 use borrow.Author.Rules.{rules}
 use Rattle.tables.proofs.copy.Statement.{statement}
@@ -42,7 +42,7 @@ loop-again c =
     let loop = c.before.before.loop in (
       search rules,
       ap (λ (l : List ℕ). set l loop.i (get_or args.from.now loop.i 0)) loop.invariant.1
-          ∙ front-more args.to.now args.from.now c.before.before.before.requires loop.i
+          ∙ front_more args.to.now args.from.now c.before.before.before.requires loop.i
           c.before.loop-test.true,
     )
 
@@ -57,7 +57,7 @@ returns : tie.Need-returns invariant-loop decreases-loop
 returns c =
     let args = c.before.before.args in
     let loop = c.before.loop in
-    loop.invariant.1 ∙ front-all args.to.now args.from.now c.before.before.requires loop.i c.loop-test.false
+    loop.invariant.1 ∙ front_all args.to.now args.from.now c.before.before.requires loop.i c.loop-test.false
 
 pub copy_spec : {M : Type 1} → statement M
 copy_spec =

@@ -5,25 +5,25 @@ use lib.ListN.{length}
 use Prim.Native.Nat.{◌%◌}
 use borrow.Author.Tests.{eq-eqb, ne_eqb}
 use Rattle.rules.specs.Test.{between, every}
-use Rattle.rules.specs.Table.{pages, goodLengths}
+use Rattle.rules.specs.Table.{pages, good_lengths}
 use Rattle.tables.proofs.good_lengths.Statement.{statement}
 use Rattle.tables.proofs.good_lengths.Tie as tie
 
 returns : tie.Need-returns
-unfolding goodLengths every
+unfolding good_lengths every
 returns c =
     let args = c.before.args in
     rw (ne_eqb (length args.working.now) (length args.stable.now) c.if1.true)
 
 returns-2 : tie.Need-returns-2
-unfolding goodLengths every
+unfolding good_lengths every
 returns-2 c =
     let args = c.before.before.args in
     rw
     (eq-eqb (length args.working.now) (length args.stable.now) c.before.if1.false, ne_eqb (length args.working.now % 512) 0 c.if2.true)
 
 returns-3 : tie.Need-returns-3
-unfolding goodLengths every between pages
+unfolding good_lengths every between pages
 returns-3 c =
     let args = c.before.before.args in
     rw

@@ -5,9 +5,9 @@ use mathlib.Core.Path.{sym, ap, ◌∙◌}
 use Rattle.rules.specs.Report.{nothing}
 use Rattle.way.specs.Ways.{ended}
 use Rattle.way.specs.declared.End.{End}
-use Rattle.rules.proofs.bytes.PageZero.{has-zero}
+use Rattle.rules.proofs.Bytes.PageZero.{has-zero}
 use Rattle.way.proofs.Descent.{head-here, holds, leads}
-use Rattle.way.proofs.Ending.{Seeking, begins, runs-out, damaged, ends, goes_on}
+use Rattle.way.proofs.Ending.{Seeking, begins, runs_out, damaged, ends, goes_on}
 use borrow.Author.Rules.{rules}
 use native.Mathlib.Omega.{arith}
 use Rattle.way.proofs.leaf_of.Statement.{statement}
@@ -40,12 +40,12 @@ loop-holds c =
 look-ahead-requires : tie.Need-look-ahead-requires invariant-loop decreases-loop
 look-ahead-requires c κs =
     let loop = c.before.before.loop in
-    omega (arith, loop.invariant.descent.ready.long, loop.invariant.descent.ready.child-below)
+    omega (arith, loop.invariant.descent.ready.long, loop.invariant.descent.ready.child_below)
 
 enter-requires : tie.Need-enter-requires invariant-loop decreases-loop
 enter-requires c κs =
     let loop = c.before.before.before.before.loop in
-    (loop.invariant.descent.ready.long, loop.invariant.descent.ready.child-below)
+    (loop.invariant.descent.ready.long, loop.invariant.descent.ready.child_below)
 
 enum-known-page : tie.Need-enum-known-page invariant-loop decreases-loop
 enum-known-page c = search rules
@@ -91,7 +91,7 @@ spot-at-requires c κs =
     let enter = c.before.before.before.before.before.before.before.before.before.enter in
     let page = c.before.before.before.before.before.page in
     let f = ap (entering enter.new.0) (sym page.given.1) ∙ enter.ensures in (
-      omega (arith, enter.auto.0, loop.invariant.descent.ready.long, loop.invariant.descent.ready.child-below),
+      omega (arith, enter.auto.0, loop.invariant.descent.ready.long, loop.invariant.descent.ready.child_below),
       head-here loop.invariant.descent loop-test.true loop.above loop.invariant.above enter.new.0
           page.given.0.0 page.given.0.1.0 f,
       holds loop.invariant.descent loop-test.true loop.above loop.invariant.above enter.new.0
@@ -124,7 +124,7 @@ place-below-requires c κs =
     let enter = c.before.before.before.before.before.before.before.before.before.enter in
     let page = c.before.before.before.before.before.page in
     let f = ap (entering enter.new.0) (sym page.given.1) ∙ enter.ensures in (
-      omega (arith, enter.auto.0, loop.invariant.descent.ready.long, loop.invariant.descent.ready.child-below),
+      omega (arith, enter.auto.0, loop.invariant.descent.ready.long, loop.invariant.descent.ready.child_below),
       leads loop.invariant.descent loop-test.true loop.above loop.invariant.above enter.new.0
           page.given.0.0 page.given.0.1.0 f c.before.if1.false,
     )
@@ -162,7 +162,7 @@ same-length-3 c =
 returns-3 : tie.Need-returns-3 invariant-loop decreases-loop
 returns-3 c =
     let loop = c.before.before.loop in
-    ap (λ (r : End). ended loop.t (record { end = r; report = loop.report })) c.no-end2.ensures ∙ runs-out loop.invariant (omega (arith, c.before.loop-test.false))
+    ap (λ (r : End). ended loop.t (record { end = r; report = loop.report })) c.no-end2.ensures ∙ runs_out loop.invariant (omega (arith, c.before.loop-test.false))
 
 pub leaf-of-spec : {M : Type 1} → statement M
 leaf-of-spec =

@@ -1,6 +1,6 @@
 -- `way::look_ahead`: the same on a page of the table.
 -- Assumes nothing.
-use Rattle.entries.proofs.Part.{page-part}
+use Rattle.entries.proofs.Part.{page_part}
 use borrow.Author.Rules.{rules}
 use Rattle.way.proofs.look_ahead.Statement.{statement}
 use Rattle.way.proofs.look_ahead.Tie as tie
@@ -24,7 +24,7 @@ look-in-requires : tie.Need-look-in-requires
 look-in-requires c κs = search rules
 
 returns : tie.Need-returns
-returns c = rw (page-part c.before.before.before.args.table.now c.before.before.before.args.i) at c.look_in.ensures
+returns c = rw (page_part c.before.before.before.args.table.now c.before.before.before.args.i) at c.look_in.ensures
 
 pub look-ahead-spec : {M : Type 1} → statement M
 look-ahead-spec =

@@ -1,11 +1,11 @@
 -- `way::place_below`: the same on a page of the table.
 -- Assumes nothing.
 use mathlib.Core.Path.{ap, ◌∙◌}
-use Rattle.rules.specs.Page.{pageIn}
+use Rattle.rules.specs.Page.{page_in}
 use Rattle.rules.specs.Place.{pick}
-use Rattle.rules.specs.Table.{pageAt, read}
-use Rattle.rules.proofs.bytes.Tables.{length-pageAt}
-use Rattle.entries.proofs.Part.{page-part}
+use Rattle.rules.specs.Table.{page_at, read}
+use Rattle.rules.proofs.Bytes.Tables.{length-page_at}
+use Rattle.entries.proofs.Part.{page_part}
 use Rattle.way.proofs.Inner.{leads-kind, leads-room, leads-rise, leads-spot, leads-places}
 use native.Mathlib.Omega.{arith}
 use borrow.Author.Rules.{rules}
@@ -31,24 +31,24 @@ cast-place-in : tie.Need-overflow-cast-place-in
 cast-place-in c = search rules
 
 place-in-requires : tie.Need-place-in-requires
-unfolding read pageIn
+unfolding read page_in
 place-in-requires c κs =
     let args = c.before.before.before.args in
     let pre = c.before.before.before.requires in
-    let b = pageAt args.table.now args.i in
-    let l = length-pageAt args.table.now args.i (omega arith) in
+    let b = page_at args.table.now args.i in
+    let l = length-page_at args.table.now args.i (omega arith) in
     let g = pre.1 in
-    rw (page-part args.table.now args.i)
+    rw (page_part args.table.now args.i)
     (leads-kind b args.head args.key g, omega (arith, l, leads-room b args.head args.key g), omega (arith, l), leads-rise b args.head args.key g, g.high, leads-spot b args.head args.key g)
 
 returns : tie.Need-returns
-unfolding read pageIn
+unfolding read page_in
 returns c =
     let args = c.before.before.before.before.args in
     let pre = c.before.before.before.before.requires in
-    let b = pageAt args.table.now args.i in
+    let b = page_at args.table.now args.i in
     ap (pick args.key) (leads-places b args.head args.key pre.1)
-    ∙ rw (page-part args.table.now args.i) at c.IsPlace-in.ensures
+    ∙ rw (page_part args.table.now args.i) at c.IsPlace-in.ensures
 
 pub place-below-spec : {M : Type 1} → statement M
 place-below-spec =

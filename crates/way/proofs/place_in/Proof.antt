@@ -2,7 +2,7 @@
 -- Assumes nothing.
 use Prim.Native.Nat.{◌-◌}
 use Rattle.head.specs.Head.{nowhere}
-use Rattle.way.proofs.Inner.{entry-before, rising-keysIn, pick-in}
+use Rattle.way.proofs.Inner.{entry-before, rising-keys_in, pick_in}
 use native.Mathlib.Omega.{arith}
 use borrow.Author.Rules.{rules}
 use Rattle.way.proofs.place_in.Statement.{statement}
@@ -12,7 +12,7 @@ confirm-requires : tie.Need-confirm-requires
 confirm-requires c κs =
     let args = c.before.args in
     let pre = c.before.requires in
-    (search rules, pre.1, pre.2, rising-keysIn args.page.now args.count pre.3)
+    (search rules, pre.1, pre.2, rising-keys_in args.page.now args.count pre.3)
 
 sub-kid : tie.Need-overflow-sub-kid
 sub-kid c = omega (arith, c.confirm.ensures, c.before.before.requires.5)
@@ -36,7 +36,7 @@ returns c =
     let pre = c.before.before.before.requires in
     let confirm = c.before.confirm in
     let kid = c.kid in
-    pick-in args.page.now args.count (args.kind - 1) args.high args.key confirm.result nowhere
+    pick_in args.page.now args.count (args.kind - 1) args.high args.key confirm.result nowhere
     kid.result pre.3 pre.4 (omega (arith, confirm.ensures, pre.5)) confirm.ensures kid.ensures
 
 pub place-in-spec : {M : Type 1} → statement M

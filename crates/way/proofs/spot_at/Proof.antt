@@ -1,10 +1,10 @@
 -- `way::spot_at`: a guess confirmed among the leaf's keys.
 -- Assumes nothing.
-use Rattle.rules.specs.Page.{pageIn}
-use Rattle.rules.specs.Table.{pageAt, read}
-use Rattle.rules.proofs.bytes.Tables.{length-pageAt}
-use Rattle.entries.proofs.Part.{page-part}
-use Rattle.way.specs.Ways.{spotAt}
+use Rattle.rules.specs.Page.{page_in}
+use Rattle.rules.specs.Table.{page_at, read}
+use Rattle.rules.proofs.Bytes.Tables.{length-page_at}
+use Rattle.entries.proofs.Part.{page_part}
+use Rattle.way.specs.Ways.{spot_at}
 use Rattle.way.proofs.Leaf.{holds-room, holds-keys}
 use native.Mathlib.Omega.{arith}
 use borrow.Author.Rules.{rules}
@@ -33,20 +33,20 @@ cast-confirm : tie.Need-overflow-cast-confirm
 cast-confirm c = search rules
 
 confirm-requires : tie.Need-confirm-requires
-unfolding read pageIn
+unfolding read page_in
 confirm-requires c κs =
     let args = c.before.before.before.before.args in
     let pre = c.before.before.before.before.requires in
-    let b = pageAt args.table.now args.leaf.place.child in
-    let l = length-pageAt args.table.now args.leaf.place.child (omega arith) in
-    rw (page-part args.table.now args.leaf.place.child)
+    let b = page_at args.table.now args.leaf.place.child in
+    let l = length-page_at args.table.now args.leaf.place.child (omega arith) in
+    rw (page_part args.table.now args.leaf.place.child)
     (omega arith, omega (arith, l, holds-room b args.leaf.head pre.1 pre.2), omega (arith, l), holds-keys b args.leaf.head pre.1 pre.2)
 
 returns : tie.Need-returns
-unfolding spotAt
+unfolding spot_at
 returns c =
     let args = c.before.before.before.before.before.args in
-    rw (page-part args.table.now args.leaf.place.child) at c.confirm.ensures
+    rw (page_part args.table.now args.leaf.place.child) at c.confirm.ensures
 
 pub spot-at-spec : {M : Type 1} → statement M
 spot-at-spec =

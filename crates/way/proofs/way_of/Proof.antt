@@ -6,8 +6,8 @@ use mathlib.Core.Path.{sym, ap, ◌∙◌}
 use native.Mathlib.Omega.{arith}
 use Rattle.rules.specs.Report.{nothing}
 use Rattle.way.specs.Ways.{went}
-use Rattle.rules.proofs.bytes.PageZero.{has-zero}
-use Rattle.way.proofs.Descent.{Descent, begins, runs-out-reported, damaged-reported, ends-reported, leads, goes_on}
+use Rattle.rules.proofs.Bytes.PageZero.{has-zero}
+use Rattle.way.proofs.Descent.{Descent, begins, runs_out-reported, damaged-reported, ends-reported, leads, goes_on}
 use borrow.Author.Rules.{rules}
 use Rattle.way.proofs.way_of.Statement.{statement}
 use Rattle.way.proofs.way_of.Tie as tie
@@ -44,7 +44,7 @@ loop-holds c =
 look-ahead-requires : tie.Need-look-ahead-requires invariant-loop decreases-loop
 look-ahead-requires c κs =
     let loop = c.before.before.loop in
-    omega (arith, loop.invariant.ready.long, loop.invariant.ready.child-below)
+    omega (arith, loop.invariant.ready.long, loop.invariant.ready.child_below)
 
 above-requires : tie.Need-above-requires invariant-loop decreases-loop
 above-requires c κs = search rules
@@ -52,7 +52,7 @@ above-requires c κs = search rules
 enter-requires : tie.Need-enter-requires invariant-loop decreases-loop
 enter-requires c κs =
     let loop = c.before.before.before.before.before.loop in
-    (loop.invariant.ready.long, loop.invariant.ready.child-below)
+    (loop.invariant.ready.long, loop.invariant.ready.child_below)
 
 enum-known-head : tie.Need-enum-known-head invariant-loop decreases-loop
 enum-known-head c = search rules
@@ -116,7 +116,7 @@ place-below-requires c κs =
     let enter = c.before.before.before.before.before.before.before.before.before.before.enter in
     let head = c.before.before.before.before.before.before.head in
     let f = ap (entering enter.new.0) (sym head.given.1) ∙ enter.ensures in (
-      omega (arith, enter.auto.0, loop.invariant.ready.long, loop.invariant.ready.child-below),
+      omega (arith, enter.auto.0, loop.invariant.ready.long, loop.invariant.ready.child_below),
       leads loop.invariant loop-test.true above.result above.ensures enter.new.0 head.given.0.0 head.given.0.1.0 f
           c.before.if1.false,
     )
@@ -155,7 +155,7 @@ same-length-3 c =
 returns-3 : tie.Need-returns-3 invariant-loop decreases-loop
 returns-3 c =
     let loop = c.before.before.loop in
-    ap (λ (w : Way). went loop.t (record { way = w; report = loop.report })) c.no-way3.ensures ∙ runs-out-reported loop.invariant (omega (arith, c.before.loop-test.false))
+    ap (λ (w : Way). went loop.t (record { way = w; report = loop.report })) c.no-way3.ensures ∙ runs_out-reported loop.invariant (omega (arith, c.before.loop-test.false))
 
 pub way-of-spec : {M : Type 1} → statement M
 way-of-spec =

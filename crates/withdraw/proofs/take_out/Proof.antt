@@ -1,7 +1,7 @@
 -- `withdraw::take_out`: the step to the key's leaf met damage, or it has the leaf, and the certificate is in it or not
 -- (Along). Assumes nothing.
 use Prim.Native.Nat.{◌≤◌}
-use Rattle.rules.specs.Layout.{lastKey}
+use Rattle.rules.specs.Layout.{last_key}
 use Rattle.climbs.specs.Ground.{Ground}
 use Rattle.leaves.proofs.Loops.{kept-start}
 use Rattle.withdraw.proofs.Along.{from_nothing, damaged, reached, spot-within, found_as, none_found, one_found, missing, has, taken_out}
@@ -36,7 +36,7 @@ returns c =
     let t = c.before.before.before.before.before.before.before.before.before.before.before.args.t.now in
     let u = c.before.before.before.before.before.next.new.0 in
     let g : Ground s.n s.c t = record { long = c.before.before.before.before.before.before.before.before.before.before.before.requires.0; bytes = c.before.before.before.before.before.before.before.before.before.before.slice-known.given; fit = c.before.before.before.before.before.before.before.before.before.before.before.requires.1; counter = omega (arith, c.before.before.before.before.before.before.before.before.before.before.before.well-formed) } in
-    let h : k ≤ lastKey = omega (arith, c.before.before.before.before.before.before.before.before.before.before.before.ranges.key) in
+    let h : k ≤ last_key = omega (arith, c.before.before.before.before.before.before.before.before.before.before.before.ranges.key) in
     let f = from_nothing s.n s.c k t u c.before.before.before.before.before.next.result c.before.before.before.before.before.before.nothing.result c.before.before.before.before.before.before.nothing.ensures c.before.before.before.before.before.next.ensures in
     damaged s k t u g h f c.before.report.given.1
 
@@ -50,11 +50,11 @@ find-on-requires c κs =
     let t = c.before.before.before.before.before.before.before.before.before.before.before.before.before.args.t.now in
     let u = c.before.before.before.before.before.before.before.next.new.0 in
     let g : Ground s.n s.c t = record { long = c.before.before.before.before.before.before.before.before.before.before.before.before.before.requires.0; bytes = c.before.before.before.before.before.before.before.before.before.before.before.before.slice-known.given; fit = c.before.before.before.before.before.before.before.before.before.before.before.before.before.requires.1; counter = omega (arith, c.before.before.before.before.before.before.before.before.before.before.before.before.before.well-formed) } in
-    let h : k ≤ lastKey = omega (arith, c.before.before.before.before.before.before.before.before.before.before.before.before.before.ranges.key) in
+    let h : k ≤ last_key = omega (arith, c.before.before.before.before.before.before.before.before.before.before.before.before.before.ranges.key) in
     let f = from_nothing s.n s.c k t u c.before.before.before.before.before.before.before.next.result c.before.before.before.before.before.before.before.before.nothing.result c.before.before.before.before.before.before.before.before.nothing.ensures c.before.before.before.before.before.before.before.next.ensures in
     let e = c.before.before.before.leaf.given.1 in
     let r = reached s k t u g h f e in
-    (omega (arith, c.before.before.before.before.before.before.before.next.auto.0, c.before.before.before.before.before.before.before.before.before.before.before.before.before.requires.0, r.child-below), spot-within s k t u g h f e)
+    (omega (arith, c.before.before.before.before.before.before.before.next.auto.0, c.before.before.before.before.before.before.before.before.before.before.before.before.before.requires.0, r.child_below), spot-within s k t u g h f e)
 
 enum_told : tie.Need-enum-told
 enum_told c = search rules
@@ -69,7 +69,7 @@ returns-2 c =
     let t = c.before.before.before.before.before.before.before.before.before.before.before.before.before.before.before.args.t.now in
     let u = c.before.before.before.before.before.before.before.before.before.next.new.0 in
     let g : Ground s.n s.c t = record { long = c.before.before.before.before.before.before.before.before.before.before.before.before.before.before.before.requires.0; bytes = c.before.before.before.before.before.before.before.before.before.before.before.before.before.before.slice-known.given; fit = c.before.before.before.before.before.before.before.before.before.before.before.before.before.before.before.requires.1; counter = omega (arith, c.before.before.before.before.before.before.before.before.before.before.before.before.before.before.before.well-formed) } in
-    let h : k ≤ lastKey = omega (arith, c.before.before.before.before.before.before.before.before.before.before.before.before.before.before.before.ranges.key) in
+    let h : k ≤ last_key = omega (arith, c.before.before.before.before.before.before.before.before.before.before.before.before.before.before.before.ranges.key) in
     let f = from_nothing s.n s.c k t u c.before.before.before.before.before.before.before.before.before.next.result c.before.before.before.before.before.before.before.before.before.before.nothing.result c.before.before.before.before.before.before.before.before.before.before.nothing.ensures c.before.before.before.before.before.before.before.before.before.next.ensures in
     let e = c.before.before.before.before.before.leaf.given.1 in
     let x = found_as s k t u g h f e c.before.find-on.ensures in
@@ -85,13 +85,13 @@ remove-cert-requires c κs =
     let t = c.before.before.before.before.before.before.before.before.before.before.before.before.before.before.before.before.before.before.args.t.now in
     let u = c.before.before.before.before.before.before.before.before.before.before.before.before.next.new.0 in
     let g : Ground s.n s.c t = record { long = c.before.before.before.before.before.before.before.before.before.before.before.before.before.before.before.before.before.before.requires.0; bytes = c.before.before.before.before.before.before.before.before.before.before.before.before.before.before.before.before.before.slice-known.given; fit = c.before.before.before.before.before.before.before.before.before.before.before.before.before.before.before.before.before.before.requires.1; counter = omega (arith, c.before.before.before.before.before.before.before.before.before.before.before.before.before.before.before.before.before.before.well-formed) } in
-    let h : k ≤ lastKey = omega (arith, c.before.before.before.before.before.before.before.before.before.before.before.before.before.before.before.before.before.before.ranges.key) in
+    let h : k ≤ last_key = omega (arith, c.before.before.before.before.before.before.before.before.before.before.before.before.before.before.before.before.before.before.ranges.key) in
     let f = from_nothing s.n s.c k t u c.before.before.before.before.before.before.before.before.before.before.before.before.next.result c.before.before.before.before.before.before.before.before.before.before.before.before.before.nothing.result c.before.before.before.before.before.before.before.before.before.before.before.before.before.nothing.ensures c.before.before.before.before.before.before.before.before.before.before.before.before.next.ensures in
     let e = c.before.before.before.before.before.before.before.before.leaf.given.1 in
     let r = reached s k t u g h f e in
     let x = found_as s k t u g h f e c.before.before.before.before.find-on.ensures in
     let o = one_found _ c.before.before.before.before.find-on.result x _ c.before.before.enum_told.given.1 in
-    (omega (arith, c.before.before.before.before.before.before.before.before.before.before.before.before.next.auto.0, c.before.before.before.before.before.before.before.before.before.before.before.before.before.before.before.before.before.before.requires.0, r.child-below), has s k t u g h f e o.0 o.1)
+    (omega (arith, c.before.before.before.before.before.before.before.before.before.before.before.before.next.auto.0, c.before.before.before.before.before.before.before.before.before.before.before.before.before.before.before.before.before.before.requires.0, r.child_below), has s k t u g h f e o.0 o.1)
 
 uncount-requires : tie.Need-uncount-requires
 uncount-requires c κs = search rules
@@ -106,7 +106,7 @@ returns-3 c =
     let t = c.before.before.before.before.before.before.before.before.before.before.before.before.before.before.before.before.before.before.before.before.before.before.args.t.now in
     let u = c.before.before.before.before.before.before.before.before.before.before.before.before.before.before.before.before.next.new.0 in
     let g : Ground s.n s.c t = record { long = c.before.before.before.before.before.before.before.before.before.before.before.before.before.before.before.before.before.before.before.before.before.before.requires.0; bytes = c.before.before.before.before.before.before.before.before.before.before.before.before.before.before.before.before.before.before.before.before.before.slice-known.given; fit = c.before.before.before.before.before.before.before.before.before.before.before.before.before.before.before.before.before.before.before.before.before.before.requires.1; counter = omega (arith, c.before.before.before.before.before.before.before.before.before.before.before.before.before.before.before.before.before.before.before.before.before.before.well-formed) } in
-    let h : k ≤ lastKey = omega (arith, c.before.before.before.before.before.before.before.before.before.before.before.before.before.before.before.before.before.before.before.before.before.before.ranges.key) in
+    let h : k ≤ last_key = omega (arith, c.before.before.before.before.before.before.before.before.before.before.before.before.before.before.before.before.before.before.before.before.before.before.ranges.key) in
     let f = from_nothing s.n s.c k t u c.before.before.before.before.before.before.before.before.before.before.before.before.before.before.before.before.next.result c.before.before.before.before.before.before.before.before.before.before.before.before.before.before.before.before.before.nothing.result c.before.before.before.before.before.before.before.before.before.before.before.before.before.before.before.before.before.nothing.ensures c.before.before.before.before.before.before.before.before.before.before.before.before.before.before.before.before.next.ensures in
     let e = c.before.before.before.before.before.before.before.before.before.before.before.before.leaf.given.1 in
     let x = found_as s k t u g h f e c.before.before.before.before.before.before.before.before.find-on.ensures in

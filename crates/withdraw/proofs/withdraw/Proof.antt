@@ -2,8 +2,8 @@
 -- Assumes nothing.
 use mathlib.Core.Path.{refl, sym, ◌∙◌}
 use borrow.Author.Tests.{not-true, not-false}
-use Rattle.rules.proofs.bytes.Lengths.{lengthsFor-true}
-use Rattle.withdraw.proofs.Call.{bad-length, bad-key, bad-zero, by_key}
+use Rattle.rules.proofs.Bytes.Lengths.{lengths_for_true}
+use Rattle.withdraw.proofs.Call.{bad_length_lem, bad_key, bad_zero, by_key}
 use native.Mathlib.Omega.{arith}
 use borrow.Author.Rules.{rules}
 use Rattle.withdraw.proofs.withdraw.Statement.{statement}
@@ -19,7 +19,7 @@ same_length : tie.Need-same-length
 same_length c = search rules
 
 returns : tie.Need-returns
-returns c = bad-length c.before.before.before.before.before.before.args.working.now c.before.before.before.before.before.before.args.stable.now c.before.before.before.before.before.before.args.session c.before.before.before.before.before.before.args.model c.before.before.before.before.before.before.args.serial c.before.before.before.before.before.before.args.issue (sym (c.before.before.lengths-for.ensures c.before.before.before.before.before.before.args.session refl) ∙ not-true c.before.before.lengths-for.result c.before.if1.true) c.nothing.ensures
+returns c = bad_length_lem c.before.before.before.before.before.before.args.working.now c.before.before.before.before.before.before.args.stable.now c.before.before.before.before.before.before.args.session c.before.before.before.before.before.before.args.model c.before.before.before.before.before.before.args.serial c.before.before.before.before.before.before.args.issue (sym (c.before.before.lengths-for.ensures c.before.before.before.before.before.before.args.session refl) ∙ not-true c.before.before.lengths-for.result c.before.if1.true) c.nothing.ensures
 
 good-parts-requires : tie.Need-good-parts-requires
 good-parts-requires c κs = search rules
@@ -31,14 +31,14 @@ same-length-2 : tie.Need-same-length-2
 same-length-2 c = search rules
 
 returns-2 : tie.Need-returns-2
-returns-2 c = bad-key c.before.before.before.before.before.before.before.before.args.working.now c.before.before.before.before.before.before.before.before.args.stable.now c.before.before.before.before.before.before.before.before.args.session c.before.before.before.before.before.before.before.before.args.model c.before.before.before.before.before.before.before.before.args.serial c.before.before.before.before.before.before.before.before.args.issue (sym (c.before.before.before.before.lengths-for.ensures c.before.before.before.before.before.before.before.before.args.session refl) ∙ not-false c.before.before.before.before.lengths-for.result c.before.before.before.if1.false) (sym c.before.before.good-parts.ensures ∙ not-true c.before.before.good-parts.result c.before.if2.true) c.nothing2.ensures
+returns-2 c = bad_key c.before.before.before.before.before.before.before.before.args.working.now c.before.before.before.before.before.before.before.before.args.stable.now c.before.before.before.before.before.before.before.before.args.session c.before.before.before.before.before.before.before.before.args.model c.before.before.before.before.before.before.before.before.args.serial c.before.before.before.before.before.before.before.before.args.issue (sym (c.before.before.before.before.lengths-for.ensures c.before.before.before.before.before.before.before.before.args.session refl) ∙ not-false c.before.before.before.before.lengths-for.result c.before.before.before.if1.false) (sym c.before.before.good-parts.ensures ∙ not-true c.before.before.good-parts.result c.before.if2.true) c.nothing2.ensures
 
 cast-fit0 : tie.Need-overflow-cast-fit0
 cast-fit0 c = search rules
 
 fit0-requires : tie.Need-fit0-requires
 fit0-requires c κs =
-    let l = lengthsFor-true c.before.before.before.before.before.before.before.before.before.args.session c.before.before.before.before.before.before.before.before.before.args.working.now c.before.before.before.before.before.before.before.before.before.args.stable.now (sym (c.before.before.before.before.before.lengths-for.ensures c.before.before.before.before.before.before.before.before.before.args.session refl) ∙ not-false c.before.before.before.before.before.lengths-for.result c.before.before.before.before.if1.false) in
+    let l = lengths_for_true c.before.before.before.before.before.before.before.before.before.args.session c.before.before.before.before.before.before.before.before.before.args.working.now c.before.before.before.before.before.before.before.before.before.args.stable.now (sym (c.before.before.before.before.before.lengths-for.ensures c.before.before.before.before.before.before.before.before.before.args.session refl) ∙ not-false c.before.before.before.before.before.lengths-for.result c.before.before.before.before.if1.false) in
     omega (arith, l.working, l.least)
 
 nothing-requires-3 : tie.Need-nothing-requires-3
@@ -48,13 +48,13 @@ same-length-3 : tie.Need-same-length-3
 same-length-3 c = search rules
 
 returns-3 : tie.Need-returns-3
-returns-3 c = bad-zero c.before.before.before.before.before.before.before.before.before.before.before.before.args.working.now c.before.before.before.before.before.before.before.before.before.before.before.before.args.stable.now c.before.before.before.before.before.before.before.before.before.before.before.before.args.session c.before.before.before.before.before.before.before.before.before.before.before.before.args.model c.before.before.before.before.before.before.before.before.before.before.before.before.args.serial c.before.before.before.before.before.before.before.before.before.before.before.before.args.issue (sym (c.before.before.before.before.before.before.before.before.lengths-for.ensures c.before.before.before.before.before.before.before.before.before.before.before.before.args.session refl) ∙ not-false c.before.before.before.before.before.before.before.before.lengths-for.result c.before.before.before.before.before.before.before.if1.false) (sym c.before.before.before.before.before.before.good-parts.ensures ∙ not-false c.before.before.before.before.before.before.good-parts.result c.before.before.before.before.before.if2.false) (sym c.before.before.fit0.ensures ∙ not-true c.before.before.fit0.result c.before.if3.true) c.nothing3.ensures
+returns-3 c = bad_zero c.before.before.before.before.before.before.before.before.before.before.before.before.args.working.now c.before.before.before.before.before.before.before.before.before.before.before.before.args.stable.now c.before.before.before.before.before.before.before.before.before.before.before.before.args.session c.before.before.before.before.before.before.before.before.before.before.before.before.args.model c.before.before.before.before.before.before.before.before.before.before.before.before.args.serial c.before.before.before.before.before.before.before.before.before.before.before.before.args.issue (sym (c.before.before.before.before.before.before.before.before.lengths-for.ensures c.before.before.before.before.before.before.before.before.before.before.before.before.args.session refl) ∙ not-false c.before.before.before.before.before.before.before.before.lengths-for.result c.before.before.before.before.before.before.before.if1.false) (sym c.before.before.before.before.before.before.good-parts.ensures ∙ not-false c.before.before.before.before.before.before.good-parts.result c.before.before.before.before.before.if2.false) (sym c.before.before.fit0.ensures ∙ not-true c.before.before.fit0.result c.before.if3.true) c.nothing3.ensures
 
 key-of-requires : tie.Need-key-of-requires
 key-of-requires c κs = search rules
 
 take-out-requires : tie.Need-take-out-requires
-take-out-requires c κs = ((lengthsFor-true c.before.before.before.before.before.before.before.before.before.before.before.before.before.args.session c.before.before.before.before.before.before.before.before.before.before.before.before.before.args.working.now c.before.before.before.before.before.before.before.before.before.before.before.before.before.args.stable.now (sym (c.before.before.before.before.before.before.before.before.before.lengths-for.ensures c.before.before.before.before.before.before.before.before.before.before.before.before.before.args.session refl) ∙ not-false c.before.before.before.before.before.before.before.before.before.lengths-for.result c.before.before.before.before.before.before.before.before.if1.false)).working, sym c.before.before.before.fit0.ensures ∙ not-false c.before.before.before.fit0.result c.before.before.if3.false)
+take-out-requires c κs = ((lengths_for_true c.before.before.before.before.before.before.before.before.before.before.before.before.before.args.session c.before.before.before.before.before.before.before.before.before.before.before.before.before.args.working.now c.before.before.before.before.before.before.before.before.before.before.before.before.before.args.stable.now (sym (c.before.before.before.before.before.before.before.before.before.lengths-for.ensures c.before.before.before.before.before.before.before.before.before.before.before.before.before.args.session refl) ∙ not-false c.before.before.before.before.before.before.before.before.before.lengths-for.result c.before.before.before.before.before.before.before.before.if1.false)).working, sym c.before.before.before.fit0.ensures ∙ not-false c.before.before.before.fit0.result c.before.before.if3.false)
 
 same-length-4 : tie.Need-same-length-4
 same-length-4 c = search rules

@@ -2,8 +2,8 @@
 use mathlib.Core.Path.{ap, sym, ◌∙◌}
 use mathlib.Core.List.{[], ◌∷◌}
 use Rattle.words.specs.declared.Text.{Text}
-use Rattle.words.specs.Words.{digit, digitsOf, pushed, pushedAll}
-use Rattle.words.proofs.Texts.{pushed-append, pushed-length, few-digits, no-places, one-digit, more-digits}
+use Rattle.words.specs.Words.{digit, digits_of, pushed, pushed_all}
+use Rattle.words.proofs.Texts.{pushed-append, pushed-length, few-digits, no_places, one-digit, more-digits}
 use borrow.Author.Rules.{rules}
 use native.Mathlib.Omega.{arith}
 use Prim.Native.Nat.{ℕ, ◌-◌, ◌/◌, ◌%◌, ◌<◌}
@@ -31,8 +31,8 @@ abbrev put-digits-in : ℕ → put-digits-lts.Claims
 put-digits-in t = (push-reads.Asked, push-reads.Learnt, put-digits-below t, put-digits.Post)
 
 put-digits-returns : (t : ℕ) → put-digits-lts.Need-returns (put-digits-in t) (put-digits-at t) put-digits.Post
-unfolding pushedAll
-put-digits-returns t c = rw (no-places c.before.args.places c.before.args.n c.if1.true)
+unfolding pushed_all
+put-digits-returns t c = rw (no_places c.before.args.places c.before.args.n c.if1.true)
 
 put-digits-cast-push : (t : ℕ) → put-digits-lts.Need-overflow-cast-push (put-digits-in t) (put-digits-at t) put-digits.Post
 put-digits-cast-push t c = search rules
@@ -44,10 +44,10 @@ put-digits-push-requires : (t : ℕ) → put-digits-lts.Need-push-requires (put-
 put-digits-push-requires t c κs = search rules
 
 put-digits-returns-2 : (t : ℕ) → put-digits-lts.Need-returns-2 (put-digits-in t) (put-digits-at t) put-digits.Post
-unfolding pushedAll
+unfolding pushed_all
 put-digits-returns-2 t c =
     let args = c.before.before.before.args in
-    c.push.ensures ∙ sym (ap (pushedAll args.t) (one-digit args.places args.n (omega arith) (omega arith)))
+    c.push.ensures ∙ sym (ap (pushed_all args.t) (one-digit args.places args.n (omega arith) (omega arith)))
 
 put-digits-sub-put-digits : (t : ℕ) → put-digits-lts.Need-overflow-sub-put-digits (put-digits-in t) (put-digits-at t) put-digits.Post
 put-digits-sub-put-digits t c = search rules
@@ -65,15 +65,15 @@ put-digits-push-requires-2 : (t : ℕ) → put-digits-lts.Need-push-requires-2 (
 put-digits-push-requires-2 t c κs =
     let args = c.before.before.before.args in
     let few = few-digits (args.places - 1) (args.n / 10) in
-    rw (c.put-digits.ensures, pushed-length args.t (digitsOf (args.places - 1) (args.n / 10))) (omega arith)
+    rw (c.put-digits.ensures, pushed-length args.t (digits_of (args.places - 1) (args.n / 10))) (omega arith)
 
 put-digits-returns-3 : (t : ℕ) → put-digits-lts.Need-returns-3 (put-digits-in t) (put-digits-at t) put-digits.Post
-unfolding pushedAll
+unfolding pushed_all
 put-digits-returns-3 t c =
     let args = c.before.before.before.before.args in
     c.push2.ensures ∙ ap (λ (t : Text). pushed t (digit (args.n % 10))) c.before.put-digits.ensures
-    ∙ sym (pushed-append args.t (digitsOf (args.places - 1) (args.n / 10)) (digit (args.n % 10) ∷ []))
-    ∙ sym (ap (pushedAll args.t) (more-digits args.places args.n (omega arith) (omega arith)))
+    ∙ sym (pushed-append args.t (digits_of (args.places - 1) (args.n / 10)) (digit (args.n % 10) ∷ []))
+    ∙ sym (ap (pushed_all args.t) (more-digits args.places args.n (omega arith) (omega arith)))
 
 pub +put-digits-spec : {M : Type 1} → statement M
 +put-digits-spec = close μ-put-digits λ t. put-digits-lts.spec (put-digits-in t)

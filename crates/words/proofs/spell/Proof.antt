@@ -1,5 +1,5 @@
 -- `words::spell` meets its contract. Assumes nothing.
-use Rattle.words.specs.Words.{answerLine, text_of}
+use Rattle.words.specs.Words.{answer_line, text_of}
 use borrow.Author.Rules.{rules}
 use Rattle.words.proofs.spell.Statement.{statement}
 use Rattle.words.proofs.spell.Tie as tie
@@ -29,7 +29,7 @@ of-requires-2 : tie.Need-of-requires-2
 of-requires-2 c κs = search rules
 
 returns : tie.Need-returns
-unfolding answerLine text_of
+unfolding answer_line text_of
 returns c = rw c.before.enum_told.given.1 c.of.ensures
 
 returns-2 : tie.Need-returns-2
@@ -39,7 +39,7 @@ returns-3 : tie.Need-returns-3
 returns-3 c = rw c.before.before.reply2.given.1 c.found.ensures
 
 returns-4 : tie.Need-returns-4
-unfolding answerLine text_of
+unfolding answer_line text_of
 returns-4 c = rw c.before.before.before.enum-told2.given.1 c.of2.ensures
 
 pub spell-spec : {M : Type 1} → statement M

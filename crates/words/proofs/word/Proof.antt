@@ -1,6 +1,6 @@
 -- `words::word`: each arm by computing; a number above the nine has no word. Assumes nothing.
 use Rattle.words.proofs.Texts.{no_word, nine-up}
-use Rattle.words.specs.Words.{nine, word_of, answerLine, text_of}
+use Rattle.words.specs.Words.{nine, word_of, answer_line, text_of}
 use borrow.Author.Rules.{rules}
 use Rattle.words.proofs.word.Statement.{statement}
 use Rattle.words.proofs.word.Tie as tie
@@ -36,43 +36,43 @@ of-requires-10 : tie.Need-of-requires-10
 of-requires-10 c κs = search rules
 
 returns : tie.Need-returns
-unfolding answerLine word_of nine text_of
+unfolding answer_line word_of nine text_of
 returns c = rw c.before.before.before.match.keys1 c.of.ensures
 
 returns-2 : tie.Need-returns-2
-unfolding answerLine word_of nine text_of
+unfolding answer_line word_of nine text_of
 returns-2 c = rw c.before.before.before.match.keys2 c.of2.ensures
 
 returns-3 : tie.Need-returns-3
-unfolding answerLine word_of nine text_of
+unfolding answer_line word_of nine text_of
 returns-3 c = rw c.before.before.before.match.keys3 c.of3.ensures
 
 returns-4 : tie.Need-returns-4
-unfolding answerLine word_of nine text_of
+unfolding answer_line word_of nine text_of
 returns-4 c = rw c.before.before.before.match.keys4 c.of4.ensures
 
 returns-5 : tie.Need-returns-5
-unfolding answerLine word_of nine text_of
+unfolding answer_line word_of nine text_of
 returns-5 c = rw c.before.before.before.match.keys5 c.of5.ensures
 
 returns-6 : tie.Need-returns-6
-unfolding answerLine word_of nine text_of
+unfolding answer_line word_of nine text_of
 returns-6 c = rw c.before.before.before.match.keys6 c.of6.ensures
 
 returns-7 : tie.Need-returns-7
-unfolding answerLine word_of nine text_of
+unfolding answer_line word_of nine text_of
 returns-7 c = rw c.before.before.before.match.keys7 c.of7.ensures
 
 returns-8 : tie.Need-returns-8
-unfolding answerLine word_of nine text_of
+unfolding answer_line word_of nine text_of
 returns-8 c = rw c.before.before.before.match.keys8 c.of8.ensures
 
 returns-9 : tie.Need-returns-9
-unfolding answerLine word_of nine text_of
+unfolding answer_line word_of nine text_of
 returns-9 c = rw c.before.before.before.match.keys9 c.of9.ensures
 
 returns-10 : tie.Need-returns-10
-unfolding answerLine text_of
+unfolding answer_line text_of
 returns-10 c =
     let args = c.before.before.before.before.args in
     let match = c.before.before.before.match in

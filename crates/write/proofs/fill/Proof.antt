@@ -5,7 +5,7 @@ use lib.ListN.{length}
 use Rattle.leaves.specs.Cursors.{nexting}
 use Rattle.fill.proofs.Fills.{reached-inside, reached-count}
 use Rattle.sections.specs.Puts.{Lies}
-use Rattle.write.proofs.Filling.{Filling, filling-begins, filling-few, filling-damaged, filling-reached, filling-lies, filling-ends, filling-on, filling-less}
+use Rattle.write.proofs.Filling.{Filling, filling-begins, filling-few, filling-damaged, filling-reached, filling-lies, filling-ends, filling_on, filling_less}
 use borrow.Author.Rules.{rules}
 use native.Mathlib.Omega.{arith}
 use Rattle.write.proofs.fill.Statement.{statement}
@@ -71,10 +71,10 @@ add-key : tie.Need-overflow-add-key invariant-loop decreases-loop
 add-key c = search rules
 
 loop-less : tie.Need-loop-smaller invariant-loop decreases-loop
-loop-less c = filling-less c.before.before.before.before.before.before.before.before.before.before.before.before.before.before.before.before.before.before.before.before.before.before.loop.invariant.2 c.before.before.before.before.before.before.before.before.before.before.before.before.before.before.before.before.before.before.before.before.before.before.before.before.before.before.before.before.requires.5 c.before.before.before.before.before.before.before.before.before.before.before.before.before.before.before.before.before.before.before.before.before.before.before.before.before.before.before.before.requires.4 c.before.before.before.before.before.before.before.before.before.before.before.before.before.before.before.before.before.before.before.before.before.before.loop.key c.before.before.before.before.before.before.before.before.before.before.before.before.before.before.before.before.before.before.next.new.0 c.before.before.before.before.before.before.before.before.before.before.before.before.before.before.leaf.given.0.0 (ap (nexting c.before.before.before.before.before.before.before.before.before.before.before.before.before.before.before.before.before.before.next.new.0) (sym c.before.before.before.before.before.before.before.before.before.before.before.before.before.before.leaf.given.1) ∙ c.before.before.before.before.before.before.before.before.before.before.before.before.before.before.before.before.before.before.next.ensures) (omega (arith, c.before.before.if2.false))
+loop-less c = filling_less c.before.before.before.before.before.before.before.before.before.before.before.before.before.before.before.before.before.before.before.before.before.before.loop.invariant.2 c.before.before.before.before.before.before.before.before.before.before.before.before.before.before.before.before.before.before.before.before.before.before.before.before.before.before.before.before.requires.5 c.before.before.before.before.before.before.before.before.before.before.before.before.before.before.before.before.before.before.before.before.before.before.before.before.before.before.before.before.requires.4 c.before.before.before.before.before.before.before.before.before.before.before.before.before.before.before.before.before.before.before.before.before.before.loop.key c.before.before.before.before.before.before.before.before.before.before.before.before.before.before.before.before.before.before.next.new.0 c.before.before.before.before.before.before.before.before.before.before.before.before.before.before.leaf.given.0.0 (ap (nexting c.before.before.before.before.before.before.before.before.before.before.before.before.before.before.before.before.before.before.next.new.0) (sym c.before.before.before.before.before.before.before.before.before.before.before.before.before.before.leaf.given.1) ∙ c.before.before.before.before.before.before.before.before.before.before.before.before.before.before.before.before.before.before.next.ensures) (omega (arith, c.before.before.if2.false))
 
 loop-again : tie.Need-loop-preserved invariant-loop decreases-loop
-loop-again c = (omega (arith, c.before.before.before.before.before.before.before.before.before.before.before.before.before.before.before.before.before.before.next.auto.0, c.before.before.before.before.before.before.before.before.before.before.before.before.before.before.before.before.before.before.before.before.before.before.loop.invariant.0), omega (arith, c.before.before.before.before.before.before.before.put-leaf.auto.1.1.1.1.1.1.1.0, c.before.before.before.before.before.before.before.before.before.before.before.before.before.before.before.before.before.before.before.before.before.before.loop.invariant.1), filling-on c.before.before.before.before.before.before.before.before.before.before.before.before.before.before.before.before.before.before.before.before.before.before.loop.invariant.2 c.before.before.before.before.before.before.before.before.before.before.before.before.before.before.before.before.before.before.before.before.before.before.before.before.before.before.before.before.requires.5 c.before.before.before.before.before.before.before.before.before.before.before.before.before.before.before.before.before.before.before.before.before.before.before.before.before.before.before.before.requires.4 c.before.before.before.before.before.before.before.before.before.before.before.before.before.before.before.before.before.before.before.before.before.before.loop.key c.before.before.before.before.before.before.before.before.before.before.before.before.before.before.before.before.before.before.next.new.0 c.before.before.before.before.before.before.before.before.before.before.before.before.before.before.leaf.given.0.0 (ap (nexting c.before.before.before.before.before.before.before.before.before.before.before.before.before.before.before.before.before.before.next.new.0) (sym c.before.before.before.before.before.before.before.before.before.before.before.before.before.before.leaf.given.1) ∙ c.before.before.before.before.before.before.before.before.before.before.before.before.before.before.before.before.before.before.next.ensures) c.before.before.before.before.before.before.before.put-leaf.result c.before.before.before.before.before.before.before.put-leaf.new.1.1.1.1.1.1.1.0 c.before.before.before.before.before.before.before.put-leaf.ensures (omega (arith, c.before.before.if2.false)))
+loop-again c = (omega (arith, c.before.before.before.before.before.before.before.before.before.before.before.before.before.before.before.before.before.before.next.auto.0, c.before.before.before.before.before.before.before.before.before.before.before.before.before.before.before.before.before.before.before.before.before.before.loop.invariant.0), omega (arith, c.before.before.before.before.before.before.before.put-leaf.auto.1.1.1.1.1.1.1.0, c.before.before.before.before.before.before.before.before.before.before.before.before.before.before.before.before.before.before.before.before.before.before.loop.invariant.1), filling_on c.before.before.before.before.before.before.before.before.before.before.before.before.before.before.before.before.before.before.before.before.before.before.loop.invariant.2 c.before.before.before.before.before.before.before.before.before.before.before.before.before.before.before.before.before.before.before.before.before.before.before.before.before.before.before.before.requires.5 c.before.before.before.before.before.before.before.before.before.before.before.before.before.before.before.before.before.before.before.before.before.before.before.before.before.before.before.before.requires.4 c.before.before.before.before.before.before.before.before.before.before.before.before.before.before.before.before.before.before.before.before.before.before.loop.key c.before.before.before.before.before.before.before.before.before.before.before.before.before.before.before.before.before.before.next.new.0 c.before.before.before.before.before.before.before.before.before.before.before.before.before.before.leaf.given.0.0 (ap (nexting c.before.before.before.before.before.before.before.before.before.before.before.before.before.before.before.before.before.before.next.new.0) (sym c.before.before.before.before.before.before.before.before.before.before.before.before.before.before.leaf.given.1) ∙ c.before.before.before.before.before.before.before.before.before.before.before.before.before.before.before.before.before.before.next.ensures) c.before.before.before.before.before.before.before.put-leaf.result c.before.before.before.before.before.before.before.put-leaf.new.1.1.1.1.1.1.1.0 c.before.before.before.before.before.before.before.put-leaf.ensures (omega (arith, c.before.before.if2.false)))
 
 same-length-5 : tie.Need-same-length-5 invariant-loop decreases-loop
 same-length-5 c = c.before.before.loop.invariant.0

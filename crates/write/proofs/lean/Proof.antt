@@ -3,7 +3,7 @@
 use mathlib.Core.Path.{sym, ◌∙◌}
 use borrow.Author.Tests.{not-true, not-false}
 use Rattle.tables.proofs.Sizes.{sized}
-use Rattle.write.proofs.Calls.{bad-length, bad-zero, answers}
+use Rattle.write.proofs.Calls.{bad_length_lem, bad_zero, answers}
 use native.Mathlib.Omega.{arith}
 use borrow.Author.Rules.{rules}
 use Rattle.write.proofs.lean.Statement.{statement}
@@ -21,17 +21,17 @@ same_length c = search rules
 returns : tie.Need-returns
 returns c =
     let args = c.before.before.before.before.before.before.before.args in
-    let lengths-for = c.before.before.lengths-for in
-    λ s same-n same-c. bad-length args.working.now args.stable.now s same-n same-c args.out.now
+    let lengths_for_lem = c.before.before.lengths-for in
+    λ s same-n same-c. bad_length_lem args.working.now args.stable.now s same-n same-c args.out.now
     c.nothing.result c.nothing.ensures
-    (sym (lengths-for.ensures s same-n) ∙ not-true lengths-for.result c.before.if1.true)
+    (sym (lengths_for_lem.ensures s same-n) ∙ not-true lengths_for_lem.result c.before.if1.true)
 
 fit0-requires : tie.Need-fit0-requires
 fit0-requires c κs =
     let args = c.before.before.before.before.before.before.before.args in
-    let lengths-for = c.before.before.lengths-for in
-    let sizes = sized args.n args.working.now args.stable.now lengths-for.result lengths-for.ensures
-    (not-false lengths-for.result c.before.if1.false) in
+    let lengths_for_lem = c.before.before.lengths-for in
+    let sizes = sized args.n args.working.now args.stable.now lengths_for_lem.result lengths_for_lem.ensures
+    (not-false lengths_for_lem.result c.before.if1.false) in
     omega (arith, sizes.working, sizes.least)
 
 nothing-requires-2 : tie.Need-nothing-requires-2
@@ -43,22 +43,22 @@ same-length-2 c = search rules
 returns-2 : tie.Need-returns-2
 returns-2 c =
     let args = c.before.before.before.before.before.before.before.before.before.before.args in
-    let lengths-for = c.before.before.before.before.before.lengths-for in
+    let lengths_for_lem = c.before.before.before.before.before.lengths-for in
     let if1 = c.before.before.before.before.if1 in
     let fit0 = c.before.before.fit0 in
-    λ s same-n same-c. bad-zero args.working.now args.stable.now s same-n same-c args.out.now
-    (sym (lengths-for.ensures s same-n) ∙ not-false lengths-for.result if1.false)
+    λ s same-n same-c. bad_zero args.working.now args.stable.now s same-n same-c args.out.now
+    (sym (lengths_for_lem.ensures s same-n) ∙ not-false lengths_for_lem.result if1.false)
     c.nothing2.result c.nothing2.ensures (sym fit0.ensures ∙ not-true fit0.result c.before.if2.true)
 
 look-requires : tie.Need-look-requires
 look-requires c κs =
     let args = c.before.before.before.before.before.before.before.before.before.before.before.args in
-    let lengths-for = c.before.before.before.before.before.before.lengths-for in
+    let lengths_for_lem = c.before.before.before.before.before.before.lengths-for in
     let if1 = c.before.before.before.before.before.if1 in
     let fit0 = c.before.before.before.fit0 in
     let if2 = c.before.before.if2 in
-    let sizes = sized args.n args.working.now args.stable.now lengths-for.result lengths-for.ensures
-    (not-false lengths-for.result if1.false) in
+    let sizes = sized args.n args.working.now args.stable.now lengths_for_lem.result lengths_for_lem.ensures
+    (not-false lengths_for_lem.result if1.false) in
     (sizes.working, sizes.most, sym fit0.ensures ∙ not-false fit0.result if2.false)
 
 same-length-3 : tie.Need-same-length-3
@@ -70,13 +70,13 @@ same-length-4 c = search rules
 returns-3 : tie.Need-returns-3
 returns-3 c =
     let args = c.before.before.before.before.before.before.before.before.before.before.before.before.before.before.before.before.args in
-    let lengths-for = c.before.before.before.before.before.before.before.before.before.before.before.lengths-for in
+    let lengths_for_lem = c.before.before.before.before.before.before.before.before.before.before.before.lengths-for in
     let if1 = c.before.before.before.before.before.before.before.before.before.before.if1 in
     let fit0 = c.before.before.before.before.before.before.before.before.fit0 in
     let if2 = c.before.before.before.before.before.before.before.if2 in
     let look = c.before.before.before.before.look in
     λ s same-n same-c. answers args.working.now args.stable.now s same-n same-c args.out.now
-    (sym (lengths-for.ensures s same-n) ∙ not-false lengths-for.result if1.false)
+    (sym (lengths_for_lem.ensures s same-n) ∙ not-false lengths_for_lem.result if1.false)
     (sym fit0.ensures ∙ not-false fit0.result if2.false) look.new.0 look.new.1.1.1.0 look.result look.ensures
 
 pub lean-spec : {M : Type 1} → statement M

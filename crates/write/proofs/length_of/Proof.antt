@@ -1,5 +1,5 @@
 -- `write::length_of`: answer by answer. Assumes nothing.
-use Rattle.write.specs.WriteFile.{writtenLength}
+use Rattle.write.specs.WriteFile.{written_length}
 use borrow.Author.Rules.{rules}
 use Rattle.write.proofs.length_of.Statement.{statement}
 use Rattle.write.proofs.length_of.Tie as tie
@@ -17,19 +17,19 @@ enum-told-3 : tie.Need-enum-told-3
 enum-told-3 c = search rules
 
 returns : tie.Need-returns
-unfolding writtenLength
+unfolding written_length
 returns c = search rules
 
 returns-2 : tie.Need-returns-2
-unfolding writtenLength
+unfolding written_length
 returns-2 c = search rules
 
 returns-3 : tie.Need-returns-3
-unfolding writtenLength
+unfolding written_length
 returns-3 c = search rules
 
 returns-4 : tie.Need-returns-4
-unfolding writtenLength
+unfolding written_length
 returns-4 c = search rules
 
 pub length-of-spec : {M : Type 1} → statement M

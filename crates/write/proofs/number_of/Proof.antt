@@ -1,5 +1,5 @@
 -- `write::number_of`: answer by answer. Assumes nothing.
-use Rattle.write.specs.WriteFile.{writtenNo}
+use Rattle.write.specs.WriteFile.{written_no}
 use borrow.Author.Rules.{rules}
 use Rattle.write.proofs.number_of.Statement.{statement}
 use Rattle.write.proofs.number_of.Tie as tie
@@ -17,19 +17,19 @@ enum-told-3 : tie.Need-enum-told-3
 enum-told-3 c = search rules
 
 returns : tie.Need-returns
-unfolding writtenNo
+unfolding written_no
 returns c = search rules
 
 returns-2 : tie.Need-returns-2
-unfolding writtenNo
+unfolding written_no
 returns-2 c = search rules
 
 returns-3 : tie.Need-returns-3
-unfolding writtenNo
+unfolding written_no
 returns-3 c = search rules
 
 returns-4 : tie.Need-returns-4
-unfolding writtenNo
+unfolding written_no
 returns-4 c = search rules
 
 pub number-of-spec : {M : Type 1} → statement M

@@ -1,11 +1,11 @@
 -- `dry::tally::larger`: one comparison. Assumes nothing.
-use Rattle.dry.proofs.Tallies.{larger-right, larger-left}
+use Rattle.dry.proofs.Tallies.{larger_right, larger-left}
 use native.Mathlib.Omega.{arith}
 use Rattle.dry.proofs.tally.larger.Statement.{statement}
 use Rattle.dry.proofs.tally.larger.Tie as tie
 
 returns : tie.Need-returns
-returns c = larger-right c.before.args.x c.before.args.y c.if1.true
+returns c = larger_right c.before.args.x c.before.args.y c.if1.true
 
 returns-2 : tie.Need-returns-2
 returns-2 c = larger-left c.before.args.x c.before.args.y (omega (arith, c.if1.false))

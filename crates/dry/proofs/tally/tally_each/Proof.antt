@@ -1,7 +1,7 @@
 -- `dry::tally::tally_each`: at each turn the count and the certificates left come to what all come to. Assumes nothing.
 use Prim.Native.Nat.{◌-◌, ◌≤◌}
 use mathlib.Core.Path.{◌≡◌, refl, sym, ◌∙◌}
-use Rattle.rules.specs.Table.{pageAt}
+use Rattle.rules.specs.Table.{page_at}
 use Rattle.dry.proofs.Tallies.{tallies, tally-turn, tally-end, tally-start}
 use borrow.Author.Rules.{rules}
 use native.Mathlib.Omega.{arith}
@@ -9,7 +9,7 @@ use Rattle.dry.proofs.tally.tally_each.Statement.{statement}
 use Rattle.dry.proofs.tally.tally_each.Tie as tie
 
 abbrev invariant-loop : tie.invariant-loop
-invariant-loop table page entries low high room count found₀ j₀ found j = (j ≤ entries) × (tallies low high room (pageAt table page) entries j found ≡ tallies low high room (pageAt table page) entries 0 found₀)
+invariant-loop table page entries low high room count found₀ j₀ found j = (j ≤ entries) × (tallies low high room (page_at table page) entries j found ≡ tallies low high room (page_at table page) entries 0 found₀)
 
 abbrev decreases-loop : tie.decreases-loop
 decreases-loop table page entries low high room count found₀ j₀ found j = entries - j
@@ -37,7 +37,7 @@ loop-again c =
     let cert-key-at = c.before.cert-key-at in
     let tally-key = c.tally-key in (
       omega (arith, loop-test.true),
-      tally-turn args.low args.high args.room (pageAt args.table.now args.page) args.entries
+      tally-turn args.low args.high args.room (page_at args.table.now args.page) args.entries
           loop.j cert-key-at.result loop.found tally-key.result loop-test.true cert-key-at.ensures
           tally-key.ensures ∙ loop.invariant.1,
     )
@@ -47,9 +47,9 @@ returns c =
     let args = c.before.before.before.args in
     let loop = c.before.loop in
     sym
-    (tally-end args.low args.high args.room (pageAt args.table.now args.page) args.entries loop.j loop.found c.loop-test.false)
+    (tally-end args.low args.high args.room (page_at args.table.now args.page) args.entries loop.j loop.found c.loop-test.false)
     ∙
-    (loop.invariant.1 ∙ tally-start args.low args.high args.room (pageAt args.table.now args.page) args.entries args.count)
+    (loop.invariant.1 ∙ tally-start args.low args.high args.room (page_at args.table.now args.page) args.entries args.count)
 
 pub tally-each-spec : {M : Type 1} → statement M
 tally-each-spec =

@@ -1,6 +1,6 @@
 -- `dry::tally::tally_leaf`: a leaf within the range counts whole, any other key by key. Assumes nothing.
 use mathlib.Core.Path.{sym, ◌∙◌}
-use Rattle.dry.proofs.Tallies.{leaf_room, tally-leaf, tally-whole}
+use Rattle.dry.proofs.Tallies.{leaf_room_lem, tally_leaf_lem, tally-whole}
 use borrow.Author.Rules.{rules}
 use Rattle.dry.proofs.tally.tally_leaf.Statement.{statement}
 use Rattle.dry.proofs.tally.tally_leaf.Tie as tie
@@ -35,7 +35,7 @@ tally-each-requires : tie.Need-tally-each-requires
 tally-each-requires c κs =
     let args = c.before.before.before.before.before.before.args in
     let pre = c.before.before.before.before.before.before.requires in
-    (pre.inside, leaf_room args.table.now args.page args.head pre.read_head pre.within pre.kind)
+    (pre.inside, leaf_room_lem args.table.now args.page args.head pre.read_head pre.within pre.kind)
 
 returns-2 : tie.Need-returns-2
 returns-2 c =
@@ -43,7 +43,7 @@ returns-2 c =
     let pre = c.before.before.before.before.before.before.before.requires in
     let larger = c.before.before.before.before.larger in
     let smaller = c.before.before.before.smaller in
-    c.tally-each.ensures ∙ tally-leaf args.table.now args.page args.head pre.read_head args.a
+    c.tally-each.ensures ∙ tally_leaf_lem args.table.now args.page args.head pre.read_head args.a
     args.e args.count larger.result smaller.result pre.kind larger.ensures smaller.ensures
 
 pub tally-leaf-spec : {M : Type 1} → statement M

@@ -1,5 +1,5 @@
 -- `lines::Reader::feed` meets its contract. Assumes nothing.
-use Rattle.lines.specs.Reader.{fedOf}
+use Rattle.lines.specs.Reader.{fed_of}
 use borrow.Author.Rules.{rules}
 use Rattle.lines.proofs.Reader.feed.Statement.{statement}
 use Rattle.lines.proofs.Reader.feed.Tie as tie
@@ -59,11 +59,11 @@ enum-told-4 : tie.Need-enum-told-4
 enum-told-4 c = search rules
 
 returns : tie.Need-returns
-unfolding fedOf
+unfolding fed_of
 returns c = rw c.before.enum_told.given.1 c.feed-letter.ensures
 
 returns-2 : tie.Need-returns-2
-unfolding fedOf
+unfolding fed_of
 returns-2 c = rw c.before.before.self.given.1 c.feed-space.ensures
 
 returns-3 : tie.Need-returns-3
@@ -79,18 +79,18 @@ returns-6 : tie.Need-returns-6
 returns-6 c = rw c.before.before.self5.given.1 c.feed-record.ensures
 
 returns-7 : tie.Need-returns-7
-unfolding fedOf
+unfolding fed_of
 returns-7 c = rw c.enum-told2.given.1
 
 returns-8 : tie.Need-returns-8
-unfolding fedOf
+unfolding fed_of
 returns-8 c = rw c.before.enum-told3.given.1 c.feed-space2.ensures
 
 returns-9 : tie.Need-returns-9
 returns-9 c = rw c.before.before.self6.given.1 c.feed-page.ensures
 
 returns-10 : tie.Need-returns-10
-unfolding fedOf
+unfolding fed_of
 returns-10 c = rw c.enum-told4.given.1
 
 pub feed-spec : {M : Type 1} → statement M

@@ -1,5 +1,5 @@
 -- `lines::Reader::line` meets its contract. Assumes nothing.
-use Rattle.lines.specs.Reader.{lineIn}
+use Rattle.lines.specs.Reader.{line_in}
 use borrow.Author.Rules.{rules}
 use Rattle.lines.proofs.Reader.line.Statement.{statement}
 use Rattle.lines.proofs.Reader.line.Tie as tie
@@ -50,34 +50,34 @@ returns-2 : tie.Need-returns-2
 returns-2 c = rw c.before.before.self2.given.1 c.line-record.ensures
 
 returns-3 : tie.Need-returns-3
-unfolding lineIn
+unfolding line_in
 returns-3 c = search rules
 
 returns-4 : tie.Need-returns-4
-unfolding lineIn
+unfolding line_in
 returns-4 c = search rules
 
 returns-5 : tie.Need-returns-5
 returns-5 c = rw c.before.before.self3.given.1 c.line-page.ensures
 
 returns-6 : tie.Need-returns-6
-unfolding lineIn
+unfolding line_in
 returns-6 c = search rules
 
 returns-7 : tie.Need-returns-7
-unfolding lineIn
+unfolding line_in
 returns-7 c = search rules
 
 returns-8 : tie.Need-returns-8
-unfolding lineIn
+unfolding line_in
 returns-8 c = search rules
 
 returns-9 : tie.Need-returns-9
-unfolding lineIn
+unfolding line_in
 returns-9 c = search rules
 
 returns-10 : tie.Need-returns-10
-unfolding lineIn
+unfolding line_in
 returns-10 c = search rules
 
 pub line-spec : {M : Type 1} → statement M

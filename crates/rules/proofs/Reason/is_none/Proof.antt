@@ -1,5 +1,5 @@
 -- `rules::Reason::is_none`, case by case. Assumes nothing.
-use Rattle.rules.specs.Place.{isNone}
+use Rattle.rules.specs.Place.{is_none}
 use Rattle.std.proofs.Common.{rules}
 use Rattle.rules.proofs.Reason.is_none.Statement.{statement}
 use Rattle.rules.proofs.Reason.is_none.Tie as tie
@@ -20,23 +20,23 @@ enum-told-5 : tie.Need-enum-told-5
 enum-told-5 c = search rules
 
 returns : tie.Need-returns
-unfolding isNone
+unfolding is_none
 returns c = search rules
 
 returns-2 : tie.Need-returns-2
-unfolding isNone
+unfolding is_none
 returns-2 c = search rules
 
 returns-3 : tie.Need-returns-3
-unfolding isNone
+unfolding is_none
 returns-3 c = search rules
 
 returns-4 : tie.Need-returns-4
-unfolding isNone
+unfolding is_none
 returns-4 c = search rules
 
 returns-5 : tie.Need-returns-5
-unfolding isNone
+unfolding is_none
 returns-5 c = search rules
 
 pub is-none-spec : {M : Type 1} → statement M

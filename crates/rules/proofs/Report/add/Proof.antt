@@ -1,7 +1,7 @@
 -- `rules::Report::add`: a page that fitted adds nothing; the first reason stays.
 -- Assumes nothing.
 use Rattle.std.proofs.Common.{sym, ◌∙◌, rules}
-use Rattle.rules.specs.Place.{isNone}
+use Rattle.rules.specs.Place.{is_none}
 use Rattle.rules.specs.Report.{first_of, adds}
 use Rattle.rules.proofs.Report.add.Statement.{statement}
 use Rattle.rules.proofs.Report.add.Tie as tie
