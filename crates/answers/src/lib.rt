@@ -6,3 +6,5 @@
 // `demand1`, `levels`. The contracts of the calls are equations with the rules, so all of it holds of the code.
 //
 // Below stand `rules`, `fields` and `exchange`.
+
+#![tactic(auto)]

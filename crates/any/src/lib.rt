@@ -12,6 +12,9 @@
 // page alone.
 //
 // Below stand `tables`, which tests lengths, `keys`, and `leaves`, which steps from leaf to leaf.
+
+#![tactic(auto)]
+
 ghost use Rattle.std.specs.Prelude.{◌≡◌, true, ◌+◌, ◌*◌, ◌≤◌, length};
 ghost use Rattle.rules.specs.Layout.{page_size, leaf_room};
 ghost use Rattle.rules.specs.Table.{page_at, fit0};

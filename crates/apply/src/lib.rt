@@ -8,6 +8,9 @@
 // laws in proofs/ hold for any table and any session.
 //
 // Below stand `split`, which splits one page, and `edit`, which puts the entry.
+
+#![tactic(auto)]
+
 ghost use Rattle.std.specs.Prelude.{◌≡◌, List, ℕ, ◌+◌, ◌≤◌, ◌<◌, get_or};
 ghost use Rattle.rules.specs.Layout.{top_kind};
 ghost use Rattle.rules.specs.Marks.{taken};

@@ -8,6 +8,9 @@
 // takes one item by value and is covered.
 //
 // Below stand `tables`, which tests lengths, `insert`, and `numbers`.
+
+#![tactic(auto)]
+
 ghost use Rattle.std.specs.Prelude.{◌≡◌};
 ghost use Rattle.rules.specs.Batch;
 ghost use Rattle.batch.specs.Turns.{running, turning, begun, tried_of, turn_of, leaving};

@@ -5,6 +5,9 @@
 // and tables is `driver`'s, and a chunk of input is proved to do what its bytes do one after the other.
 //
 // Below stand `driver`, `words`, which spells the lines out, `format`, `opening` and the kit's `io`.
+
+#![tactic(auto)]
+
 ghost use Rattle.std.specs.Prelude.{◌≡◌, true, length};
 ghost use Rattle.driver.specs.Acts.{bench_bytes};
 ghost use Rattle.bench.specs.Runs.{run, stand};

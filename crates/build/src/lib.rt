@@ -7,6 +7,8 @@
 // Below stand `fields`, numbers in bytes; `entries`, entries as runs of bytes; and `rules`, whose `build` every contract
 // of a function here that others call and that writes is an equation with.
 
+#![tactic(auto)]
+
 ghost use Rattle.std.specs.Prelude.{◌≡◌, ◌+◌, ◌*◌, ◌-◌, ◌≤◌, ◌<◌, length};
 ghost use Rattle.std.proofs.lemmas.List.Edits.{sets};
 ghost use Rattle.rules.specs.Layout.{page_size, common_header, leaf_kind, last_key};

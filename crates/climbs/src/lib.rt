@@ -6,3 +6,5 @@
 // (`Leaves`).
 //
 // Below stand `rules`, `enter` and `way`, for their laws about one place and one way.
+
+#![tactic(auto)]

@@ -5,6 +5,9 @@
 // it tells whether a walk would meet damage, and the tally of what it would find.
 //
 // Below stand `dry`, which steps from leaf to leaf, and `head`, which reads entries.
+
+#![tactic(auto)]
+
 ghost use Rattle.std.specs.Prelude.{◌≡◌, true, ◌+◌, ◌*◌, ◌≤◌, ◌<◌, length, drop};
 ghost use Rattle.rules.specs.Layout.{page_size, leaf_header, cert_size, leaf_room};
 ghost use Rattle.rules.specs.Entry.{cut};

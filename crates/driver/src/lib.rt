@@ -7,6 +7,9 @@
 //
 // Below stand `lines`, which reads, `words`, for what is to be printed, `numbers`, for the number of an answer, `tables`
 // and the calls insert, lookup, sync and open.
+
+#![tactic(auto)]
+
 ghost use Rattle.std.specs.Prelude.{◌≡◌, ◌<◌, length};
 ghost use Rattle.rules.specs.Table.{page_at, set_page};
 ghost use Rattle.rules.specs.Crash.{mix, crashed};

@@ -7,6 +7,8 @@
 // Below stand `fields`, numbers in bytes; `entries`, entries as runs of bytes; and `rules`, whose `changed` or `removed`
 // every contract here is an equation with.
 
+#![tactic(auto)]
+
 ghost use Rattle.std.specs.Prelude.{◌≡◌, ◌+◌, ◌*◌, ◌≤◌, length};
 ghost use Rattle.fields.specs.Field.{put_at};
 ghost use Rattle.rules.specs.Layout.{page_size, common_header};

@@ -5,6 +5,9 @@
 // before anything of it is read.
 //
 // Below stand `sound`, which tests pages, `build`, which mends them, and `head`, which reads them.
+
+#![tactic(auto)]
+
 ghost use Rattle.std.specs.Prelude.{◌≡◌, ◌*◌, ◌<◌, length};
 ghost use Rattle.rules.specs.Layout.{page_size};
 ghost use Rattle.rules.specs.Test.{mem};

@@ -7,6 +7,8 @@
 //
 // Below stand `fields`, numbers in bytes, and `rules`, which says what the bytes of a page mean.
 
+#![tactic(auto)]
+
 ghost use Rattle.std.specs.Prelude.{◌≡◌, ◌+◌, ◌*◌, ◌-◌, ◌≤◌, ◌<◌, length, take, drop, replicate};
 ghost use Rattle.std.proofs.lemmas.List.Edits.{sets};
 ghost use Rattle.rules.specs.Layout.{cert_size, child_size};

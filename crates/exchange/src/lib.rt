@@ -7,6 +7,9 @@
 // output, for the call that writes a store's file.
 //
 // Below stand `fields`, numbers in bytes, and `rules`.
+
+#![tactic(auto)]
+
 ghost use Rattle.std.specs.Prelude.{◌≡◌, ◌+◌, ◌*◌, ◌^◌, ◌≤◌, ◌<◌, length, get_or};
 ghost use Rattle.fields.specs.Field.{le_at};
 ghost use Rattle.exchange.specs.Item.{item_for, item_at, size, count_width, put_item};

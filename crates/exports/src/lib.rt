@@ -14,6 +14,9 @@
 // leaves the numbers to `delivered`, which is covered.
 //
 // Below stand `store`, `insert`, `numbers`, `write` and `read` for the numbers of their answers, and `rules`.
+
+#![tactic(auto)]
+
 mod lean;
 
 ghost use Rattle.std.specs.Prelude.{◌≡◌};

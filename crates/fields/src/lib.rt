@@ -6,6 +6,8 @@
 // Below stands specs/Field: what a field is, at any width. The laws of proofs/ hold at every width too, and the wider
 // functions are two calls of the next narrower one, so that each is proved by cutting its field in two.
 
+#![tactic(auto)]
+
 ghost use Rattle.std.specs.Prelude.{◌≡◌, ◌+◌, ◌≤◌, length};
 ghost use Rattle.fields.specs.Field.{le_at, put_at};
 

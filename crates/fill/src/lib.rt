@@ -8,6 +8,9 @@
 // and writes no list. Each is one loop from leaf to leaf.
 //
 // Below stand `leaves` and `dry`, which step from leaf to leaf, `seek`, which finds a key on a page, and `head`.
+
+#![tactic(auto)]
+
 ghost use Rattle.std.specs.Prelude.{◌≡◌, true, min, ◌+◌, ◌-◌, ◌*◌, ◌≤◌, length};
 ghost use Rattle.rules.specs.Layout.{page_size, leaf_header, cert_size, leaf_room, last_key};
 ghost use Rattle.rules.specs.Entry.{rising};

@@ -4,3 +4,5 @@
 // stands there nothing could. proofs/ shows it of every file that is refused.
 //
 // Below stands `exchange`.
+
+#![tactic(auto)]

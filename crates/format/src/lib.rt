@@ -4,6 +4,9 @@
 // changes no byte.
 //
 // Below stand `fields`, `rules` and `tables`.
+
+#![tactic(auto)]
+
 ghost use Rattle.std.specs.Prelude.{◌≡◌, ◌≤◌, length};
 ghost use Rattle.rules.specs.Format;
 ghost use Rattle.rules.specs.Page.{blank, build_bytes};

@@ -5,6 +5,9 @@
 // above has to cut a table. Numbers and sizes are document 01's.
 //
 // Below stand `fields`, numbers in bytes, and `rules`, the definitions.
+
+#![tactic(auto)]
+
 ghost use Rattle.std.specs.Prelude.{◌≡◌, ◌+◌, ◌*◌, ◌≤◌, ◌<◌, length, drop, get_or};
 ghost use Rattle.rules.specs.Layout.{page_size, common_header, leaf_header, inner_header, cert_size, child_size, leaf_room, inner_room};
 ghost use Rattle.rules.specs.Table.{page_at, fit0, number0, set_number, set_root};

@@ -7,6 +7,9 @@
 //
 // Below stand `tables`, which tests lengths, `keys`, `way`, which walks, `lookup`, which finds a key in a leaf, `plan`,
 // which decides, and `apply`, which splits pages, puts the entry and has the marks.
+
+#![tactic(auto)]
+
 ghost use Rattle.std.specs.Prelude.{◌≡◌, ◌+◌, ◌*◌, ◌≤◌, length};
 ghost use Rattle.rules.specs.Layout.{page_size};
 ghost use Rattle.rules.specs.Entry.{find};

@@ -4,6 +4,9 @@
 // key is too large and no two certificates share one.
 //
 // Below stands `rules`.
+
+#![tactic(auto)]
+
 ghost use Rattle.std.specs.Prelude.{◌≡◌};
 ghost use Rattle.rules.specs.Key.{key_of, good_parts};
 

@@ -10,6 +10,9 @@
 // many of the leaf's keys are not above a last one, guessed while the leaf is tested, as `way` guesses.
 //
 // Below stand `way`, which goes one page down, and `enter`, which enters one place.
+
+#![tactic(auto)]
+
 ghost use Rattle.std.specs.Prelude.{◌≡◌, true, ◌+◌, ◌*◌, ◌≤◌, length};
 ghost use Rattle.std.proofs.Math.Option.{some};
 ghost use Rattle.rules.specs.Layout.{page_size, leaf_header, cert_size, leaf_room};

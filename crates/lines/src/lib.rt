@@ -6,6 +6,9 @@
 // `reader_reads` of proofs/Reading.antt.
 //
 // Nothing stands below.
+
+#![tactic(auto)]
+
 ghost use Rattle.std.specs.Prelude.{◌≡◌};
 ghost use Rattle.lines.specs.Reader.{grown_of, after_issue, letter_fed, space_fed, start_of, fed_of, line_in};
 

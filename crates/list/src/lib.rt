@@ -10,6 +10,9 @@
 // every session that has them it does what `list` does.
 //
 // Below stand `tables`, which tests lengths, `dry`, the dry walk, and `fill`, which fills and mends.
+
+#![tactic(auto)]
+
 ghost use Rattle.std.specs.Prelude.{◌≡◌, true, min, ◌*◌, ◌≤◌, length};
 ghost use Rattle.rules.specs.Layout.{page_size, most_pages, last_key};
 ghost use Rattle.rules.specs.Table.{fit0};

@@ -12,6 +12,9 @@
 // that a lookup searches no page a second time.
 //
 // Below stand `tables`, which tests lengths, `keys`, `way`, which walks, and `seek`, which finds a key on a page.
+
+#![tactic(auto)]
+
 ghost use Rattle.std.specs.Prelude.{◌≡◌, true, ◌+◌, ◌*◌, ◌≤◌, length, drop};
 ghost use Rattle.rules.specs.Layout.{page_size, leaf_header, cert_size, leaf_room};
 ghost use Rattle.rules.specs.Entry.{keys, find, rising};

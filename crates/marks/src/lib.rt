@@ -5,6 +5,9 @@
 // numbers and that a count is within its array, its callers have tested.
 //
 // Below stands `rules`: the session and its moves.
+
+#![tactic(auto)]
+
 ghost use Rattle.std.specs.Prelude.{◌≡◌, ◌<◌, ◌≤◌};
 ghost use Rattle.rules.specs.Layout.{most_pages};
 ghost use Rattle.rules.specs.Test.{mem};

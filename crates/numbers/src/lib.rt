@@ -3,6 +3,9 @@
 // The calls answer with enums. Callers in C and the bench program go by numbers, and both take them from here.
 //
 // Below stands `rules`.
+
+#![tactic(auto)]
+
 ghost use Rattle.std.specs.Prelude.{◌≡◌};
 ghost use Rattle.rules.specs.Report.{reason_no};
 ghost use Rattle.rules.specs.Batch.{batched_no};

@@ -5,6 +5,9 @@
 // the stable table gets one page write: its number.
 //
 // Below stand `tables`, `head`, `seen`, which walks the tree, `marks`, which makes the session, and `rules`.
+
+#![tactic(auto)]
+
 ghost use Rattle.std.specs.Prelude.{◌≡◌, ◌≤◌};
 ghost use Rattle.rules.specs.Layout.{most_pages};
 ghost use Rattle.rules.specs.Open.{opening};

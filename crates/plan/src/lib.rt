@@ -5,6 +5,9 @@
 // pages split from the leaf up as far as one stands above the other, so their number says all.
 //
 // Below stand `way`, the pages entered, and `marks`, which chooses the lowest free numbers.
+
+#![tactic(auto)]
+
 ghost use Rattle.std.specs.Prelude.{◌≡◌, ◌≤◌, ◌<◌, take, get_or};
 ghost use Rattle.rules.specs.Layout.{most_pages};
 ghost use Rattle.plan.specs.Plan.{heads_of, full_by, splits_by, late_by, too_soon_by, entered_of, need_by, stuck_by, chosen_by, Planning, plan_of};

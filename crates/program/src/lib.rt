@@ -6,3 +6,5 @@
 // `line_event`, that a line is an event of the rules' histories, so that demand 3 speaks of the bench program's store.
 //
 // Below stand `rules`, `lines`, `words` and `driver`.
+
+#![tactic(auto)]

@@ -8,6 +8,9 @@
 //
 // Below stand `tables`, which tests lengths, `exchange`, which judges a file and finds its certificates, `insert`, and
 // `numbers`.
+
+#![tactic(auto)]
+
 ghost use Rattle.std.specs.Prelude.{◌≡◌, ◌+◌, ◌<◌};
 ghost use Rattle.exchange.specs.Judged.{checked};
 ghost use Rattle.exchange.specs.Told.{certs_in};

@@ -10,3 +10,5 @@
 //
 // Below stand `rules`, which the promises are about, `answers`, which follows a walk place by place, and the laws of
 // `enter`, `way` and `apply` on tables of any bytes.
+
+#![tactic(auto)]

@@ -5,3 +5,5 @@
 //
 // Below stand `exchange`, which has the file and the rule of the call that reads it, and `reading`, by whose theorems
 // every store of a history answers by one list of certificates.
+
+#![tactic(auto)]

@@ -7,6 +7,9 @@
 // enum of answers for each call.
 //
 // Below stands `fields`: numbers in bytes.
+
+#![tactic(auto)]
+
 ghost use Rattle.std.specs.Prelude.{◌≡◌, ◌<◌};
 ghost use Rattle.rules.specs.Place.{is_none};
 ghost use Rattle.rules.specs.Report.{nothing, adds};

@@ -5,6 +5,9 @@
 // set, put one after the other behind the counts, leave the set's file over the output.
 //
 // Below stand `exchange`, which writes one item, `counts`, which keeps the tally, `head` and `fields`.
+
+#![tactic(auto)]
+
 ghost use Rattle.std.specs.Prelude.{◌≡◌, ◌+◌, ◌*◌, ◌-◌, ◌≤◌, length, drop};
 ghost use Rattle.rules.specs.Layout.{page_size, leaf_header, cert_size, leaf_room};
 ghost use Rattle.rules.specs.Entry.{cut};

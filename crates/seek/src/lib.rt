@@ -11,6 +11,9 @@
 // guess after two comparisons; one that is not the spot is sought again.
 //
 // Below stand `fields`, numbers in bytes, and `entries`, entries as runs of bytes.
+
+#![tactic(auto)]
+
 ghost use Rattle.std.specs.Prelude.{◌≡◌, true, ◌+◌, ◌*◌, ◌≤◌, eqb, leb, length};
 ghost use Rattle.rules.specs.Layout.{page_size};
 ghost use Rattle.rules.specs.Entry.{rising};

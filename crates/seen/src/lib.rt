@@ -7,6 +7,9 @@
 // falls, and within a level the entries left.
 //
 // Below stand `sound`, which tests a page against a place, `head`, which reads headers and entries, and `rules`.
+
+#![tactic(auto)]
+
 ghost use Rattle.std.specs.Prelude.{◌≡◌, ℕ, ◌+◌, ◌-◌, ◌*◌, ◌<◌, ◌≤◌, true, false, List, length, slice_index_or, slice_set};
 ghost use Rattle.rules.specs.Layout.{page_size, inner_room};
 ghost use Rattle.rules.specs.Entry.{Cert, cut};

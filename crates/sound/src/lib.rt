@@ -6,6 +6,9 @@
 // every way is tested and a round has a cost of its own.
 //
 // Below stand `head`, which reads headers and entries, and `rules`, the definitions.
+
+#![tactic(auto)]
+
 ghost use Rattle.std.specs.Prelude.{◌≡◌, ◌+◌, ◌*◌, ◌≤◌, ◌&&◌, length, drop, nat_lt};
 ghost use Rattle.rules.specs.Layout.{page_size, leaf_header, inner_header, cert_size, child_size};
 ghost use Rattle.rules.specs.Key.{good_key};

@@ -8,6 +8,9 @@
 //
 // Below stand `build`, which makes the new pages, `edit`, which makes one entry two, `head`, which names the new root
 // in page 0, and the session's own moves.
+
+#![tactic(auto)]
+
 ghost use Rattle.std.specs.Prelude.{◌≡◌, ◌<◌};
 ghost use Rattle.rules.specs.Layout.{most_pages};
 ghost use Rattle.rules.specs.Marks.{taken};

@@ -46,6 +46,9 @@
 // numbers what the call promises: the same answer, report and bytes.
 //
 // Below stand the calls, a crate each.
+
+#![tactic(auto)]
+
 ghost use Rattle.std.specs.Prelude.{◌≡◌};
 ghost use Rattle.rules.specs.Batch;
 ghost use Rattle.rules.specs.Format;

@@ -4,6 +4,9 @@
 // A refused sync changes nothing. The stable table is written once, from its first byte to its last.
 //
 // Below stand `fields`, `rules`, `tables` and `marks`.
+
+#![tactic(auto)]
+
 ghost use Rattle.std.specs.Prelude.{◌≡◌};
 ghost use Rattle.rules.specs.Sync;
 ghost use Rattle.sync.specs.Syncs.{left};

@@ -4,6 +4,9 @@
 // `clear` change each byte of a table.
 //
 // Below stands `rules`.
+
+#![tactic(auto)]
+
 ghost use Rattle.std.specs.Prelude.{◌≡◌, length, replicate};
 ghost use Rattle.rules.specs.Table.{good_lengths};
 ghost use Rattle.rules.specs.Call.{lengths_for};

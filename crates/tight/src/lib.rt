@@ -5,3 +5,5 @@
 // lent to be written.
 //
 // Nothing stands below it.
+
+#![tactic(auto)]

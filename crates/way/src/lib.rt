@@ -8,6 +8,9 @@
 // confirmed there.
 //
 // Below stand `enter`, which enters one place, and `seek`, which finds a key on a page.
+
+#![tactic(auto)]
+
 ghost use Rattle.std.specs.Prelude.{◌≡◌, true, [], ◌+◌, ◌*◌, ◌-◌, ◌≤◌, ◌<◌, length, drop};
 ghost use Rattle.std.proofs.Math.Option.{some};
 ghost use Rattle.rules.specs.Layout.{page_size, inner_header, child_size};

@@ -8,6 +8,9 @@
 // Below stand `tables`, which tests lengths, `keys`, `leaves`, which goes down to the key's leaf, `lookup`, which finds
 // a key in a leaf, and `edit`, which takes the entry out. A lookup goes down by `way` instead: what two calls share is a
 // function of its own in the object code, and lookup would pay for that.
+
+#![tactic(auto)]
+
 ghost use Rattle.std.specs.Prelude.{◌≡◌, true, List, ℕ, ◌*◌, length};
 ghost use Rattle.rules.specs.Layout.{page_size};
 ghost use Rattle.rules.specs.Table.{fit0};

@@ -4,6 +4,9 @@
 // words of document 01 letter by letter.
 //
 // Nothing stands below.
+
+#![tactic(auto)]
+
 ghost use Rattle.std.specs.Prelude.{◌≡◌, ◌+◌, ◌≤◌, ◌<◌};
 ghost use Rattle.words.specs.Words.{text_size, answer_line, digits_of, text_in, text_of, pushed, pushed_all};
 

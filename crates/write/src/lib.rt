@@ -12,6 +12,9 @@
 //
 // Below stand `tables`, which tests lengths, `counts`, which counts, `sections`, which writes a leaf's certificates,
 // `fill`, whose walk only mends, `leaves`, which steps from leaf to leaf, and `exchange`, the form of the file.
+
+#![tactic(auto)]
+
 ghost use Rattle.std.specs.Prelude.{◌≡◌, true, ◌*◌, ◌≤◌, length};
 ghost use Rattle.rules.specs.Layout.{page_size, most_pages, last_key};
 ghost use Rattle.rules.specs.Table.{fit0};
