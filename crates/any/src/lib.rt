@@ -38,7 +38,7 @@ fn holds(t: &[u8], i: u16, spot: usize, low: u64) -> bool
 }
 
 // What a walk up to the first certificate comes to: the answer, and what was mended.
-#[derive(Drop)]
+#[derive(Clone, Copy)]
 pub struct Sought {
     pub answer: Any,
     pub report: Report,

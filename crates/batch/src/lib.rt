@@ -18,7 +18,7 @@ ghost use Rattle.batch.specs.Turns.{running, turning, begun, tried_of, turn_of, 
 use rules::{Batched, Batching, Item, Report, Session};
 
 // An item with its answer, and what the call would hand back now.
-#[derive(Drop)]
+#[derive(Clone, Copy)]
 pub struct Turned {
     pub item: Item,
     pub made: Batching,

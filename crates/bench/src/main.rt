@@ -23,7 +23,7 @@ const BYTES: usize = 2560;
 const CHUNK: usize = 512;
 
 // What a chunk of input leaves; `on` says whether there may be more.
-#[derive(Drop)]
+#[derive(Clone, Copy)]
 struct Fed {
     bench: Bench,
     on: bool,

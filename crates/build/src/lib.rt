@@ -89,7 +89,7 @@ fn build_range(
 }
 
 // Which entries of a page have keys in a range: from the first of them up to the first one past them.
-#[derive(Drop)]
+#[derive(Clone, Copy)]
 struct Run {
     first: usize,
     past: usize,

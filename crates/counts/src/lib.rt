@@ -20,7 +20,7 @@ use head::{cert_key_at, head_at};
 use rules::{Asked, LAST_KEY, MOST};
 
 // How many there are so far, and the last key; 0 is no key.
-#[derive(Drop)]
+#[derive(Clone, Copy)]
 pub struct Tally {
     pub models: usize,
     pub meters: usize,
@@ -29,7 +29,7 @@ pub struct Tally {
 }
 
 // What a walk over all keys will find, if it meets no damaged place.
-#[derive(Drop)]
+#[derive(Clone, Copy)]
 pub struct Ahead {
     pub whole: bool,
     pub tally: Tally,

@@ -27,14 +27,14 @@ const PAGES: usize = 5;
 const NEWLINE: u8 = 10;
 
 // What a line leaves beside the tables: what is to be printed, and the session.
-#[derive(Drop)]
+#[derive(Clone, Copy)]
 pub struct Turn {
     pub reply: Reply,
     pub session: Session,
 }
 
 // Between two bytes: where the reader is, whether its line has begun, and the session.
-#[derive(Drop)]
+#[derive(Clone, Copy)]
 pub struct Bench {
     pub reader: Reader,
     pub begun: bool,
@@ -42,7 +42,7 @@ pub struct Bench {
 }
 
 // What a byte leaves beside the tables.
-#[derive(Drop)]
+#[derive(Clone, Copy)]
 pub struct Step {
     pub reply: Reply,
     pub bench: Bench,

@@ -34,7 +34,7 @@ use tally::tally_leaf;
 
 // What a dry walk has found so far: whether it met no damaged place, how many certificates there are, and which numbers
 // it would have mended.
-#[derive(Drop)]
+#[derive(Clone, Copy)]
 pub struct Dry {
     pub whole: bool,
     pub count: usize,
@@ -42,14 +42,14 @@ pub struct Dry {
 }
 
 // The page that shows a place: the child, or the previous page that it would be mended from. Or the place is damaged.
-#[derive(Drop)]
+#[derive(Clone, Copy)]
 pub enum Source {
     Page(u16),
     Damaged,
 }
 
 // What a place comes to: it is passed, it shows a leaf or entries, or it is damaged.
-#[derive(Drop)]
+#[derive(Clone, Copy)]
 pub enum Met {
     Passed,
     Leaf(u16),
@@ -59,7 +59,7 @@ pub enum Met {
 
 // The way of a walk: the entries left of the root and of the page under it that was entered last, the numbers of the
 // two, and where the lower one's range ends; the root's is every key. Before the first step the root itself is left.
-#[derive(Drop)]
+#[derive(Clone, Copy)]
 pub struct Cursor {
     pub fresh: bool,
     pub root: u16,
@@ -70,7 +70,7 @@ pub struct Cursor {
 }
 
 // A leaf that a walk has come to: the page that shows it, the place that asks for it, and the way behind it.
-#[derive(Drop)]
+#[derive(Clone, Copy)]
 pub struct LeafAt {
     pub page: u16,
     pub place: Place,
@@ -78,7 +78,7 @@ pub struct LeafAt {
 }
 
 // A place that is next: its level, the pages above it, and the way behind it.
-#[derive(Drop)]
+#[derive(Clone, Copy)]
 pub struct Spot {
     pub level: usize,
     pub parent: u16,
@@ -87,14 +87,14 @@ pub struct Spot {
     pub rest: Cursor,
 }
 
-#[derive(Drop)]
+#[derive(Clone, Copy)]
 pub enum Due {
     At(Spot),
     None,
 }
 
 // What a step comes to: the way goes on, it has come to a leaf, it is at its end, or it met a damaged place.
-#[derive(Drop)]
+#[derive(Clone, Copy)]
 pub enum Step {
     On(Cursor),
     Leaf(LeafAt),

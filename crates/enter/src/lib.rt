@@ -19,14 +19,14 @@ use head::Head;
 use rules::{Place, Reason};
 
 // The pages above on the way from the root, at most two; 0, which is never a child, stands for none.
-#[derive(Drop)]
+#[derive(Clone, Copy)]
 pub struct Above {
     pub parent: u16,
     pub top: u16,
 }
 
 // The page entered, by its header, with the reason why it was mended, or none; or the place is damaged.
-#[derive(Drop)]
+#[derive(Clone, Copy)]
 pub enum Entered {
     Page(Head, Reason),
     Damaged,

@@ -22,7 +22,7 @@ use fields::{get16, get32, put16, put32};
 use rules::{Report, Session};
 
 // The file's sections, in its order.
-#[derive(Drop)]
+#[derive(Clone, Copy)]
 pub enum Section {
     Models,
     Meters,
@@ -30,27 +30,27 @@ pub enum Section {
 }
 
 // Nothing bad, or the byte where the first bad item begins.
-#[derive(Drop)]
+#[derive(Clone, Copy)]
 pub enum Judged {
     Fine,
     Bad(usize),
 }
 
 // How many certificates an accepted file tells of, or the byte where the first bad item begins.
-#[derive(Drop)]
+#[derive(Clone, Copy)]
 pub enum Checked {
     Good(u32),
     Bad(usize),
 }
 
 // A meter, and a certificate, as an accepted file tells of them.
-#[derive(Drop)]
+#[derive(Clone, Copy)]
 pub struct Meter {
     pub model: u16,
     pub serial: u32,
 }
 
-#[derive(Drop)]
+#[derive(Clone, Copy)]
 pub struct Certificate {
     pub model: u16,
     pub serial: u32,
@@ -60,7 +60,7 @@ pub struct Certificate {
 
 // The answers of the call that reads a file into a store: how many certificates were done, or the byte where the first
 // bad item begins.
-#[derive(Drop)]
+#[derive(Clone, Copy)]
 pub enum Read {
     Done(u32),
     Length,
@@ -68,7 +68,7 @@ pub enum Read {
 }
 
 // What that call hands back.
-#[derive(Drop)]
+#[derive(Clone, Copy)]
 pub struct Reading {
     pub answer: Read,
     pub report: Report,

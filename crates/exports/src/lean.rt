@@ -15,7 +15,7 @@ ghost use Rattle.exports.specs.Leaves as C;
 ghost use Rattle.exports.specs.Lean;
 
 #[repr(C)]
-#[derive(Drop)]
+#[derive(Clone, Copy)]
 pub struct KhLeanLooked {
     pub answer: u32,
     pub record: u32,
@@ -24,7 +24,7 @@ pub struct KhLeanLooked {
 }
 
 #[repr(C)]
-#[derive(Drop)]
+#[derive(Clone, Copy)]
 pub struct KhLeanNewest {
     pub answer: u32,
     pub issue: u32,
@@ -34,7 +34,7 @@ pub struct KhLeanNewest {
 }
 
 #[repr(C)]
-#[derive(Drop)]
+#[derive(Clone, Copy)]
 pub struct KhLeanAny {
     pub answer: u32,
     pub any: u32,
@@ -43,7 +43,7 @@ pub struct KhLeanAny {
 }
 
 #[repr(C)]
-#[derive(Drop)]
+#[derive(Clone, Copy)]
 pub struct KhLeanListed {
     pub answer: u32,
     pub count: u64,
@@ -52,7 +52,7 @@ pub struct KhLeanListed {
 }
 
 #[repr(C)]
-#[derive(Drop)]
+#[derive(Clone, Copy)]
 pub struct KhLeanWritten {
     pub answer: u32,
     pub length: u64,

@@ -33,14 +33,14 @@ ghost use Rattle.exports.specs.Leaves as C;
 use rules::{Batching, Item, Session};
 
 #[repr(C)]
-#[derive(Drop)]
+#[derive(Clone, Copy)]
 pub struct KhAnswered {
     pub answer: u32,
     pub session: Session,
 }
 
 #[repr(C)]
-#[derive(Drop)]
+#[derive(Clone, Copy)]
 pub struct KhChanged {
     pub answer: u32,
     pub mended: u32,
@@ -49,7 +49,7 @@ pub struct KhChanged {
 }
 
 #[repr(C)]
-#[derive(Drop)]
+#[derive(Clone, Copy)]
 pub struct KhRead {
     pub answer: u32,
     pub done: u32,
@@ -60,7 +60,7 @@ pub struct KhRead {
 }
 
 #[repr(C)]
-#[derive(Drop)]
+#[derive(Clone, Copy)]
 pub struct KhLooked {
     pub answer: u32,
     pub record: u32,
@@ -70,7 +70,7 @@ pub struct KhLooked {
 }
 
 #[repr(C)]
-#[derive(Drop)]
+#[derive(Clone, Copy)]
 pub struct KhNewest {
     pub answer: u32,
     pub issue: u32,
@@ -81,7 +81,7 @@ pub struct KhNewest {
 }
 
 #[repr(C)]
-#[derive(Drop)]
+#[derive(Clone, Copy)]
 pub struct KhAny {
     pub answer: u32,
     pub any: u32,
@@ -91,7 +91,7 @@ pub struct KhAny {
 }
 
 #[repr(C)]
-#[derive(Drop)]
+#[derive(Clone, Copy)]
 pub struct KhListed {
     pub answer: u32,
     pub count: u64,
@@ -101,7 +101,7 @@ pub struct KhListed {
 }
 
 #[repr(C)]
-#[derive(Drop)]
+#[derive(Clone, Copy)]
 pub struct KhWritten {
     pub answer: u32,
     pub length: u64,

@@ -25,7 +25,7 @@ use leaves::Stepped;
 use rules::{Asked, CERT, LEAF_HEADER, MOST, PAGE, Report};
 
 // How many certificates were written, and what was mended on the way.
-#[derive(Drop)]
+#[derive(Clone, Copy)]
 pub struct Filled {
     pub count: usize,
     pub report: Report,

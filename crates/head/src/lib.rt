@@ -23,7 +23,7 @@ use rules::{
 };
 
 // The header of a page.
-#[derive(Drop)]
+#[derive(Clone, Copy)]
 pub struct Head {
     pub kind: u16,
     pub count: u16,
@@ -35,7 +35,7 @@ pub struct Head {
 }
 
 // An entry of an inner page: the child's low, and what the page says of the child.
-#[derive(Drop)]
+#[derive(Clone, Copy)]
 pub struct ChildEntry {
     pub key: u64,
     pub child: u16,
@@ -44,7 +44,7 @@ pub struct ChildEntry {
 }
 
 // The fields of page 0.
-#[derive(Drop)]
+#[derive(Clone, Copy)]
 pub struct Zero {
     pub kind: u16,
     pub n: u16,

@@ -29,7 +29,7 @@ use rules::{CERT, LEAF, LEAF_HEADER, LEVELS, PAGE, Place, Report};
 
 // A leaf that was stepped to: its number and count, where its range ends, how many of its keys are not above the last
 // one wanted, the cursor behind it, and the report so far.
-#[derive(Drop)]
+#[derive(Clone, Copy)]
 pub struct Leaf {
     pub child: u16,
     pub count: u16,
@@ -39,7 +39,7 @@ pub struct Leaf {
     pub report: Report,
 }
 
-#[derive(Drop)]
+#[derive(Clone, Copy)]
 pub enum Stepped {
     Leaf(Leaf),
     Damaged(Report),

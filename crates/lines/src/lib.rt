@@ -16,7 +16,7 @@ const SPACE: u8 = 32;
 
 // A line asks for an insert, a find, a sync, or a crash with some of the five pages written; one of any other shape
 // asks for nothing.
-#[derive(Drop)]
+#[derive(Clone, Copy)]
 pub enum Line {
     Insert(u16, u32, u16, u32),
     Find(u16, u32, u16),
@@ -27,7 +27,7 @@ pub enum Line {
 
 // Where a reader is. `Certificate` stands behind the letter of an insert (true) or a find; the four numbers follow,
 // each with those before it, whether it has begun, and its value so far. `Other` is behind a line of any other shape.
-#[derive(Drop)]
+#[derive(Clone, Copy)]
 pub enum Reader {
     Start,
     Certificate(bool),
@@ -42,7 +42,7 @@ pub enum Reader {
 }
 
 // A number with a digit more, if the byte is a digit and the number stays within its limit.
-#[derive(Drop)]
+#[derive(Clone, Copy)]
 enum Grown {
     To(u32),
     Not,

@@ -25,7 +25,7 @@ ghost use Rattle.list.specs.Lists.{beside, leaving, telling, told};
 use rules::{Asked, LAST_KEY, Listed, Listing, Report, Session};
 
 // An answer, and what was mended on the way.
-#[derive(Drop)]
+#[derive(Clone, Copy)]
 pub struct Sought {
     pub answer: Listed,
     pub report: Report,

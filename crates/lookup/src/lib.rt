@@ -77,7 +77,7 @@ pub fn find_at(table: &[u8], leaf: Step, key: u64) -> Looked
 }
 
 // What a search along a way comes to: the answer, and what was mended.
-#[derive(Drop)]
+#[derive(Clone, Copy)]
 pub struct Sought {
     pub answer: Looked,
     pub report: Report,

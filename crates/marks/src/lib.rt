@@ -78,7 +78,7 @@ pub fn opened(n: u16, c: u32, total: u32, children: [bool; MOST], spared: [bool;
 }
 
 // The pages that an insert has entered: a way from the root has at most three.
-#[derive(Drop)]
+#[derive(Clone, Copy)]
 pub struct Entered {
     pub pages: [u16; 3],
     pub count: usize,
@@ -111,7 +111,7 @@ fn counts(s: Session, e: Entered, i: u16) -> bool
 }
 
 // What a search for a free page finds.
-#[derive(Drop)]
+#[derive(Clone, Copy)]
 pub enum Free {
     Page(u16),
     Nothing,
@@ -135,7 +135,7 @@ pub fn first_free(s: Session, e: Entered, from: u16) -> Free
 
 // The numbers for the new pages of one insert, lowest first, and how many there are. No insert needs more than seven:
 // two halves at each of three levels, and a root.
-#[derive(Drop)]
+#[derive(Clone, Copy)]
 pub struct Chosen {
     pub pages: [u16; 7],
     pub count: usize,

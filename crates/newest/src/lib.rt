@@ -56,7 +56,7 @@ fn last_on(table: &[u8], i: u16, spot: usize, low: u64, newest: Newest) -> Newes
 }
 
 // What a walk over a range comes to: the answer, and what was mended.
-#[derive(Drop)]
+#[derive(Clone, Copy)]
 pub struct Sought {
     pub answer: Newest,
     pub report: Report,

@@ -17,7 +17,7 @@ use marks::{Chosen, Entered};
 use rules::{INNER_ROOM, LEAF, LEAF_ROOM, Session, TOP};
 use way::Way;
 
-#[derive(Drop)]
+#[derive(Clone, Copy)]
 pub enum Planned {
     Present,
     SyncFirst,

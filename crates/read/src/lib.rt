@@ -22,7 +22,7 @@ use exchange::{Certificate, Checked, Read, Reading};
 use rules::{Report, Session};
 
 // What stands between two certificates, beside the working table: how many were done, the report so far, and the session.
-#[derive(Drop)]
+#[derive(Clone, Copy)]
 pub struct Made {
     pub done: u32,
     pub report: Report,

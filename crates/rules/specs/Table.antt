@@ -39,7 +39,7 @@ pages t = length t / page_size
 unfoldable pub good_lengths : List ℕ → List ℕ → Bool
 good_lengths w s =
     every
-    (length w == length s
+    (((length w == length s))
     ∷ (length w % page_size == 0)
     ∷ between fewest_pages most_pages (pages w)
     ∷ [])
@@ -85,7 +85,7 @@ beside_number t = take 4 (page_at t 0) ++ drop 8 (page_at t 0)
 unfoldable pub fit0 : ℕ → List ℕ → Bool
 fit0 n t =
     every
-    (kind0 t == zero_kind
+    ((kind0 t == zero_kind)
     ∷ (n0 t == n)
     ∷ between 1 (n - 1) (root0 t)
     ∷ nat_lt (previous0 t) n

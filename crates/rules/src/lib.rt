@@ -108,7 +108,7 @@ pub const LAST_NUMBER: u32 = 4294967293;
 
 // A place: what a parent's entry asks of its child. want is the kind asked for; 0 asks for any, as page 0 does of the
 // root.
-#[derive(Drop)]
+#[derive(Clone, Copy)]
 pub struct Place {
     pub child: u16,
     pub previous: u16,
@@ -119,7 +119,7 @@ pub struct Place {
 }
 
 // What a walk is asked for: a range of keys, and how many certificates there is room for.
-#[derive(Drop)]
+#[derive(Clone, Copy)]
 pub struct Asked {
     pub low: u64,
     pub high: u64,
@@ -127,7 +127,7 @@ pub struct Asked {
 }
 
 // Why a page is lost: the first test that it fails, in this order; none of a page that fits.
-#[derive(Drop)]
+#[derive(Clone, Copy)]
 pub enum Reason {
     None,
     Soundness,
@@ -151,7 +151,7 @@ impl Reason {
 }
 
 // What a call that walks reports: how many pages it mended, and the reason for the first.
-#[derive(Drop)]
+#[derive(Clone, Copy)]
 pub struct Report {
     pub mended: u32,
     pub reason: Reason,
@@ -208,7 +208,7 @@ impl Report {
 // What is handed in and handed back with each call: the number of pages, the counter, the number of certificates, and for
 // each page whether it is free and whether it is waiting. It is laid out as C lays it out, for callers in C.
 #[repr(C)]
-#[derive(Drop)]
+#[derive(Clone, Copy)]
 pub struct Session {
     pub n: u16,
     pub c: u32,
@@ -273,7 +273,7 @@ impl Session {
 
 // An item of a batch: a certificate to be inserted, and a place for its answer's number. It is laid out as C lays it out.
 #[repr(C)]
-#[derive(Drop)]
+#[derive(Clone, Copy)]
 pub struct Item {
     pub model: u16,
     pub serial: u32,
@@ -284,13 +284,13 @@ pub struct Item {
 
 // One enum for each call: the answers that it can give, with the numbers beside them.
 
-#[derive(Drop)]
+#[derive(Clone, Copy)]
 pub enum Formatted {
     Done,
     Length,
 }
 
-#[derive(Drop)]
+#[derive(Clone, Copy)]
 pub enum Opened {
     Done,
     Length,
@@ -298,7 +298,7 @@ pub enum Opened {
     Spent,
 }
 
-#[derive(Drop)]
+#[derive(Clone, Copy)]
 pub enum Inserted {
     Done,
     Length,
@@ -309,7 +309,7 @@ pub enum Inserted {
     Full,
 }
 
-#[derive(Drop)]
+#[derive(Clone, Copy)]
 pub enum Withdrawn {
     Done,
     Length,
@@ -318,13 +318,13 @@ pub enum Withdrawn {
     Missing,
 }
 
-#[derive(Drop)]
+#[derive(Clone, Copy)]
 pub enum Batched {
     Done,
     Length,
 }
 
-#[derive(Drop)]
+#[derive(Clone, Copy)]
 pub enum Looked {
     Found(u32),
     Length,
@@ -333,7 +333,7 @@ pub enum Looked {
     Missing,
 }
 
-#[derive(Drop)]
+#[derive(Clone, Copy)]
 pub enum Newest {
     Found(u16, u32),
     Length,
@@ -343,7 +343,7 @@ pub enum Newest {
 }
 
 // Whether a meter has a certificate: yes and no are both done.
-#[derive(Drop)]
+#[derive(Clone, Copy)]
 pub enum Any {
     Yes,
     No,
@@ -352,14 +352,14 @@ pub enum Any {
     Damaged,
 }
 
-#[derive(Drop)]
+#[derive(Clone, Copy)]
 pub enum Listed {
     Filled(usize),
     Length,
     Damaged,
 }
 
-#[derive(Drop)]
+#[derive(Clone, Copy)]
 pub enum Synced {
     Done,
     Length,
@@ -368,62 +368,62 @@ pub enum Synced {
 
 // What a call hands back: its answer and the session, and a call that walks its report.
 
-#[derive(Drop)]
+#[derive(Clone, Copy)]
 pub struct Opening {
     pub answer: Opened,
     pub session: Session,
 }
 
-#[derive(Drop)]
+#[derive(Clone, Copy)]
 pub struct Inserting {
     pub answer: Inserted,
     pub report: Report,
     pub session: Session,
 }
 
-#[derive(Drop)]
+#[derive(Clone, Copy)]
 pub struct Withdrawing {
     pub answer: Withdrawn,
     pub report: Report,
     pub session: Session,
 }
 
-#[derive(Drop)]
+#[derive(Clone, Copy)]
 pub struct Batching {
     pub answer: Batched,
     pub report: Report,
     pub session: Session,
 }
 
-#[derive(Drop)]
+#[derive(Clone, Copy)]
 pub struct Looking {
     pub answer: Looked,
     pub report: Report,
     pub session: Session,
 }
 
-#[derive(Drop)]
+#[derive(Clone, Copy)]
 pub struct NewestOf {
     pub answer: Newest,
     pub report: Report,
     pub session: Session,
 }
 
-#[derive(Drop)]
+#[derive(Clone, Copy)]
 pub struct AnyOf {
     pub answer: Any,
     pub report: Report,
     pub session: Session,
 }
 
-#[derive(Drop)]
+#[derive(Clone, Copy)]
 pub struct Listing {
     pub answer: Listed,
     pub report: Report,
     pub session: Session,
 }
 
-#[derive(Drop)]
+#[derive(Clone, Copy)]
 pub struct Syncing {
     pub answer: Synced,
     pub session: Session,

@@ -21,7 +21,7 @@ use fields::put32;
 use head::{cert_key_at, cert_record_at};
 
 // Where the items of the last two sections begin, and where the file ends. The models begin behind the first count.
-#[derive(Drop)]
+#[derive(Clone, Copy)]
 pub struct Starts {
     pub meters: usize,
     pub certs: usize,

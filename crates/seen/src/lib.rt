@@ -25,7 +25,7 @@ use std::num::wrapping_add_u32;
 
 // What a walk has noted so far: whether every place was whole and no child named twice, how many certificates there were,
 // the numbers named as child, and the previous pages of lost entries.
-#[derive(Drop)]
+#[derive(Clone, Copy)]
 pub struct Seen {
     pub whole: bool,
     pub total: u32,
@@ -34,14 +34,14 @@ pub struct Seen {
 }
 
 // The first two of these, as they are handed on from page to page.
-#[derive(Drop)]
+#[derive(Clone, Copy)]
 pub struct Tally {
     pub whole: bool,
     pub total: u32,
 }
 
 // Entries of a page that are left to walk: so many from the first on, each asking for a child of one kind.
-#[derive(Drop)]
+#[derive(Clone, Copy)]
 pub struct Run {
     pub page: usize,
     pub first: usize,
@@ -50,7 +50,7 @@ pub struct Run {
 }
 
 // What a place shows: entries of its child or, if that is lost, of its previous page.
-#[derive(Drop)]
+#[derive(Clone, Copy)]
 pub enum Shown {
     Entries(Run),
     Damaged,

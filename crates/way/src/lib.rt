@@ -33,7 +33,7 @@ use rules::{
 };
 
 // A page entered: the place that asked for it, and its header.
-#[derive(Drop)]
+#[derive(Clone, Copy)]
 pub struct Step {
     pub place: Place,
     pub head: Head,
@@ -41,7 +41,7 @@ pub struct Step {
 
 // The pages entered, the last one first: a leaf at the end of a whole way, its parent, and the page above that. `len`
 // says how many there are.
-#[derive(Drop)]
+#[derive(Clone, Copy)]
 pub struct Way {
     pub len: usize,
     pub leaf: Step,
@@ -50,7 +50,7 @@ pub struct Way {
 }
 
 // A way, and what was mended on it.
-#[derive(Drop)]
+#[derive(Clone, Copy)]
 pub struct Went {
     pub way: Way,
     pub report: Report,
@@ -58,7 +58,7 @@ pub struct Went {
 
 // The end of a way: its leaf, how many pages were entered, and how many of the leaf's keys are not above the one sought;
 // no pages of a way that met a damaged place.
-#[derive(Drop)]
+#[derive(Clone, Copy)]
 pub struct End {
     pub len: usize,
     pub leaf: Step,
@@ -66,7 +66,7 @@ pub struct End {
 }
 
 // The end of a way, and what was mended on it.
-#[derive(Drop)]
+#[derive(Clone, Copy)]
 pub struct Ended {
     pub end: End,
     pub report: Report,

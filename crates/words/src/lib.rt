@@ -14,7 +14,7 @@ ghost use Rattle.words.specs.Words.{text_size, answer_line, digits_of, text_in, 
 const PLACES: usize = 10;
 
 // What is to be printed: nothing, the word of an answer's number, `done` with a record, or `line`.
-#[derive(Drop)]
+#[derive(Clone, Copy)]
 pub enum Reply {
     Silent,
     Answer(u32),
@@ -23,7 +23,7 @@ pub enum Reply {
 }
 
 // A line, newline and all: the first `len` of the bytes. The others are zero.
-#[derive(Drop)]
+#[derive(Clone, Copy)]
 pub struct Text {
     pub bytes: [u8; 16],
     pub len: usize,

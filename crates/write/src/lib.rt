@@ -32,7 +32,7 @@ use rules::{Asked, Report, Session};
 use sections::{Starts, put_counts, put_leaf, starts_of};
 
 // The file's length, or why there is none.
-#[derive(Drop)]
+#[derive(Clone, Copy)]
 pub enum Written {
     Done(usize),
     Length,
@@ -41,7 +41,7 @@ pub enum Written {
 }
 
 // What the call hands back.
-#[derive(Drop)]
+#[derive(Clone, Copy)]
 pub struct Writing {
     pub answer: Written,
     pub report: Report,
@@ -49,7 +49,7 @@ pub struct Writing {
 }
 
 // An answer, and what was mended on the way.
-#[derive(Drop)]
+#[derive(Clone, Copy)]
 pub struct Sought {
     pub answer: Written,
     pub report: Report,

@@ -4,7 +4,7 @@ use Rattle.std.proofs.Common.{◌≡◌, ℕ, List, [], ◌∷◌, refl, ap, ◌
 use Rattle.rules.specs.Table.{page_at}
 use Rattle.rules.specs.Key.{key_of}
 use Rattle.rules.specs.Call.{Left}
-use Rattle.rules.specs.History.{Event, inserts, withdraws, looks, asks_newest, asks_any, lists, State, after_insert, after_withdraw, after_reading, step, run, Proper, AllProper}
+use Rattle.rules.specs.History.{Event, inserts, withdraws, looks, asks_newest, asks_any, lists, State, after_insert, after_withdraw, after_reading, step, run, Proper, AllProper, crashes, crashes_in_sync, opens, syncs}
 use Rattle.rules.specs.Demand.{Reads, look, ask, ask_any, listing, lookup_now, insert_now, withdraw_now}
 use Rattle.rules.specs.Mends.{mended_now, mended_between, InTurn, no_mend}
 use Rattle.rules.specs.Quiet.{QuietCall, reads, refused_insert, refused_withdrawal, QuietCalls, no_call, call}
@@ -107,6 +107,12 @@ reads-turns m (looks model serial issue) look = lookup-turns m.working m.stable 
 reads-turns m (asks_newest model serial) ask = newest-turns m.working m.stable m.session model serial
 reads-turns m (asks_any model serial) ask_any = any-turns m.working m.stable m.session model serial
 reads-turns m (lists from ks xs) listing = list-turns m.working m.stable m.session from ks xs
+reads-turns m (inserts _ _ _ _) x5 = elim x5 [ ]
+reads-turns m (withdraws _ _ _) x5 = elim x5 [ ]
+reads-turns m syncs x3 = elim x3 [ ]
+reads-turns m opens x4 = elim x4 [ ]
+reads-turns m (crashes _ _) x7 = elim x7 [ ]
+reads-turns m (crashes_in_sync _ _) x8 = elim x8 [ ]
 
 quiet-turns : (m : State) (e : Event) → QuietCall m e → InTurn m.session.n m.session.c (mended_now e m) m.working (step e m).working
 unfolding step after_insert after_withdraw mended_now

@@ -8,7 +8,7 @@ use Rattle.rules.specs.Call.{opened_no}
 use Rattle.rules.specs.Format.{format}
 use Rattle.rules.specs.Open.{opening, open_refused, open_done}
 use Rattle.rules.specs.Crash.{mix, crashed, inside_sync}
-use Rattle.rules.specs.History.{Event, opens, crashes, crashes_in_sync, State, after_open, crash_now, crash_in_sync_now, step, start, run, Proper, AllProper}
+use Rattle.rules.specs.History.{Event, opens, crashes, crashes_in_sync, State, after_open, crash_now, crash_in_sync_now, step, start, run, Proper, AllProper, asks_any, asks_newest, inserts, lists, looks, syncs, withdraws}
 use Rattle.rules.specs.Demand.{CrashOf, between_calls, in_sync, open_answer, after, Lent}
 use Rattle.rules.specs.Quiet.{QuietCalls, Opens, plainly, after_crash, after_crash_in_sync, JustOpened, formatted, later, content_now, SameEntries, Restarted, QuietRestarts}
 use Rattle.rules.specs.declared.Session.{Session}
@@ -147,6 +147,13 @@ from {n} {m} a (crashes marks w) after_crash t =
     record { lent = w; table = crash_now marks m; sized = t; crash = between_calls marks; is = refl }
 from {n} {m} a (crashes_in_sync marks w) after_crash_in_sync t =
     record { lent = w; table = crash_in_sync_now marks m; sized = t; crash = in_sync marks; is = refl }
+from {n = n} {m = m} a (inserts _ _ _ _) x6 t = elim x6 [ ]
+from {n = n} {m = m} a (withdraws _ _ _) x6 t = elim x6 [ ]
+from {n = n} {m = m} a (looks _ _ _) x7 t = elim x7 [ ]
+from {n = n} {m = m} a (asks_newest _ _) x7 t = elim x7 [ ]
+from {n = n} {m = m} a (asks_any _ _) x8 t = elim x8 [ ]
+from {n = n} {m = m} a (lists _ _ _) x10 t = elim x10 [ ]
+from {n = n} {m = m} a syncs x8 t = elim x8 [ ]
 
 -- it is done; or it is refused, which leaves the number that is spent
 Answers : Opened → List ℕ → Type 0
@@ -191,6 +198,13 @@ unfolding step after_open
 step-fresh m opens plainly d = done-fresh m.past m.working m.stable d
 step-fresh m (crashes marks w) after_crash d = done-fresh m.past w (crash_now marks m) d
 step-fresh m (crashes_in_sync marks w) after_crash_in_sync d = done-fresh m.past w (crash_in_sync_now marks m) d
+step-fresh m (inserts _ _ _ _) x6 d = elim x6 [ ]
+step-fresh m (withdraws _ _ _) x6 d = elim x6 [ ]
+step-fresh m (looks _ _ _) x7 d = elim x7 [ ]
+step-fresh m (asks_newest _ _) x7 d = elim x7 [ ]
+step-fresh m (asks_any _ _) x8 d = elim x8 [ ]
+step-fresh m (lists _ _ _) x10 d = elim x10 [ ]
+step-fresh m syncs x8 d = elim x8 [ ]
 
 first-fresh : {n : ℕ} {w s : List ℕ} {m : State} → JustOpened n w s m → m.opened ≡ Opened.Done → Fresh m
 unfolding start after_open

@@ -7,7 +7,7 @@ use Rattle.rules.specs.Lookup.{lookup}
 use Rattle.rules.specs.Newest.{newest}
 use Rattle.rules.specs.HasAny.{has_any}
 use Rattle.rules.specs.List.{list}
-use Rattle.rules.specs.History.{Event, looks, asks_newest, asks_any, lists, State, latest, after_reading, step}
+use Rattle.rules.specs.History.{Event, looks, asks_newest, asks_any, lists, State, latest, after_reading, step, crashes, crashes_in_sync, inserts, opens, syncs, withdraws}
 use Rattle.rules.specs.Demand.{OneOf, lookup_now, newest_now, has_any_now, list_now, insert_now, withdraw_now, Reads, look, ask, ask_any, listing, SameListing, Serves}
 use Rattle.rules.specs.declared.Listed.{Listed}
 use Rattle.rules.specs.declared.Session.{Session}
@@ -64,6 +64,12 @@ module _ {n : ℕ} {m : State} (a : Alive n m) where
         left = (list_answers a.safe (calm a.safe) from ks xs).left;
         is = refl;
       }
+  reading (inserts _ _ _ _) x5 = elim x5 [ ]
+  reading (withdraws _ _ _) x5 = elim x5 [ ]
+  reading syncs x3 = elim x3 [ ]
+  reading opens x4 = elim x4 [ ]
+  reading (crashes _ _) x7 = elim x7 [ ]
+  reading (crashes_in_sync _ _) x8 = elim x8 [ ]
 
   pub alive-reads : (e : Event) → Reads e → Alive n (step e m)
   alive-reads e r =

@@ -1,0 +1,5 @@
+-- `rules::Session::uncount`: the sum wraps. Assumes nothing.
+use Rattle.rules.proofs.Session.uncount.Goals as goal
+
+pub returns : goal.returns
+returns c = rw c.wrapping_add_u32.ensures.value
