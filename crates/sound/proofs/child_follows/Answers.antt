@@ -1,0 +1,11 @@
+-- `sound::child_follows`: a key that stands behind the one before it, by what is asked of it besides. Assumes nothing.
+use Rattle.std.proofs.Common.{sym, ◌∙◌, le-ltb, lt-ltb}
+use Rattle.sound.proofs.child_follows.Goals as goal
+
+pub returns-then-key-last : goal.returns-then-key-last
+returns-then-key-last c = sym (rw (le-ltb c.args.last c.args.key c.if-key-last.true))
+
+pub returns : goal.returns
+returns c =
+    let a = c.args in
+    c.names_pages.ensures ∙ sym (rw (lt-ltb a.last a.key c.if-key-last.false))
