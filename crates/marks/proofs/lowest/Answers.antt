@@ -1,0 +1,43 @@
+-- `marks::lowest`: the loop's invariant is `Choosing`: so many are chosen, and the others lie ahead.
+-- Assumes nothing.
+use mathlib.Core.Path.{sym, ◌∙◌}
+use Prim.Native.Nat.{◌-◌}
+use Rattle.marks.specs.Lowest.{entered_by}
+use Rattle.marks.proofs.Search.{free-first}
+use Rattle.marks.proofs.Choosing.{choosing_none, choosing_more, choosing_nothing, choosing_all}
+use native.Mathlib.Omega.{arith}
+use borrow.Author.Rules.{rules}
+use Rattle.marks.proofs.lowest.Goals as goal
+
+pub loop-count-init : goal.loop-count-init
+loop-count-init c = choosing_none c.args.s (entered_by c.args.e) c.args.need
+
+pub returns-in_default : goal.returns-in_default
+returns-in_default c =
+    let a = c.args in
+    let found = sym c.first_free.ensures ∙ c.enum_told-1.given.1 in
+    choosing_nothing a.s (entered_by a.e) a.need c.loop-count.invariant found
+
+pub overflow_add-from : goal.overflow_add-from
+overflow_add-from c =
+    let pre = c.requires in
+    let loop = c.loop-count in
+    let i = c.i-1 in
+    let a = c.args in
+    let found = sym c.first_free.ensures ∙ i.given.1 in
+    omega (arith, pre, (free-first a.s (entered_by a.e) loop.from i.given.0.0 found).0)
+
+pub loop-count-preserved : goal.loop-count-preserved
+loop-count-preserved c =
+    let loop = c.loop-count in
+    let loop-test = c.loop-count-test in
+    let i = c.i-1 in
+    let a = c.args in
+    let found = sym c.first_free.ensures ∙ i.given.1 in
+    choosing_more a.s (entered_by a.e) a.need loop.invariant i.given.0.0 found loop-test.true
+    (search rules)
+
+pub returns : goal.returns
+returns c =
+    let a = c.args in
+    choosing_all a.s (entered_by a.e) a.need c.loop-count.invariant c.loop-count-test.false
