@@ -4,7 +4,8 @@
 // be printed is written as it comes. What is read and written no contract can say; what a byte does to reader, session
 // and tables is `driver`'s, and a chunk of input is proved to do what its bytes do one after the other.
 //
-// Below stand `driver`, `words`, which spells the lines out, `format`, `opening` and the kit's `io`.
+// Below stand `driver`, `words`, which spells the lines out, `format` and `opening`. Standard input and output are read
+// and written through std, in buffers of this program's own: nothing here allocates.
 
 #![tactic(auto)]
 
@@ -13,7 +14,7 @@ ghost use Rattle.driver.specs.Acts.{bench_bytes};
 ghost use Rattle.bench.specs.Runs.{run, stand};
 
 use driver::Bench;
-use libc::{STDERR_FILENO, STDIN_FILENO, STDOUT_FILENO};
+use std::io::{Read, Write};
 use words::Reply;
 
 // Five pages.
@@ -29,21 +30,23 @@ struct Fed {
     on: bool,
 }
 
-// Writes a line; nothing for a byte inside one. A line that can't be written is told on standard error, since a program
-// has no exit status of its own.
-fn print(reply: Reply) -> bool {
+// Writes a line; nothing for a byte inside one. A line that can't be written is told on standard error, and leaves the
+// exit status as it is.
+fn print(rt: HostRuntime, reply: Reply) -> bool {
     let text = words::spell(reply);
     let n = text.len;
     let bytes = text.bytes;
-    if io::write_all(STDOUT_FILENO, &bytes[..n]) {
+    if rt.stdout().write_all(&bytes[..n]).is_ok() {
         return true;
     }
-    io::write_all(STDERR_FILENO, b"bench: cannot write to standard output\n");
+    let _ = rt
+        .stderr()
+        .write_all(b"bench: cannot write to standard output\n");
     false
 }
 
 // The bytes of a chunk, one after the other, up to one whose line can't be written.
-fn feed(input: &[u8], working: &mut [u8], stable: &mut [u8], bench: Bench) -> Fed
+fn feed(rt: HostRuntime, input: &[u8], working: &mut [u8], stable: &mut [u8], bench: Bench) -> Fed
     requires { (length working.old ≡ bench_bytes) × (length stable.old ≡ bench_bytes) }
     ensures { result.on ≡ true → stand result.bench working.new stable.new
         ≡ run input.now (stand bench working.old stable.old) }
@@ -55,7 +58,7 @@ fn feed(input: &[u8], working: &mut [u8], stable: &mut [u8], bench: Bench) -> Fe
         let reply = step.reply;
         let next = step.bench;
         m = next;
-        if !print(reply) {
+        if !print(rt, reply) {
             return Fed {
                 bench: m,
                 on: false,
@@ -67,37 +70,39 @@ fn feed(input: &[u8], working: &mut [u8], stable: &mut [u8], bench: Bench) -> Fe
 }
 
 // Reads once. At the end of the input a last line without a newline is a line.
-fn read_some(working: &mut [u8], stable: &mut [u8], bench: Bench) -> Fed
+fn read_some(rt: HostRuntime, working: &mut [u8], stable: &mut [u8], bench: Bench) -> Fed
     requires { (length working.old ≡ bench_bytes) × (length stable.old ≡ bench_bytes) }
 {
     let mut chunk = [0u8; CHUNK];
-    let got = libc::read(STDIN_FILENO, &mut chunk);
-    if got < 0 {
-        io::write_all(STDERR_FILENO, b"bench: cannot read standard input\n");
-        return Fed { bench, on: false };
+    match rt.stdin().read(&mut chunk) {
+        Ok(0) => {
+            let step = bench.finish(working, stable);
+            let reply = step.reply;
+            let last = step.bench;
+            print(rt, reply);
+            Fed {
+                bench: last,
+                on: false,
+            }
+        }
+        Ok(n) => feed(rt, &chunk[..n], working, stable, bench),
+        Err(_) => {
+            let _ = rt
+                .stderr()
+                .write_all(b"bench: cannot read standard input\n");
+            Fed { bench, on: false }
+        }
     }
-    if got == 0 {
-        let step = bench.finish(working, stable);
-        let reply = step.reply;
-        let last = step.bench;
-        print(reply);
-        return Fed {
-            bench: last,
-            on: false,
-        };
-    }
-    let n = io::count(got, &chunk);
-    feed(&chunk[..n], working, stable, bench)
 }
 
 // A proved loop must end, and nothing says that the input does: the turns count down from a number that no run uses up.
-fn serve(working: &mut [u8], stable: &mut [u8], bench: Bench)
+fn serve(rt: HostRuntime, working: &mut [u8], stable: &mut [u8], bench: Bench)
     requires { (length working.old ≡ bench_bytes) × (length stable.old ≡ bench_bytes) }
 {
     let mut m = bench;
     let mut turns = u64::MAX;
     while turns > 0 {
-        let fed = read_some(working, stable, m);
+        let fed = read_some(rt, working, stable, m);
         if !fed.on {
             return;
         }
@@ -107,11 +112,11 @@ fn serve(working: &mut [u8], stable: &mut [u8], bench: Bench)
     }
 }
 
-fn main() {
+fn main(rt: HostRuntime) {
     let mut working = [0u8; BYTES];
     let mut stable = [0u8; BYTES];
     format::format(&working, &mut stable);
     let opened = opening::open(&mut working, &mut stable);
     let session = opened.session;
-    serve(&mut working, &mut stable, Bench::new(session));
+    serve(rt, &mut working, &mut stable, Bench::new(session));
 }
