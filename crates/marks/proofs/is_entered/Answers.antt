@@ -14,7 +14,7 @@ returns-then-e-j c =
     let args = c.args in
     let pre = c.requires in
     let loop = c.loop-j in
-    let e = args.t1 in
+    let e = args.e in
     let here = mem-here args.i e.pages e.count 3 (search rules) pre loop.j
     c.loop-j-test.true c.if-e-j.true in
     sym (loop.invariant.1 ∙ here)
@@ -24,7 +24,7 @@ loop-j-preserved c =
     let args = c.args in
     let pre = c.requires in
     let loop = c.loop-j in
-    let e = args.t1 in
+    let e = args.e in
     let later = mem-later args.i e.pages e.count 3 (search rules) pre loop.j
     c.loop-j-test.true c.if-e-j.false in
     (search rules, loop.invariant.1 ∙ later)
@@ -33,6 +33,6 @@ pub returns : goal.returns
 returns c =
     let args = c.args in
     let loop = c.loop-j in
-    let e = args.t1 in
+    let e = args.e in
     sym
     (loop.invariant.1 ∙ mem-end args.i e.pages e.count 3 (search rules) c.requires loop.j c.loop-j-test.false)

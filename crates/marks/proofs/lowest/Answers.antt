@@ -15,26 +15,24 @@ loop-count-init c = choosing_none c.args.s (entered_by c.args.e) c.args.need
 pub returns-in_default : goal.returns-in_default
 returns-in_default c =
     let a = c.args in
-    let found = sym c.first_free.ensures ∙ c.enum_told-1.given.1 in
+    let found = sym c.first_free.ensures ∙ c.in_default.is in
     choosing_nothing a.s (entered_by a.e) a.need c.loop-count.invariant found
 
 pub overflow_add-from : goal.overflow_add-from
 overflow_add-from c =
     let pre = c.requires in
     let loop = c.loop-count in
-    let i = c.i-1 in
     let a = c.args in
-    let found = sym c.first_free.ensures ∙ i.given.1 in
-    omega (arith, pre, (free-first a.s (entered_by a.e) loop.from i.given.0.0 found).0)
+    let found = sym c.first_free.ensures ∙ c.in-Page.is in
+    omega (arith, pre, (free-first a.s (entered_by a.e) loop.from c.in-Page.i found).0)
 
 pub loop-count-preserved : goal.loop-count-preserved
 loop-count-preserved c =
     let loop = c.loop-count in
     let loop-test = c.loop-count-test in
-    let i = c.i-1 in
     let a = c.args in
-    let found = sym c.first_free.ensures ∙ i.given.1 in
-    choosing_more a.s (entered_by a.e) a.need loop.invariant i.given.0.0 found loop-test.true
+    let found = sym c.first_free.ensures ∙ c.in-Page.is in
+    choosing_more a.s (entered_by a.e) a.need loop.invariant c.in-Page.i found loop-test.true
     (search rules)
 
 pub returns : goal.returns

@@ -23,7 +23,7 @@ pub loop-i-preserved : goal.loop-i-preserved
 loop-i-preserved c =
     let args = c.args in
     let loop = c.loop-i in
-    let free = free_at_opening args.n args.t4 args.t5 in
+    let free = free_at_opening args.n args.children args.spared in
     let i = loop.i in
     let none = marks (λ j. false) in
     let filling = filled_more free i none (omega (arith, length-marks (λ j. false), c.loop-i-test.true)) in
@@ -33,9 +33,9 @@ pub returns : goal.returns
 returns c =
     let args = c.args in
     let loop = c.loop-i in
-    let free = free_at_opening args.n args.t4 args.t5 in
+    let free = free_at_opening args.n args.children args.spared in
     let none = marks (λ j. false) in
     let i = loop.i in
     let all : i ≡ most_pages = omega (arith, loop.invariant.0, c.loop-i-test.false) in
     let filling = ap (λ (k : ℕ). filled free k none) all ∙ filled-all free none (length-marks (λ j. false)) in
-    opened_by-made args.n args.c args.total args.t4 args.t5 loop.free (loop.invariant.1 ∙ filling)
+    opened_by-made args.n args.c args.total args.children args.spared loop.free (loop.invariant.1 ∙ filling)

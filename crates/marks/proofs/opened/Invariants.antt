@@ -9,7 +9,7 @@ use Rattle.marks.proofs.Fill.{filled}
 use Rattle.marks.proofs.opened.Given as goal
 
 abbrev pub invariant-loop-i : goal.invariant-loop-i
-invariant-loop-i l = (l.i ≤ 128) × (l.free ≡ filled (free_at_opening l.n l.children l.spared) l.i (marks (λ l.i. false)))
+invariant-loop-i l = (l.i ≤ 128) × (l.free ≡ filled (free_at_opening l.n l.children l.spared) l.i (marks (λ i. false)))
 
 abbrev pub decreases-loop-i : goal.decreases-loop-i
 decreases-loop-i l = 128 - l.i

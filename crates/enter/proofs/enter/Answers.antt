@@ -1,0 +1,38 @@
+-- `enter::enter`: above, fitting, or lost.
+-- Assumes nothing.
+use mathlib.Core.Path.{sym, ap, ◌∙◌}
+use mathlib.Core.Bool.{true, false}
+use Rattle.rules.specs.Place.{is_none, fits}
+use Rattle.rules.specs.Enter as rules
+use Rattle.rules.specs.Report.{reason_at}
+use Rattle.enter.specs.Entering.{told, above_of, entering}
+use Rattle.enter.specs.declared.Entered.{Entered}
+use Rattle.enter.proofs.Mended.{head_read}
+use Rattle.enter.proofs.Told.{enter-above, enter-fits, enter-lost}
+use borrow.Author.Rules.{rules}
+use Rattle.enter.proofs.enter.Goals as goal
+
+pub returns-then-stands_above : goal.returns-then-stands_above
+returns-then-stands_above c = enter-above c.args.n c.args.c c.args.t.now c.args.e (reason_at c.args.n c.args.t.now c.args.e) (above_of c.args.above) (sym c.stands_above.ensures ∙ c.if-stands_above.true)
+
+pub returns-then-is_none : goal.returns-then-is_none
+unfolding fits reason_at
+returns-then-is_none c =
+    let args = c.args in
+    let why = c.unfit_at-reason.ensures in
+    cc (
+      ap (λ a. entering args.t.now (Entered.Page a (reason_at args.n args.t.now args.e)))
+          (head_read args.t.now args.e.child c.head_at.ensures)
+          ∙ enter-fits args.n args.c args.t.now args.e (reason_at args.n args.t.now args.e) (above_of args.above)
+          (sym c.stands_above.ensures ∙ c.if-stands_above.false) (sym (c.is_none.ensures ∙ ap is_none why) ∙ c.if-is_none.true),
+      why,
+    )
+
+pub returns : goal.returns
+unfolding fits reason_at
+returns c =
+    let args = c.args in
+    let why = c.unfit_at-reason.ensures in
+    c.mend.ensures ∙ ap (λ r. told r (rules.mend args.n args.c args.t.now args.e)) why ∙ ap (told (reason_at args.n args.t.now args.e))
+    (sym (enter-lost args.n args.c args.t.now args.e (reason_at args.n args.t.now args.e) (above_of args.above) (sym c.stands_above.ensures ∙ c.if-stands_above.false)
+    (sym (c.is_none.ensures ∙ ap is_none why) ∙ c.if-is_none.false)))

@@ -1,0 +1,41 @@
+-- `enter::mend`: damaged, or the page built and read back.
+-- Assumes nothing.
+use mathlib.Core.Path.{sym, ◌∙◌}
+use borrow.Author.Tests.{not-true, not-false}
+use Rattle.rules.specs.Table.{read}
+use Rattle.rules.proofs.Entries.Places.{mendable_true}
+use Rattle.build.proofs.Sounds.{mendable_ordered}
+use Rattle.enter.proofs.Told.{mend-damaged}
+use Rattle.enter.proofs.Mended.{mended-told}
+use native.Mathlib.Omega.{arith}
+use Rattle.enter.proofs.mend.Goals as goal
+
+pub returns-then-not-mendable_at : goal.returns-then-not-mendable_at
+returns-then-not-mendable_at c =
+    let args = c.args in
+    let mendable-at = c.mendable_at in
+    mend-damaged args.n args.c args.t.now args.e args.reason
+    (sym mendable-at.ensures ∙ not-true mendable-at.result c.if-not-mendable_at.true-raw)
+
+pub build_mended-requires : goal.build_mended-requires
+build_mended-requires c =
+    let args = c.args in
+    let mendable-at = c.mendable_at in
+    let m = sym mendable-at.ensures ∙ not-false mendable-at.result c.if-not-mendable_at.false-raw in
+    let f = mendable_true args.n args.e (read args.t.now args.e.previous) m in record { page_size_in_bounds = (omega arith, omega (arith, f.below)); ordered = mendable_ordered args.n args.e (read args.t.now args.e.previous) m }
+
+pub returns : goal.returns
+returns c =
+    let args = c.args in
+    let fits = c.ranges in
+    let pre = c.requires in
+    let slice-known = c.slice_known-1 in
+    let mendable-at = c.mendable_at in
+    let if1 = c.if-not-mendable_at in
+    let build-mended = c.build_mended in
+    let struct_known = c.struct_known-1 in
+    let head_at = c.head_at in
+    mended-told args.n args.c args.t.now args.e slice-known.given record
+    { counter = omega (arith, fits.c); birth = omega (arith, struct_known.given.1.1.0); low = omega (arith, struct_known.given.1.1.1.0); high = omega (arith, struct_known.given.1.1.1.1.0) }
+    pre.0 pre.1 (sym mendable-at.ensures ∙ not-false mendable-at.result if1.false-raw)
+    build-mended.new.table head_at.result args.reason build-mended.ensures head_at.ensures
