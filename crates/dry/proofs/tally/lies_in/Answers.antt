@@ -1,0 +1,14 @@
+-- `dry::tally::lies_in`: low first, then high. Assumes nothing.
+use Rattle.dry.proofs.Tallies.{lies-below, lies-up_to}
+use native.Mathlib.Omega.{arith}
+use Rattle.dry.proofs.tally.lies_in.Goals as goal
+
+pub returns-then-low-head : goal.returns-then-low-head
+returns-then-low-head c =
+    let args = c.args in
+    lies-below args.head args.low args.high (omega (arith, c.if-low-head.true))
+
+pub returns : goal.returns
+returns c =
+    let args = c.args in
+    lies-up_to args.head args.low args.high (omega (arith, c.if-low-head.false))
