@@ -39,11 +39,11 @@ fn main() {
     }
 }
 
-/// `rt staticlib exports` writes the library; KHIRPANDO_LIB names another folder for it.
+/// `./build` makes the library; KHIRPANDO_LIB names another folder for it.
 fn store() -> bool {
     let here = env::var("CARGO_MANIFEST_DIR").expect("cargo sets it");
     let folder = env::var("KHIRPANDO_LIB").map_or_else(
-        |_| Path::new(&here).join("../target/staticlib"),
+        |_| Path::new(&here).join("../crates/exports/out"),
         PathBuf::from,
     );
     let library = folder.join("libexports.a");
