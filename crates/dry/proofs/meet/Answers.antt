@@ -1,7 +1,6 @@
 -- `dry::meet`: passed, damaged, a leaf, or entries. Assumes nothing.
 use mathlib.Core.Path.{sym, ◌∙◌}
 use mathlib.Core.List.{[], ◌∷◌}
-use borrow.Author.Tests.{not-true, not-false}
 use Rattle.dry.proofs.Goes.{sourced, source-inside, source_runs}
 use Rattle.dry.proofs.Turns.{met-passed, met-damaged, met-leaf, met-entries}
 use Rattle.dry.proofs.meet.Goals as goal
@@ -9,20 +8,20 @@ use Rattle.dry.proofs.meet.Goals as goal
 pub returns-then-not-in_reach : goal.returns-then-not-in_reach
 returns-then-not-in_reach c =
     let args = c.args in
-    met-passed args.n args.a _ args.table.now args.marks.now args.e (sym c.in_reach.ensures ∙ not-true c.in_reach.result c.if-not-in_reach.true-raw)
+    met-passed args.n args.a _ args.table.now args.marks.now args.e (sym c.in_reach.ensures ∙ c.if-not-in_reach.true)
 
 pub source_at-requires : goal.source_at-requires
 source_at-requires c =
     let pre = c.requires in
     let in_reach = c.in_reach in
-    (pre.0, λ k. pre.1 k (sym in_reach.ensures ∙ not-false in_reach.result c.if-not-in_reach.false-raw))
+    (pre.0, λ k. pre.1 k (sym in_reach.ensures ∙ c.if-not-in_reach.false))
 
 pub returns-in_default : goal.returns-in_default
 returns-in_default c =
     let args = c.args in
     let in_reach = c.in_reach in
     let if1 = c.if-not-in_reach in
-    met-damaged args.n args.a _ args.table.now args.marks.now args.e (sym in_reach.ensures ∙ not-false in_reach.result if1.false-raw) (sym c.source_at.ensures ∙ c.in_default.is)
+    met-damaged args.n args.a _ args.table.now args.marks.now args.e (sym in_reach.ensures ∙ if1.false) (sym c.source_at.ensures ∙ c.in_default.is)
 
 pub head_at-head-requires : goal.head_at-head-requires
 head_at-head-requires c =
@@ -39,7 +38,7 @@ returns-then-head-eq-LEAF c =
     let source-at = c.source_at in
     let mark-by = c.mark_by in
     let head_at = c.head_at-head in
-    met-leaf args.n args.a _ args.table.now args.marks.now args.e (sym in_reach.ensures ∙ not-false in_reach.result if1.false-raw) c.in-Page.page (sym source-at.ensures ∙ c.in-Page.is) mark-by.new.marks mark-by.ensures head_at.result head_at.ensures c.if-head-eq-LEAF.true
+    met-leaf args.n args.a _ args.table.now args.marks.now args.e (sym in_reach.ensures ∙ if1.false) c.in-Page.page (sym source-at.ensures ∙ c.in-Page.is) mark-by.new.marks mark-by.ensures head_at.result head_at.ensures c.if-head-eq-LEAF.true
 
 pub run_in-requires : goal.run_in-requires
 run_in-requires c =
@@ -56,4 +55,4 @@ returns c =
     let source-at = c.source_at in
     let mark-by = c.mark_by in
     let head_at = c.head_at-head in
-    met-entries args.n args.a _ args.table.now args.marks.now args.e (sym in_reach.ensures ∙ not-false in_reach.result if1.false-raw) c.in-Page.page (sym source-at.ensures ∙ c.in-Page.is) mark-by.new.marks mark-by.ensures head_at.result head_at.ensures c.if-head-eq-LEAF.false c.run_in.result c.run_in.ensures
+    met-entries args.n args.a _ args.table.now args.marks.now args.e (sym in_reach.ensures ∙ if1.false) c.in-Page.page (sym source-at.ensures ∙ c.in-Page.is) mark-by.new.marks mark-by.ensures head_at.result head_at.ensures c.if-head-eq-LEAF.false c.run_in.result c.run_in.ensures
