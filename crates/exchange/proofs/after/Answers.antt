@@ -17,7 +17,7 @@ pub overflow_add-result : goal.overflow_add-result
 overflow_add-result c =
     let a = c.args in
     omega
-    (arith, c.requires, after_is a.s a.f.now a.at, c.well-formed.0.0)
+    (arith, c.requires, after_is a.s a.f.now a.at, c.well_formed.0.0)
 
 pub overflow_mul-result : goal.overflow_mul-result
 overflow_mul-result c =
@@ -29,7 +29,7 @@ overflow_mul-result c =
       e,
       c.requires,
       after_is a.s a.f.now a.at,
-      c.well-formed.0.0,
+      c.well_formed.0.0,
     )
 
 pub overflow_add-result-2 : goal.overflow_add-result-2
@@ -42,7 +42,7 @@ overflow_add-result-2 c =
       e,
       c.requires,
       after_is a.s a.f.now a.at,
-      c.well-formed.0.0,
+      c.well_formed.0.0,
     )
 
 pub returns : goal.returns

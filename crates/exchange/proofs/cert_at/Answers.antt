@@ -28,7 +28,7 @@ item_from-at-requires c =
     omega (
       arith,
       cert_room a.f.now c.requires.0 a.place c.requires.1 c.after-meters.ensures c.after-certs.ensures refl,
-      c.well-formed.0.0,
+      c.well_formed.0.0,
     )
 
 pub get32-requires : goal.get32-requires
@@ -56,7 +56,7 @@ overflow_add-at c =
     omega (
       arith,
       cert_room a.f.now c.requires.0 a.place c.requires.1 c.after-meters.ensures c.after-certs.ensures c.item_from-at.ensures,
-      c.well-formed.0.0,
+      c.well_formed.0.0,
     )
 
 pub get16-issue-requires : goal.get16-issue-requires
@@ -73,7 +73,7 @@ overflow_add-at-2 c =
     omega (
       arith,
       cert_room a.f.now c.requires.0 a.place c.requires.1 c.after-meters.ensures c.after-certs.ensures c.item_from-at.ensures,
-      c.well-formed.0.0,
+      c.well_formed.0.0,
     )
 
 pub get32-record-requires : goal.get32-record-requires

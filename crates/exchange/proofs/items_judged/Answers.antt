@@ -63,7 +63,7 @@ overflow_add-at c =
       arith,
       c.if-f-at.false,
       c.loop-left.invariant.0,
-      c.well-formed.0.0,
+      c.well_formed.0.0,
     )
 
 pub loop-left-preserved : goal.loop-left-preserved

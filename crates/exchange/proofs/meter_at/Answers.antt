@@ -19,7 +19,7 @@ item_from-at-requires c =
       arith,
       meter-lies a.f.now c.requires.0 a.place c.requires.2,
       c.requires.1,
-      c.well-formed.0.0,
+      c.well_formed.0.0,
     )
 
 pub overflow_add-at : goal.overflow_add-at
@@ -30,7 +30,7 @@ overflow_add-at c =
       meter-lies a.f.now c.requires.0 a.place c.requires.2,
       c.requires.1,
       c.item_from-at.ensures,
-      c.well-formed.0.0,
+      c.well_formed.0.0,
     )
 
 pub get32-serial-requires : goal.get32-serial-requires

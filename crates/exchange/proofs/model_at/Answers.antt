@@ -10,7 +10,7 @@ use Rattle.exchange.proofs.model_at.Goals as goal
 pub item_from-at-requires : goal.item_from-at-requires
 item_from-at-requires c =
     let a = c.args in
-    omega (arith, model-lies a.f.now c.requires.0 a.place c.requires.1, c.well-formed.0.0)
+    omega (arith, model-lies a.f.now c.requires.0 a.place c.requires.1, c.well_formed.0.0)
 
 pub get16-requires : goal.get16-requires
 get16-requires c =

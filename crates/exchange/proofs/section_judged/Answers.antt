@@ -16,7 +16,7 @@ get32-requires c = omega (arith, c.if-f-at-lt-COUNT.false, c.requires)
 
 pub overflow_add-at : goal.overflow_add-at
 overflow_add-at c =
-    omega (arith, c.if-f-at-lt-COUNT.false, c.requires, c.well-formed.0.0)
+    omega (arith, c.if-f-at-lt-COUNT.false, c.requires, c.well_formed.0.0)
 
 pub items_judged-requires : goal.items_judged-requires
 items_judged-requires c = omega (arith, c.if-f-at-lt-COUNT.false, c.requires)
