@@ -15,7 +15,8 @@ put_cert-requires c =
     let args = c.args in
     let pre = c.requires in
     let is_full_lem = c.is_full in
-    put-asks pre.ready.ready args.table.now pre.session args.way.leaf.place.child (leaf-stays pre.ready is_full_lem.ensures (not-true is_full_lem.result c.if-not-is_full.true-raw))
+    let asks = put-asks pre.ready.ready args.table.now pre.session args.way.leaf.place.child (leaf-stays pre.ready is_full_lem.ensures (not-true is_full_lem.result c.if-not-is_full.true-raw)) in
+    record { page_size_in_bounds = asks.0; takes_cert = asks.1 }
 
 pub returns-then-not-is_full : goal.returns-then-not-is_full
 returns-then-not-is_full c =
@@ -32,7 +33,8 @@ put_cert-requires-2 c =
     let args = c.args in
     let pre = c.requires in
     let split-way = c.split_way-at in
-    put-asks pre.ready.ready split-way.new.table (marks_by args.way args.chosen.pages (splits_by (heads_of args.way)) pre.session) split-way.result (split-way.ensures pre)
+    let asks = put-asks pre.ready.ready split-way.new.table (marks_by args.way args.chosen.pages (splits_by (heads_of args.way)) pre.session) split-way.result (split-way.ensures pre) in
+    record { page_size_in_bounds = asks.0; takes_cert = asks.1 }
 
 pub returns : goal.returns
 returns c =

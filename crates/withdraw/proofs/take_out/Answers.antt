@@ -47,7 +47,7 @@ returns-in_default c =
     let f = from_nothing s.n s.c k t u c.next.result c.nothing.result c.nothing.ensures c.next.ensures in
     let e = c.in-Leaf.is in
     let x = found_as s k t u g h f e c.find_on.ensures in
-    missing s k t u g h f e (none_found _ c.find_on.result x c.in_default.is)
+    missing s k t u g h f e (none_found _ c.find_on.result x c.in_default.not-Found)
 
 pub remove_cert-requires : goal.remove_cert-requires
 remove_cert-requires c =
