@@ -5,11 +5,8 @@ use mathlib.Core.Path.{◌≡◌, refl, sym, ap, ◌∙◌, subst}
 use mathlib.Core.Bool.{Bool, true, false}
 use mathlib.Core.List.{List, [], ◌∷◌}
 use mathlib.Core.Option.{Option, some, none}
-use mathlib.Core.Logic.{inl, inr}
 use borrow.Author.Tests.{eq-eqb, ne_eqb}
 use lib.ListN.{length, take, get_or}
-use denote.Enum.Declared.{tag_of}
-use types.Run.{OneOf}
 use Rattle.rules.specs.Layout.{page_size}
 use Rattle.rules.specs.Entry.{Cert, find}
 use Rattle.rules.specs.Page.{is_leaf}
@@ -22,8 +19,6 @@ use Rattle.rules.specs.Insert.{splitting, too_soon, new_pages, no_room, insert_r
 use Rattle.rules.specs.declared.Session.{Session}
 use Rattle.rules.specs.declared.Inserted.{Inserted}
 use Rattle.rules.specs.declared.Looked.{Looked}
-use Rattle.rules.specs.contracts.Looked as looks
-use Rattle.rules.specs.contracts.Inserted as inserts
 use Rattle.rules.proofs.Bytes.All.{All, all_head}
 use Rattle.head.proofs.Headers.{head_of}
 use Rattle.marks.specs.declared.Chosen.{Chosen}
@@ -110,28 +105,10 @@ module _ (s : Session) (steps : List rules.Step) where
 
 -- ── What a refusal is told by ───────────────────────────────────────────────────────────────────────────────────
 
-pub not_done : (a : Inserted) → OneOf (1 ∷ (2 ∷ (3 ∷ (4 ∷ (5 ∷ (6 ∷ [])))))) (tag_of inserts.the_type a) → a ≡ Inserted.Done → ⊥
-not_done a h e = go (subst (λ (b : Inserted). OneOf (1 ∷ (2 ∷ (3 ∷ (4 ∷ (5 ∷ (6 ∷ [])))))) (tag_of inserts.the_type b)) e h)
-  where
-    go : OneOf (1 ∷ (2 ∷ (3 ∷ (4 ∷ (5 ∷ (6 ∷ [])))))) 0 → ⊥
-    go (inl z) = omega arith
-    go (inr (inl z)) = omega arith
-    go (inr (inr (inl z))) = omega arith
-    go (inr (inr (inr (inl z)))) = omega arith
-    go (inr (inr (inr (inr (inl z))))) = omega arith
-    go (inr (inr (inr (inr (inr z))))) = omega arith
-
-pub not_found : (o : Option ℕ) (r : Looked) → r ≡ looked_in o → OneOf (1 ∷ (2 ∷ (3 ∷ (4 ∷ [])))) (tag_of looks.the_type r)
-    → false ≡ present_in o
+pub not_found : (o : Option ℕ) (r : Looked) → r ≡ looked_in o → ((x : ℕ) → r ≡ Looked.Found x → ⊥) → false ≡ present_in o
 unfolding looked_in present_in
 not_found none r e h = refl
-not_found (some x) r e h = absurd (go (subst (λ (q : Looked). OneOf (1 ∷ (2 ∷ (3 ∷ (4 ∷ [])))) (tag_of looks.the_type q)) e h))
-  where
-    go : OneOf (1 ∷ (2 ∷ (3 ∷ (4 ∷ [])))) 0 → ⊥
-    go (inl z) = omega arith
-    go (inr (inl z)) = omega arith
-    go (inr (inr (inl z))) = omega arith
-    go (inr (inr (inr z))) = omega arith
+not_found (some x) r e h = absurd (h x e)
 
 pub is_found_lem : (o : Option ℕ) (x : ℕ) → Looked.Found x ≡ looked_in o → true ≡ present_in o
 unfolding looked_in present_in

@@ -1,12 +1,9 @@
 -- What a step to the leaf of a key gives a withdrawal: damage, or the leaf to take the certificate out of. Assumes nothing.
-use mathlib.Core.Path.{◌≡◌, refl, sym, ap, ◌∙◌, subst}
-use mathlib.Core.List.{List, [], ◌∷◌}
+use mathlib.Core.Path.{◌≡◌, refl, sym, ap, ◌∙◌}
+use mathlib.Core.List.{List, ◌∷◌}
 use mathlib.Core.Option.{Option, some, none}
-use mathlib.Core.Logic.{inl, inr}
 use Prim.Native.Nat.{ℕ, ◌≤◌}
 use native.Mathlib.Omega.{arith}
-use denote.Enum.Declared.{tag_of}
-use types.Run.{OneOf}
 use Rattle.rules.specs.Layout.{leaf_header, cert_size, leaf_room, last_key}
 use Rattle.rules.specs.Entry.{Cert, keys, find}
 use Rattle.rules.specs.Page.{Page, page_in}
@@ -21,7 +18,6 @@ use Rattle.rules.specs.declared.Session.{Session}
 use Rattle.rules.specs.declared.Report.{Report}
 use Rattle.rules.specs.declared.Looked.{Looked}
 use Rattle.rules.specs.declared.Withdrawn.{Withdrawn}
-use Rattle.rules.specs.contracts.Looked as looks
 use Rattle.head.proofs.Headers.{head_of}
 use Rattle.entries.specs.Spot.{keys_in, spot_of}
 use Rattle.entries.proofs.KeysIn.{keys-certs}
@@ -45,21 +41,13 @@ reported_too p q = cc
 -- ── What was found ──────────────────────────────────────────────────────────────────────────────────────────────
 
 module _ (o : Option ℕ) (r : Looked) (e : r ≡ looked_in o) where
-  pub none_found : OneOf (1 ∷ (2 ∷ (3 ∷ (4 ∷ [])))) (tag_of looks.the_type r) → o ≡ none
+  pub none_found : ((x : ℕ) → r ≡ Looked.Found x → ⊥) → o ≡ none
   unfolding looked_in
   none_found h = go o refl
     where
-      other : OneOf (1 ∷ (2 ∷ (3 ∷ (4 ∷ [])))) 0 → ⊥
-      other (inl z) = omega arith
-      other (inr (inl z)) = omega arith
-      other (inr (inr (inl z))) = omega arith
-      other (inr (inr (inr z))) = omega arith
-
       go : (p : Option ℕ) → o ≡ p → o ≡ none
       go none q = q
-      go (some v) q =
-          let f : r ≡ Looked.Found v = e ∙ ap looked_in q in
-          absurd (other (subst (λ (y : Looked). OneOf (1 ∷ (2 ∷ (3 ∷ (4 ∷ [])))) (tag_of looks.the_type y)) f h))
+      go (some v) q = absurd (h v (e ∙ ap looked_in q))
 
   pub one_found : (x : ℕ) → r ≡ Looked.Found x → (v : ℕ) × (o ≡ some v)
   unfolding looked_in
