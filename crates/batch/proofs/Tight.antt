@@ -1,35 +1,10 @@
--- No second outcome satisfies the contract of `batch`. The checker has no plain reading of a contract over a slice of structs, so
--- the reading is written out here, and `ensures_is` says that it is the contract's. Assumes nothing.
-use mathlib.Core.Path.{◌≡◌, refl, sym, ◌∙◌}
-use Prim.Native.Nat.{ℕ}
-use mathlib.Core.List.{List}
-use seplogic.Ra.Ura.{Ura}
-use base.Logic.{SProp}
-use prog.Memory.{Memory}
-use prog.Routine.{Routine}
-use types.Logic.{Logic}
-use contract.Lifetimes.{Lfts}
-use contract.Monad.{Fun, fact}
-use denote.Triple.Entry.{Args}
-use denote.Triple.Clauses.{Lasts, at_exit}
-use Rattle.rules.specs.Batch as rules
-use Rattle.rules.specs.declared.Batching.{Batching}
-use Rattle.batch.specs.Turns.{leaving}
+-- No second outcome satisfies the contract of `batch`, items included. Assumes nothing.
+use mathlib.Core.Path.{sym, ◌∙◌}
+use Rattle.tight.specs.Tight.{Tight}
 use Rattle.batch.proofs as this
 
--- of an outcome: what is handed back, and what is left behind working and items
-abbrev pub Post : (κs : Lfts 3) (a : Args this.batch.signature κs) → Batching → Lasts this.batch.ended κs a → Type 0
-Post κs a z l =
-    leaving z l.0 a.1.0.now l.1.1.1.0 ≡ rules.batch a.0.now a.1.0.now a.1.1.0 a.1.1.1.0.now
-
-pub ensures_is : {M : Type 1} {𝓤 : Ura M} (𝓛 : Logic 𝓤) (mem : Memory → SProp 𝓤) (run : Routine → Fun 𝓤)
-    (κs : Lfts 3) (a : Args this.batch.signature κs) (z : Batching) (l : Lasts this.batch.ended κs a)
-    → (this.batch.clauses 𝓛 mem run κs a).ensures tt z (at_exit this.batch.ended κs a l) ≡ fact 𝓤 (Post κs a z l)
-ensures_is 𝓛 mem run κs a z l = refl
-
-pub batch_tight : (κs : Lfts 3) (a : Args this.batch.signature κs) (z z' : Batching) (l l' : Lasts this.batch.ended κs a)
-    → Post κs a z l → Post κs a z' l' → (z ≡ z') × (l ≡ l')
-batch_tight κs a z z' l l' p q =
+pub batch_tight : Tight this.batch.Kinds.ps this.batch.Kinds.r this.batch.Reads.Pre this.batch.Reads.Post
+batch_tight κs a pre z z' l l' p q =
     let e = p ∙ sym q in (
       (λ i. record { answer = (e i).left.answer; report = (e i).report; session = (e i).left.session }),
       (λ i. ((e i).left.working, (tt, (tt, ((e i).left.items, tt))))),

@@ -1,8 +1,11 @@
 -- The turns of a batch, one after another, make the rules' batch. Assumes nothing.
 use mathlib.Core.Path.{◌≡◌, refl, sym, ap, ◌∙◌, subst}
-use Prim.Native.Nat.{ℕ}
+use Prim.Native.Nat.{ℕ, suc, ◌+◌, ◌<◌}
 use mathlib.Core.Bool.{Bool, true, false}
-use mathlib.Core.List.{List, [], ◌∷◌}
+use mathlib.Core.List.{List, [], ◌∷◌, ◌++◌}
+use Rattle.std.proofs.Common.{length, take, drop, get_or, set, arith, add-one, append_assoc}
+use Rattle.std.proofs.Math.Seq.{drop-cons, take-suc-set, drop-set-lt, drop-length, take-length}
+use Rattle.std.proofs.lemmas.List.{append-nil}
 use Rattle.rules.specs.Report.{Reported, nothing}
 use Rattle.rules.specs.Call.{lengths_for, inserted_no}
 use Rattle.rules.specs.Reports.{insert_reported}
@@ -27,6 +30,39 @@ module _ (t : List ℕ) (m : Running) (x : Item) (xs : List Item) (r : Turning) 
   pub fills-more : fills t m (x ∷ xs) ≡ r.item ∷ fills t r.running xs
   unfolding fills
   fills-more = ap (λ (y : Turning). y.item ∷ fills t y.running xs) (sym e)
+
+-- ── The list while its items are gone through: those before the turn's are as they are to be, the rest as they came ─
+
+module _ (t : List ℕ) (ys : List Item) (i : ℕ) (d : Item) (below : i < length ys) (m : Running) (r : Turning)
+  (e : r ≡ turn_of t m (get_or ys i d)) where
+  kept : drop (suc i) (set ys i r.item) ≡ drop (suc i) ys
+  kept = drop-set-lt (suc i) ys i r.item (omega arith)
+
+  pub stands_next : goes t m (drop i ys) ≡ goes t r.running (drop (i + 1) (set ys i r.item))
+  stands_next =
+      rw (add-one, kept)
+      (ap (goes t m) (drop-cons ys i d below) ∙ goes-more t m (get_or ys i d) (drop (suc i) ys) r e)
+
+  pub filled_next : take i ys ++ fills t m (drop i ys)
+      ≡ take (i + 1) (set ys i r.item) ++ fills t r.running (drop (i + 1) (set ys i r.item))
+  filled_next =
+      rw (add-one, kept, take-suc-set ys i r.item below)
+      (ap (λ (xs : List Item). take i ys ++ fills t m xs) (drop-cons ys i d below)
+      ∙ ap (λ (xs : List Item). take i ys ++ xs) (fills-more t m (get_or ys i d) (drop (suc i) ys) r e)
+      ∙ sym (append_assoc (take i ys) (r.item ∷ []) (fills t r.running (drop (suc i) ys))))
+
+-- at the end no item is left
+module _ (t : List ℕ) (ys : List Item) (i : ℕ) (end : i ≡ length ys) (m : Running) where
+  none_left : drop i ys ≡ []
+  none_left = rw end (drop-length ys)
+
+  pub stands_all : goes t m (drop i ys) ≡ m
+  unfolding goes
+  stands_all = rw none_left
+
+  pub filled_all : take i ys ++ fills t m (drop i ys) ≡ ys
+  unfolding fills
+  filled_all = rw (none_left, append-nil, end) (take-length ys)
 
 -- ── An item that is left as it is ───────────────────────────────────────────────────────────────────────────────
 
