@@ -1,0 +1,16 @@
+-- `read::place`: variant by variant. Assumes nothing.
+use Rattle.exchange.specs.ReadFile.{read_place}
+use borrow.Author.Rules.{rules}
+use Rattle.read.proofs.place.Goals as goal
+
+pub returns-in-Done : goal.returns-in-Done
+unfolding read_place
+returns-in-Done c = search rules
+
+pub returns-in-Length : goal.returns-in-Length
+unfolding read_place
+returns-in-Length c = search rules
+
+pub returns-in-File : goal.returns-in-File
+unfolding read_place
+returns-in-File c = search rules
