@@ -127,8 +127,8 @@ module _ (n : ℕ) (t : List ℕ) where
   same_view e u v a b = cc
 
   reach_shows : (level k : ℕ) (e a : Place) → Reach n t k e a → (tree level n t e).whole ≡ true → Undamaged n t a
-  reach_shows level k e a (stay q) h = subst (Undamaged n t) q (whole-shows level n t e h)
-  reach_shows zero k e a (step v d s p r) h = absurd (broken-whole (ap (λ (x : Tree). x.whole) (sym (tree-zero n t e)) ∙ h))
+  reach_shows zero k e a r h = absurd (broken-whole (ap (λ (x : Tree). x.whole) (sym (tree-zero n t e)) ∙ h))
+  reach_shows (suc level) k e a (stay q) h = subst (Undamaged n t) q (whole-shows (suc level) n t e h)
   reach_shows (suc level) k e a (step v d s p r) h = reach_shows level k d a r (kid-whole level e v s h k d p)
 
   reach_child : (level k : ℕ) (e a : Place) → Reach n t k e a → (tree level n t e).whole ≡ true → mem a.child (tree level n t e).children ≡ true

@@ -62,13 +62,13 @@ pub shape_of-keys-then-leaf-a : goal.shape_of-keys-then-leaf-a
 shape_of-keys-then-leaf-a c =
     let loop = c.loop-filled in
     let fill-leaf-at = c.fill_leaf_at-filled in
-    omega (arith, fill-leaf-at.auto.records.1.1.1.0, loop.invariant.1)
+    omega (arith, fill-leaf-at.auto.keys, loop.invariant.1)
 
 pub shape_of-records-then-leaf-a : goal.shape_of-records-then-leaf-a
 shape_of-records-then-leaf-a c =
     let loop = c.loop-filled in
     let fill-leaf-at = c.fill_leaf_at-filled in
-    omega (arith, fill-leaf-at.auto.records.1.1.1.1.0, loop.invariant.2)
+    omega (arith, fill-leaf-at.auto.records, loop.invariant.2)
 
 pub returns-then-leaf-a : goal.returns-then-leaf-a
 returns-then-leaf-a c =
@@ -76,7 +76,7 @@ returns-then-leaf-a c =
     let if1 = c.loop-filled-test in
     let next = c.next in
     let fill-leaf-at = c.fill_leaf_at-filled in
-    writing-ends loop.invariant.3 if1.true loop.key next.new.t c.in-Leaf.leaf (ap (nexting next.new.t) (sym c.in-Leaf.is) ∙ next.ensures) fill-leaf-at.result fill-leaf-at.new.records.1.1.1.0 fill-leaf-at.new.records.1.1.1.1.0 fill-leaf-at.ensures (omega (arith, c.if-leaf-a.true))
+    writing-ends loop.invariant.3 if1.true loop.key next.new.t c.in-Leaf.leaf (ap (nexting next.new.t) (sym c.in-Leaf.is) ∙ next.ensures) fill-leaf-at.result fill-leaf-at.new.keys fill-leaf-at.new.records fill-leaf-at.ensures (omega (arith, c.if-leaf-a.true))
 
 pub loop-filled-smaller : goal.loop-filled-smaller
 loop-filled-smaller c =
@@ -91,7 +91,7 @@ loop-filled-preserved c =
     let if1 = c.loop-filled-test in
     let next = c.next in
     let fill-leaf-at = c.fill_leaf_at-filled in
-    (omega (arith, next.auto.t, loop.invariant.0), omega (arith, fill-leaf-at.auto.records.1.1.1.0, loop.invariant.1), omega (arith, fill-leaf-at.auto.records.1.1.1.1.0, loop.invariant.2), writing-on loop.invariant.3 if1.true loop.key next.new.t c.in-Leaf.leaf (ap (nexting next.new.t) (sym c.in-Leaf.is) ∙ next.ensures) fill-leaf-at.result fill-leaf-at.new.records.1.1.1.0 fill-leaf-at.new.records.1.1.1.1.0 fill-leaf-at.ensures (omega (arith, c.if-leaf-a.false)) (roomy-kept loop.invariant.3.roomy fill-leaf-at.auto.records.1.1.1.0 fill-leaf-at.auto.records.1.1.1.1.0))
+    (omega (arith, next.auto.t, loop.invariant.0), omega (arith, fill-leaf-at.auto.keys, loop.invariant.1), omega (arith, fill-leaf-at.auto.records, loop.invariant.2), writing-on loop.invariant.3 if1.true loop.key next.new.t c.in-Leaf.leaf (ap (nexting next.new.t) (sym c.in-Leaf.is) ∙ next.ensures) fill-leaf-at.result fill-leaf-at.new.keys fill-leaf-at.new.records fill-leaf-at.ensures (omega (arith, c.if-leaf-a.false)) (roomy-kept loop.invariant.3.roomy fill-leaf-at.auto.keys fill-leaf-at.auto.records))
 
 pub shape_of-t : goal.shape_of-t
 shape_of-t c = c.loop-filled.invariant.0

@@ -66,7 +66,7 @@ loop-filled-preserved c =
     let next = c.next-s in
     let head_at = c.head_at-head in
     let fill-leaf-at = c.fill_leaf_at-filled in
-    (omega (arith, next.auto.1.1.1.1.1.0, loop.invariant.0), omega (arith, fill-leaf-at.auto.records.1.1.1.0, loop.invariant.1), omega (arith, fill-leaf-at.auto.records.1.1.1.1.0, loop.invariant.2), filling-leaf pre.0 loop.invariant.3 if1.true next.ensures c.in-Leaf.leaf c.in-Leaf.is head_at.result head_at.ensures fill-leaf-at.result fill-leaf-at.new.records.1.1.1.0 fill-leaf-at.new.records.1.1.1.1.0 fill-leaf-at.ensures (roomy-kept loop.invariant.3.roomy fill-leaf-at.auto.records.1.1.1.0 fill-leaf-at.auto.records.1.1.1.1.0) (omega (arith, next.auto.1.1.1.1.1.0, loop.invariant.0)))
+    (omega (arith, next.auto.marks, loop.invariant.0), omega (arith, fill-leaf-at.auto.keys, loop.invariant.1), omega (arith, fill-leaf-at.auto.records, loop.invariant.2), filling-leaf pre.0 loop.invariant.3 if1.true next.ensures c.in-Leaf.leaf c.in-Leaf.is head_at.result head_at.ensures fill-leaf-at.result fill-leaf-at.new.keys fill-leaf-at.new.records fill-leaf-at.ensures (roomy-kept loop.invariant.3.roomy fill-leaf-at.auto.keys fill-leaf-at.auto.records) (omega (arith, next.auto.marks, loop.invariant.0)))
 
 pub shape_of-keys-in-End : goal.shape_of-keys-in-End
 shape_of-keys-in-End c =
