@@ -10,9 +10,7 @@ use Rattle.rules.specs.declared.Looked.{Looked}
 use Rattle.rules.specs.contracts.Looked as looks
 use Rattle.words.specs.declared.Reply.{Reply}
 use Rattle.driver.specs.Acts.{looked_reply}
-use borrow.Author.Rules.{rules}
-use Rattle.driver.proofs.looked_reply.Statement.{statement}
-use Rattle.driver.proofs.looked_reply.Tie as tie
+use Rattle.driver.proofs.looked_reply.Goals as goal
 
 refused-reply : (a : Looked) → OneOf (1 ∷ (2 ∷ (3 ∷ (4 ∷ [])))) (tag_of looks.the_type a) → Reply.Answer (looked_no a) ≡ looked_reply a
 unfolding looked_reply
@@ -28,18 +26,9 @@ refused-reply Looked.BadKey h = refl
 refused-reply Looked.Damaged h = refl
 refused-reply Looked.Missing h = refl
 
-enum-known-answer : tie.Need-enum-known-answer
-enum-known-answer c = search rules
-
-returns : tie.Need-returns
+pub returns-in-Found : goal.returns-in-Found
 unfolding looked_reply
-returns c = rw c.before.answer.given.1
+returns-in-Found c = rw c.in-Found.is
 
-looked-requires : tie.Need-looked-requires
-looked-requires c κs = search rules
-
-returns-2 : tie.Need-returns-2
-returns-2 c = rw c.looked.ensures (refused-reply c.before.before.args.answer c.before.match.keys2)
-
-pub looked-reply-spec : {M : Type 1} → statement M
-looked-reply-spec = tie.close (tie.spec enum-known-answer returns looked-requires returns-2)
+pub returns : goal.returns
+returns c = rw c.looked.ensures (refused-reply c.args.answer c.in_default.not-Found)
