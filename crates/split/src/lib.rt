@@ -56,10 +56,13 @@ fn retire(session: Session, c: u32, child: u16, head: Head) -> Session
     requires { child < most_pages }
     ensures { result ≡ retire_by c child head session }
 {
+    let mut left = session;
     if frees(c, head) {
-        return session.release(child as usize);
+        left.free[child as usize] = true;
+    } else {
+        left.waiting[child as usize] = true;
     }
-    session.wait(child as usize)
+    left
 }
 
 // The halves' pages are taken, then the split page retires.

@@ -6,11 +6,9 @@ use Rattle.split.proofs.retire.Goals as goal
 pub returns-then-frees : goal.returns-then-frees
 returns-then-frees c =
     let args = c.args in
-    c.release.ensures ∙ retire-free args.c args.child args.head args.session
-    (sym c.frees.ensures ∙ c.if-frees.true)
+    retire-free args.c args.child args.head args.session (sym c.frees.ensures ∙ c.if-frees.true)
 
-pub returns : goal.returns
-returns c =
+pub returns-else-frees : goal.returns-else-frees
+returns-else-frees c =
     let args = c.args in
-    c.wait.ensures ∙ retire-wait args.c args.child args.head args.session
-    (sym c.frees.ensures ∙ c.if-frees.false)
+    retire-wait args.c args.child args.head args.session (sym c.frees.ensures ∙ c.if-frees.false)
