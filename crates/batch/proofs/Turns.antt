@@ -34,7 +34,7 @@ module _ (t : List ℕ) (m : Running) (x : Item) (xs : List Item) (r : Turning) 
 -- ── The list while its items are gone through: those before the turn's are as they are to be, the rest as they came ─
 
 module _ (t : List ℕ) (ys : List Item) (i : ℕ) (d : Item) (below : i < length ys) (m : Running) (r : Turning)
-  (e : r ≡ turn_of t m (get_or ys i d)) where
+    (e : r ≡ turn_of t m (get_or ys i d)) where
   kept : drop (suc i) (set ys i r.item) ≡ drop (suc i) ys
   kept = drop-set-lt (suc i) ys i r.item (omega arith)
 

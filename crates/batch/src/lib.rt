@@ -4,8 +4,7 @@
 // left, and gets its answer's number, also after an item that was refused. Answer, session, report, every byte lent and
 // every item are those of the rules' `batch`.
 //
-// A slice of structs is proved by a walk of the code by hand, so `batch` is no more than a loop over `turn`, which
-// takes one item by value and is covered.
+// `batch` is no more than a loop over `turn`, which takes one item by value, so its invariant speaks of turns alone.
 //
 // Below stand `tables`, which tests lengths, `insert`, and `numbers`.
 
