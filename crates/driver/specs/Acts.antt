@@ -1,6 +1,6 @@
 -- One line's effect on the bench program's store, in the rules' words: the call that the line asks for, with its answer
 -- as what is to be printed.
-use Rattle.std.specs.Prelude.{ℕ, Bool, true, false, List, [], ◌∷◌, eqb}
+use Rattle.std.specs.Prelude.{ℕ, true, false, List, [], ◌∷◌, eqb}
 use Rattle.rules.specs.Call.{Left, opened_no, inserted_no, looked_no, synced_no}
 use Rattle.rules.specs.Open.{opening}
 use Rattle.rules.specs.Insert.{insert}

@@ -1,21 +1,9 @@
--- No second outcome satisfies a contract of this crate. That of `batch` has no plain reading, so `batch_ensures_is` says that it is the
--- one that `batch_tight` of the crate `batch` speaks of. Assumes nothing.
-use mathlib.Core.Path.{◌≡◌, refl, sym, ◌∙◌}
+-- No second outcome satisfies a contract of this crate. Assumes nothing.
+use mathlib.Core.Path.{refl, sym, ◌∙◌}
 use mathlib.Core.List.{[]}
 use Rattle.rules.specs.Marks.{begun}
 use Rattle.rules.specs.declared.Session.{Session}
-use seplogic.Ra.Ura.{Ura}
-use base.Logic.{SProp}
-use prog.Memory.{Memory}
-use prog.Routine.{Routine}
-use types.Logic.{Logic}
-use contract.Lifetimes.{Lfts}
-use contract.Monad.{Fun, fact}
-use denote.Triple.Entry.{Args}
-use denote.Triple.Clauses.{Lasts, at_exit}
-use Rattle.rules.specs.declared.Batching.{Batching}
 use Rattle.tight.specs.Tight.{Tight}
-use Rattle.batch.proofs.Tight as below
 use Rattle.store.proofs as this
 
 pub format_tight : Tight this.format.Kinds.ps this.format.Kinds.r this.format.Reads.Pre this.format.Reads.Post
@@ -38,14 +26,12 @@ withdraw_tight κs a pre z z' l l' p q =
     let e = p ∙ sym q in
     ((λ i. record { answer = (e i).left.answer; report = (e i).report; session = (e i).left.session }), (λ i. ((e i).left.working, l.1)))
 
-pub batch_ensures_is : {M : Type 1} {𝓤 : Ura M} (𝓛 : Logic 𝓤) (mem : Memory → SProp 𝓤) (run : Routine → Fun 𝓤)
-    (κs : Lfts 3) (a : Args this.batch.signature κs) (z : Batching) (l : Lasts this.batch.ended κs a)
-    → (this.batch.clauses 𝓛 mem run κs a).ensures tt z (at_exit this.batch.ended κs a l) ≡ fact 𝓤 (below.Post κs a z l)
-batch_ensures_is 𝓛 mem run κs a z l = refl
-
-pub batch_tight : (κs : Lfts 3) (a : Args this.batch.signature κs) (z z' : Batching) (l l' : Lasts this.batch.ended κs a)
-    → below.Post κs a z l → below.Post κs a z' l' → (z ≡ z') × (l ≡ l')
-batch_tight = below.batch_tight
+pub batch_tight : Tight this.batch.Kinds.ps this.batch.Kinds.r this.batch.Reads.Pre this.batch.Reads.Post
+batch_tight κs a pre z z' l l' p q =
+    let e = p ∙ sym q in (
+      (λ i. record { answer = (e i).left.answer; report = (e i).report; session = (e i).left.session }),
+      (λ i. ((e i).left.working, (tt, (tt, ((e i).left.items, tt))))),
+    )
 
 pub read_file_tight : Tight this.read_file.Kinds.ps this.read_file.Kinds.r this.read_file.Reads.Pre this.read_file.Reads.Post
 read_file_tight κs a pre z z' l l' p q =

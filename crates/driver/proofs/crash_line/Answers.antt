@@ -10,4 +10,4 @@ returns c =
     let args = c.args in
     let crash = c.crash in
     rw c.opened.ensures
-    (ap (told opened_reply) (c.«open».ensures ∙ ap (opening args.working.now) crash.ensures))
+    (ap (told opened_reply) (c.open-left.ensures ∙ ap (opening args.working.now) crash.ensures))
