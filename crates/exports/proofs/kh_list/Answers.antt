@@ -1,0 +1,11 @@
+-- `exports::kh_list`: what the store's lean call leaves, with the answer as a number and the session as it came.
+-- Assumes nothing.
+use mathlib.Core.Path.{refl, ap}
+use Rattle.exports.specs.Leaves as C
+use Rattle.exports.proofs.kh_list.Goals as goal
+
+pub returns : goal.returns
+returns c =
+    let args = c.args in
+    let left = c.lean_list-left in
+    rw (c.listed.ensures, c.listed_count.ensures, c.reason.ensures) (ap C.listed (left.ensures args.session refl refl))

@@ -1,0 +1,10 @@
+-- `exports::lean::kh_lean_list`: what the store's lean call leaves, with the answer as a number.
+-- Assumes nothing.
+use mathlib.Core.Path.{ap}
+use Rattle.exports.specs.Leaves as C
+use Rattle.exports.proofs.lean.kh_lean_list.Goals as goal
+
+pub returns : goal.returns
+returns c =
+    let left = c.lean_list-left in
+    λ s same-n same-c. rw (c.listed.ensures, c.listed_count.ensures, c.reason.ensures) (ap C.listed (left.ensures s same-n same-c))
