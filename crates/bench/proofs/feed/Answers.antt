@@ -1,5 +1,5 @@
 -- A byte more is a step more; behind the last there is nothing.
-use mathlib.Core.Path.{◌≡◌, sym, ap, ◌∙◌}
+use mathlib.Core.Path.{sym, ap, ◌∙◌}
 use Prim.Native.Nat.{◌+◌}
 use lib.ListN.{drop, get_or}
 use native.Mathlib.Omega.{arith}

@@ -1,5 +1,5 @@
 -- What is left of the input does to what stands now what the whole of it does to what stood first.
-use Rattle.std.proofs.Common.{length, ◌-◌, ◌≡◌, ℕ, ◌≤◌}
+use Rattle.std.proofs.Common.{length, ◌-◌, ◌≡◌, ◌≤◌}
 use Rattle.std.specs.Prelude.{drop}
 use Rattle.driver.specs.Acts.{bench_bytes}
 use Rattle.bench.specs.Runs.{run, stand}
