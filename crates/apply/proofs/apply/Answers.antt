@@ -15,7 +15,7 @@ put_cert-requires c =
     let args = c.args in
     let pre = c.requires in
     let is_full_lem = c.is_full in
-    let asks = put-asks pre.ready.ready args.table.now pre.session args.way.leaf.place.child (leaf-stays pre.ready is_full_lem.ensures (not-true is_full_lem.result c.if-not-is_full.true-raw)) in
+    let asks = put-asks pre.ready.ready args.table.now pre.session args.way.leaf.place.child (leaf-stays pre.ready is_full_lem.ensures c.if-not-is_full.true) in
     record { page_size_in_bounds = asks.0; takes_cert = asks.1 }
 
 pub returns-then-not-is_full : goal.returns-then-not-is_full
@@ -23,7 +23,7 @@ returns-then-not-is_full c =
     let args = c.args in
     let is_full_lem = c.is_full in
     let put_cert_lem = c.put_cert in
-    let room = not-true is_full_lem.result c.if-not-is_full.true-raw in
+    let room = c.if-not-is_full.true in
     λ y stable.
     ap (λ (u : Session). done u put_cert_lem.new.table stable) (leaf-marks y.ready is_full_lem.ensures room)
     ∙ pages-done y args.table.now y.session args.way.leaf.place.child (leaf-stays y.ready is_full_lem.ensures room) args.value put_cert_lem.new.table put_cert_lem.ensures stable

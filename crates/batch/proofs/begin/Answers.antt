@@ -9,10 +9,10 @@ pub returns-then-not-lengths_for : goal.returns-then-not-lengths_for
 unfolding begun
 returns-then-not-lengths_for c =
     let args = c.args in
-    rw (begun, sym (c.lengths_for.ensures args.session refl) ∙ not-true c.lengths_for.result c.if-not-lengths_for.true-raw, c.nothing-report.ensures)
+    rw (begun, sym (c.lengths_for.ensures args.session refl) ∙ c.if-not-lengths_for.true, c.nothing-report.ensures)
 
 pub returns : goal.returns
 unfolding begun
 returns c =
     let args = c.args in
-    rw (begun, sym (c.lengths_for.ensures args.session refl) ∙ not-false c.lengths_for.result c.if-not-lengths_for.false-raw, c.nothing-report.ensures)
+    rw (begun, sym (c.lengths_for.ensures args.session refl) ∙ c.if-not-lengths_for.false, c.nothing-report.ensures)

@@ -15,13 +15,13 @@ returns-then-not-mendable_at c =
     let args = c.args in
     let mendable-at = c.mendable_at in
     mend-damaged args.n args.c args.t.now args.e args.reason
-    (sym mendable-at.ensures ∙ not-true mendable-at.result c.if-not-mendable_at.true-raw)
+    (sym mendable-at.ensures ∙ c.if-not-mendable_at.true)
 
 pub build_mended-requires : goal.build_mended-requires
 build_mended-requires c =
     let args = c.args in
     let mendable-at = c.mendable_at in
-    let m = sym mendable-at.ensures ∙ not-false mendable-at.result c.if-not-mendable_at.false-raw in
+    let m = sym mendable-at.ensures ∙ c.if-not-mendable_at.false in
     let f = mendable_true args.n args.e (read args.t.now args.e.previous) m in record { page_size_in_bounds = (omega arith, omega (arith, f.below)); ordered = mendable_ordered args.n args.e (read args.t.now args.e.previous) m }
 
 pub returns : goal.returns
@@ -37,5 +37,5 @@ returns c =
     let head_at = c.head_at in
     mended-told args.n args.c args.t.now args.e slice-known.given record
     { counter = omega (arith, fits.c); birth = omega (arith, struct_known.given.1.1.0); low = omega (arith, struct_known.given.1.1.1.0); high = omega (arith, struct_known.given.1.1.1.1.0) }
-    pre.0 pre.1 (sym mendable-at.ensures ∙ not-false mendable-at.result if1.false-raw)
+    pre.0 pre.1 (sym mendable-at.ensures ∙ if1.false)
     build-mended.new.table head_at.result args.reason build-mended.ensures head_at.ensures

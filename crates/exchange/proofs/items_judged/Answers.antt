@@ -45,7 +45,7 @@ returns-then-not-follows c =
     c.place_at-place.ensures c.number_at-number.ensures
     (omega (arith, c.if-f-at.false, l.invariant.0))
     (omega (arith, c.loop-left-test.true))
-    (sym c.follows.ensures ∙ not-true c.follows.result c.if-not-follows.true-raw))
+    (sym c.follows.ensures ∙ c.if-not-follows.true))
 
 pub overflow_add-used : goal.overflow_add-used
 overflow_add-used c =
@@ -53,7 +53,7 @@ overflow_add-used c =
     let l = c.loop-left in
     omega (
       arith,
-      (followed a.over l.used l.last c.place_at-place.result c.number_at-number.result (sym c.follows.ensures ∙ not-false c.follows.result c.if-not-follows.false-raw)).inside,
+      (followed a.over l.used l.last c.place_at-place.result c.number_at-number.result (sym c.follows.ensures ∙ c.if-not-follows.false)).inside,
       c.ranges.over,
     )
 
@@ -71,7 +71,7 @@ loop-left-preserved c =
     let a = c.args in
     let l = c.loop-left in (
       omega (arith, c.if-f-at.false, l.invariant.0),
-      l.invariant.1 ∙ items_on a.s a.f.now a.over l.left l.at l.used l.last c.size_of-width.result c.place_at-place.result c.number_at-number.result c.size_of-width.ensures c.place_at-place.ensures c.number_at-number.ensures (omega (arith, c.if-f-at.false, l.invariant.0)) (omega (arith, c.loop-left-test.true)) (sym c.follows.ensures ∙ not-false c.follows.result c.if-not-follows.false-raw),
+      l.invariant.1 ∙ items_on a.s a.f.now a.over l.left l.at l.used l.last c.size_of-width.result c.place_at-place.result c.number_at-number.result c.size_of-width.ensures c.place_at-place.ensures c.number_at-number.ensures (omega (arith, c.if-f-at.false, l.invariant.0)) (omega (arith, c.loop-left-test.true)) (sym c.follows.ensures ∙ c.if-not-follows.false),
     )
 
 pub returns-then-used-over : goal.returns-then-used-over

@@ -14,14 +14,14 @@ returns-then-not-lengths_for c =
     let lengths_for_lem = c.lengths_for in
     λ s same-n same-c. bad_length_lem args.working.now args.stable.now s same-n same-c args.start args.keys.now
     args.records.now c.nothing.result c.nothing.ensures
-    (sym (lengths_for_lem.ensures s same-n) ∙ not-true lengths_for_lem.result c.if-not-lengths_for.true-raw)
+    (sym (lengths_for_lem.ensures s same-n) ∙ c.if-not-lengths_for.true)
 
 pub fit0-requires : goal.fit0-requires
 fit0-requires c =
     let args = c.args in
     let lengths_for_lem = c.lengths_for in
     let sizes = sized args.n args.working.now args.stable.now lengths_for_lem.result lengths_for_lem.ensures
-    (not-false lengths_for_lem.result c.if-not-lengths_for.false-raw) in
+    c.if-not-lengths_for.false in
     omega (arith, sizes.working, sizes.least)
 
 pub returns-then-not-fit0 : goal.returns-then-not-fit0
@@ -31,8 +31,8 @@ returns-then-not-fit0 c =
     let if1 = c.if-not-lengths_for in
     let fit0 = c.fit0 in
     λ s same-n same-c. bad_zero args.working.now args.stable.now s same-n same-c args.start args.keys.now
-    args.records.now (sym (lengths_for_lem.ensures s same-n) ∙ not-false lengths_for_lem.result if1.false-raw)
-    c.nothing-then-not-fit0.result c.nothing-then-not-fit0.ensures (sym fit0.ensures ∙ not-true fit0.result c.if-not-fit0.true-raw)
+    args.records.now (sym (lengths_for_lem.ensures s same-n) ∙ if1.false)
+    c.nothing-then-not-fit0.result c.nothing-then-not-fit0.ensures (sym fit0.ensures ∙ c.if-not-fit0.true)
 
 pub look-requires : goal.look-requires
 look-requires c =
@@ -42,9 +42,9 @@ look-requires c =
     let fit0 = c.fit0 in
     let if2 = c.if-not-fit0 in
     let up_from = c.up_from-asked in
-    let zero = sym fit0.ensures ∙ not-false fit0.result if2.false-raw in
+    let zero = sym fit0.ensures ∙ if2.false in
     let sizes = sized args.n args.working.now args.stable.now lengths_for_lem.result lengths_for_lem.ensures
-    (not-false lengths_for_lem.result if1.false-raw) in
+    if1.false in
     let room = ap (λ (a : Asked). a.room) up_from.ensures in
     let low = ap (λ (a : Asked). a.low) up_from.ensures in
     let high = ap (λ (a : Asked). a.high) up_from.ensures in
@@ -61,6 +61,6 @@ returns c =
     let up_from = c.up_from-asked in
     let look = c.look in
     λ s same-n same-c. answers args.working.now args.stable.now s same-n same-c args.start args.keys.now
-    args.records.now (sym (lengths_for_lem.ensures s same-n) ∙ not-false lengths_for_lem.result if1.false-raw)
-    (sym fit0.ensures ∙ not-false fit0.result if2.false-raw) up_from.result up_from.ensures look.new.t look.result
+    args.records.now (sym (lengths_for_lem.ensures s same-n) ∙ if1.false)
+    (sym fit0.ensures ∙ if2.false) up_from.result up_from.ensures look.new.t look.result
     look.new.keys look.new.records look.ensures

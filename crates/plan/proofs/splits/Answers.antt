@@ -17,7 +17,7 @@ returns-then-not-is_full c =
     let head-on = c.head_on in
     let is_full_lem = c.is_full in
     splits_stop args.way pre loop.i loop.invariant.0 head-on.result c.loop-i-test.true
-    (head-on.ensures head-on.result) (sym is_full_lem.ensures ∙ not-true is_full_lem.result c.if-not-is_full.true-raw)
+    (head-on.ensures head-on.result) (sym is_full_lem.ensures ∙ c.if-not-is_full.true)
 
 pub loop-i-preserved : goal.loop-i-preserved
 loop-i-preserved c =
@@ -28,7 +28,7 @@ loop-i-preserved c =
     let head-on = c.head_on in
     let is_full_lem = c.is_full in (
       splits-next args.way pre loop.i loop.invariant.0 head-on.result if1.true
-          (head-on.ensures head-on.result) (sym is_full_lem.ensures ∙ not-false is_full_lem.result c.if-not-is_full.false-raw),
+          (head-on.ensures head-on.result) (sym is_full_lem.ensures ∙ c.if-not-is_full.false),
       omega (arith, if1.true),
     )
 

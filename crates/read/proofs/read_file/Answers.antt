@@ -9,7 +9,7 @@ use Rattle.read.proofs.read_file.Goals as goal
 pub returns-then-not-lengths_for : goal.returns-then-not-lengths_for
 returns-then-not-lengths_for c =
     refused-length c.args.working.now c.args.stable.now c.args.session c.args.file.now c.nothing.result c.nothing.ensures
-    (sym (c.lengths_for.ensures c.args.session refl) ∙ not-true c.lengths_for.result c.if-not-lengths_for.true-raw)
+    (sym (c.lengths_for.ensures c.args.session refl) ∙ c.if-not-lengths_for.true)
 
 pub enter_all-requires : goal.enter_all-requires
 enter_all-requires c = sym c.check.ensures ∙ c.in-Good.is
@@ -17,11 +17,11 @@ enter_all-requires c = sym c.check.ensures ∙ c.in-Good.is
 pub returns-in-Bad : goal.returns-in-Bad
 returns-in-Bad c =
     refused-file c.args.working.now c.args.stable.now c.args.session c.args.file.now c.in-Bad.place c.nothing-in-Bad.result c.nothing-in-Bad.ensures
-    (sym (c.lengths_for.ensures c.args.session refl) ∙ not-false c.lengths_for.result c.if-not-lengths_for.false-raw) (sym c.check.ensures ∙ c.in-Bad.is)
+    (sym (c.lengths_for.ensures c.args.session refl) ∙ c.if-not-lengths_for.false) (sym c.check.ensures ∙ c.in-Bad.is)
 
 pub returns-in-Good : goal.returns-in-Good
 returns-in-Good c =
     ap (λ (x : Reading). leaving x c.enter_all.new.working c.args.stable.now) c.entered.ensures
     ∙ turns-read c.args.working.now c.args.stable.now c.args.session c.args.file.now c.in-Good.count (sym c.check.ensures ∙ c.in-Good.is)
-    (sym (c.lengths_for.ensures c.args.session refl) ∙ not-false c.lengths_for.result c.if-not-lengths_for.false-raw)
+    (sym (c.lengths_for.ensures c.args.session refl) ∙ c.if-not-lengths_for.false)
     c.enter_all.result c.enter_all.new.working c.enter_all.ensures

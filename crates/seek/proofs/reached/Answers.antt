@@ -15,21 +15,18 @@ pub overflow_mul-size : goal.overflow_mul-size
 overflow_mul-size c =
     let args = c.args in
     let pre = c.requires in
-    let o = c.if-number-eq0.false in
     omega (arith, within args.size (args.number - 1) args.count (omega (arith, pre.4)), pre.1, pre.2)
 
 pub overflow_add-header : goal.overflow_add-header
 overflow_add-header c =
     let args = c.args in
     let pre = c.requires in
-    let o = c.if-number-eq0.false in
     omega (arith, within args.size (args.number - 1) args.count (omega (arith, pre.4)), pre.1, pre.2)
 
 pub get64-requires : goal.get64-requires
 get64-requires c =
     let args = c.args in
     let pre = c.requires in
-    let o = c.if-number-eq0.false in
     omega (arith, within args.size (args.number - 1) args.count (omega (arith, pre.4)), pre.1, pre.2)
 
 pub returns : goal.returns

@@ -17,20 +17,19 @@ returns-then-not-reached c =
     let args = c.args in
     let reached = c.reached in
     not_reached args.key args.header args.size args.count args.number args.page.now
-    (sym reached.ensures ∙ not-true reached.result c.if-not-reached.true-raw)
+    (sym reached.ensures ∙ c.if-not-reached.true)
 
 pub returns-then-number-count-2 : goal.returns-then-number-count-2
 returns-then-number-count-2 c =
     let args = c.args in
     let reached = c.reached in
     reached-all args.key args.header args.size args.count args.number args.page.now
-    (sym reached.ensures ∙ not-false reached.result c.if-not-reached.false-raw) c.if-number-count-2.true
+    (sym reached.ensures ∙ c.if-not-reached.false) c.if-number-count-2.true
 
 pub overflow_mul-size : goal.overflow_mul-size
 overflow_mul-size c =
     let args = c.args in
     let pre = c.requires in
-    let o = c.if-number-count-2.false in
     omega
     (arith, within args.size args.number args.count (omega (arith, c.if-number-count.false)), pre.1, pre.2)
 
@@ -38,7 +37,6 @@ pub overflow_add-header : goal.overflow_add-header
 overflow_add-header c =
     let args = c.args in
     let pre = c.requires in
-    let o = c.if-number-count-2.false in
     omega
     (arith, within args.size args.number args.count (omega (arith, c.if-number-count.false)), pre.1, pre.2)
 
@@ -46,7 +44,6 @@ pub get64-requires : goal.get64-requires
 get64-requires c =
     let args = c.args in
     let pre = c.requires in
-    let o = c.if-number-count-2.false in
     omega
     (arith, within args.size args.number args.count (omega (arith, c.if-number-count.false)), pre.1, pre.2)
 
@@ -57,7 +54,6 @@ returns c =
     let if1 = c.if-number-count in
     let reached = c.reached in
     let get64 = c.get64 in
-    let o = c.if-number-count-2.false in
     reached-next args.key args.header args.size args.count args.number args.page.now
-    (sym reached.ensures ∙ not-false reached.result c.if-not-reached.false-raw) pre.3
+    (sym reached.ensures ∙ c.if-not-reached.false) pre.3
     (omega (arith, if1.false)) get64.result get64.ensures

@@ -12,7 +12,7 @@ returns-then-not-kind_asked c =
     let kind-asked = c.kind_asked in
     let a = c.args in
     covers_fails a.n a.e a.page.now read_head.result read_head.ensures 1
-    (sym kind-asked.ensures ∙ not-true kind-asked.result c.if-not-kind_asked.true-raw)
+    (sym kind-asked.ensures ∙ c.if-not-kind_asked.true)
 
 pub returns-then-head-e : goal.returns-then-head-e
 returns-then-head-e c =
@@ -34,7 +34,7 @@ returns-then-not-sound c =
     let sound = c.sound in
     let a = c.args in
     covers_fails a.n a.e a.page.now read_head.result read_head.ensures 0
-    (sym sound.ensures ∙ not-true sound.result c.if-not-sound.true-raw)
+    (sym sound.ensures ∙ c.if-not-sound.true)
 
 pub returns-then-head-eq-LEAF : goal.returns-then-head-eq-LEAF
 returns-then-head-eq-LEAF c =
@@ -48,8 +48,8 @@ returns-then-head-eq-LEAF c =
     let h = read_head.result in
     let q = read_head.ensures in
     covers-last a.n a.e a.page.now h q (starts-leaf a.n a.e a.page.now h q c.if-head-eq-LEAF.true)
-    (sym sound.ensures ∙ not-false sound.result c.if-not-sound.false-raw)
-    (sym kind-asked.ensures ∙ not-false kind-asked.result if1.false-raw) if2.false if3.false
+    (sym sound.ensures ∙ c.if-not-sound.false)
+    (sym kind-asked.ensures ∙ if1.false) if2.false if3.false
 
 pub has_key-requires : goal.has_key-requires
 has_key-requires c =
@@ -58,7 +58,7 @@ has_key-requires c =
     let sound = c.sound in
     let a = c.args in
     omega
-    (arith, inner_room_lem a.n a.page.now read_head.result read_head.ensures c.if-head-eq-LEAF.false (sym sound.ensures ∙ not-false sound.result c.if-not-sound.false-raw), pre)
+    (arith, inner_room_lem a.n a.page.now read_head.result read_head.ensures c.if-head-eq-LEAF.false (sym sound.ensures ∙ c.if-not-sound.false), pre)
 
 pub returns : goal.returns
 returns c =
@@ -74,5 +74,5 @@ returns c =
     let q = read_head.ensures in
     covers-last a.n a.e a.page.now h q
     (c.has_key.ensures ∙ starts-inner a.n a.e a.page.now h q c.if-head-eq-LEAF.false)
-    (sym sound.ensures ∙ not-false sound.result if4.false-raw)
-    (sym kind-asked.ensures ∙ not-false kind-asked.result if1.false-raw) if2.false if3.false
+    (sym sound.ensures ∙ if4.false)
+    (sym kind-asked.ensures ∙ if1.false) if2.false if3.false

@@ -19,7 +19,7 @@ slice_bounds-covers-end c =
     let pre = c.requires in
     let names-previous = c.names_previous in
     omega
-    (arith, pre, names-within args.n args.e (sym names-previous.ensures ∙ not-false names-previous.result c.if-not-names_previous.false-raw))
+    (arith, pre, names-within args.n args.e (sym names-previous.ensures ∙ c.if-not-names_previous.false))
 
 pub returns : goal.returns
 unfolding read page_at

@@ -14,14 +14,14 @@ pub returns-then-not-lengths_for : goal.returns-then-not-lengths_for
 returns-then-not-lengths_for c =
     let lengths_for_lem = c.lengths_for in
     let a = c.args in
-    let failed = sym (lengths_for_lem.ensures a.session refl) ∙ not-true lengths_for_lem.result c.if-not-lengths_for.true-raw in
+    let failed = sym (lengths_for_lem.ensures a.session refl) ∙ c.if-not-lengths_for.true in
     refused a.working.now a.stable.now a.session failed
 
 pub returns-then-c-gt-LAST_NUMBER : goal.returns-then-c-gt-LAST_NUMBER
 returns-then-c-gt-LAST_NUMBER c =
     let a = c.args in
     spent a.working.now a.stable.now a.session (sym (c.lengths_for.ensures c.args.session refl)
-    ∙ not-false c.lengths_for.result c.if-not-lengths_for.false-raw) c.if-c-gt-LAST_NUMBER.true
+    ∙ c.if-not-lengths_for.false) c.if-c-gt-LAST_NUMBER.true
 
 pub put32-requires : goal.put32-requires
 put32-requires c =
@@ -29,7 +29,7 @@ put32-requires c =
     omega (
       arith,
       long a.working.now a.stable.now a.session (sym (c.lengths_for.ensures c.args.session refl)
-          ∙ not-false c.lengths_for.result c.if-not-lengths_for.false-raw),
+          ∙ c.if-not-lengths_for.false),
     )
 
 pub copy-requires : goal.copy-requires
@@ -40,7 +40,7 @@ copy-requires c =
       arith,
       put32.auto.b,
       same a.working.now a.stable.now a.session (sym (c.lengths_for.ensures c.args.session refl)
-          ∙ not-false c.lengths_for.result c.if-not-lengths_for.false-raw),
+          ∙ c.if-not-lengths_for.false),
     )
 
 pub returns : goal.returns
@@ -51,4 +51,4 @@ returns c =
     let a = c.args in
     rw (c.turn.ensures, c.copy.ensures, put32.ensures)
     (done a.working.now a.stable.now a.session (sym (c.lengths_for.ensures c.args.session refl)
-    ∙ not-false c.lengths_for.result c.if-not-lengths_for.false-raw) if2.false)
+    ∙ c.if-not-lengths_for.false) if2.false)
