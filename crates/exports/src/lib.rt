@@ -10,8 +10,7 @@
 // which promises what `store`'s insert does: the batch calls it too, so it is a function of its own, and through
 // `store` a session would be copied once more.
 //
-// `kh_batch` is lent a slice of structs and so is proved by a walk of its code by hand: it hands its slices on and
-// leaves the numbers to `delivered`, which is covered.
+// `kh_batch` is lent a slice of structs: it hands its slices on and leaves the numbers to `delivered`.
 //
 // Below stand `store`, `insert`, `numbers`, `write` and `read` for the numbers of their answers, and `rules`.
 
