@@ -1,16 +1,14 @@
 -- A batch and its items: each number exactly when the table says. Assumes nothing.
 use Prim.Native.Nat.{ℕ}
-use mathlib.Core.Path.{◌≡◌, refl, ap, subst, sym}
+use mathlib.Core.Path.{◌≡◌, refl}
 use mathlib.Core.Logic.{inl, inr}
 use mathlib.Core.Bool.{Bool, true, false}
 use mathlib.Core.List.{List}
-use Rattle.rules.specs.Report.{Reported, nothing}
-use Rattle.rules.specs.Call.{lengths_for, inserted_no}
+use Rattle.rules.specs.Call.{lengths_for}
 use Rattle.rules.specs.Reports.{insert_reported}
-use Rattle.rules.specs.Batch.{Between, between, insert_item, item_no, BatchLeft, batch_left, batched_no, batch}
+use Rattle.rules.specs.Batch.{Between, insert_item, item_no, batched_no, batch}
 use Rattle.rules.specs.declared.Session.{Session}
 use Rattle.rules.specs.declared.Item.{Item}
-use Rattle.rules.specs.declared.Batched.{Batched}
 use Rattle.answers.specs.Given.{Given}
 use Rattle.answers.specs.Causes.{insert_causes, batch_causes}
 use Rattle.answers.specs.Demand1.{Refused, BatchUnchanged}

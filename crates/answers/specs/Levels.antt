@@ -1,6 +1,6 @@
 -- A walk never runs out of levels, whatever the bytes: with more of them it is the same. So a walk or a tree that is cut
 -- short was cut by a damaged place.
-use Rattle.std.specs.Prelude.{ℕ, ◌+◌, ◌≡◌, true, List, []}
+use Rattle.std.specs.Prelude.{ℕ, ◌+◌, ◌≡◌, List, []}
 use Rattle.rules.specs.Layout.{top_kind}
 use Rattle.rules.specs.Place.{root_place}
 use Rattle.rules.specs.Walk.{descend, way_of, walk, walk_of, unwalked}

@@ -13,7 +13,7 @@ use Rattle.fields.proofs.Bytes.{bytes-append, bytes_sets}
 use Rattle.fields.proofs.Field.{get_put-other, bytes-put, length-put}
 use Rattle.fields.proofs.Run.{sets_append, part_sets_below, length_part}
 use Rattle.rules.specs.Layout.{common_header, cert_size}
-use Rattle.rules.specs.Page.{View, Page, page_in, count, touch, header_bytes, page_bytes, change_bytes, shrink_bytes, over, read_each, write_each, cert_bytes, child_bytes}
+use Rattle.rules.specs.Page.{View, page_in, count, touch, header_bytes, page_bytes, change_bytes, shrink_bytes, over, read_each, write_each, cert_bytes, child_bytes}
 use Rattle.rules.proofs.Bytes.Each.{length-read_each, write_each-append}
 use Rattle.rules.proofs.Bytes.Pages.{bytes-replicate}
 use Rattle.entries.proofs.Header.{header-puts}

@@ -8,7 +8,7 @@ use native.Mathlib.Omega.{arith}
 use lib.ListN.{length}
 use Rattle.fields.specs.Field.{Bytes}
 use Rattle.rules.specs.Layout.{page_size}
-use Rattle.rules.specs.Page.{Page, fresh}
+use Rattle.rules.specs.Page.{fresh}
 use Rattle.rules.specs.Table.{page_at, read, build}
 use Rattle.rules.specs.Place.{mendable, mended, cut_view}
 use Rattle.rules.specs.Enter as rules

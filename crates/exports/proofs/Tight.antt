@@ -1,9 +1,23 @@
--- No second outcome satisfies a contract of this crate. Assumes nothing.
-use mathlib.Core.Path.{refl, sym, ◌∙◌}
+-- No second outcome satisfies a contract of this crate. What that of `kh_batch` says of an outcome is written out here too, and
+-- `kh_batch_ensures_is` says that it is the contract's. Assumes nothing.
+use mathlib.Core.Path.{◌≡◌, refl, sym, ◌∙◌}
 use mathlib.Core.List.{[]}
 use Rattle.rules.specs.Marks.{begun}
 use Rattle.rules.specs.declared.Session.{Session}
+use seplogic.Ra.Ura.{Ura}
+use base.Logic.{SProp}
+use prog.Memory.{Memory}
+use prog.Routine.{Routine}
+use types.Logic.{Logic}
+use contract.Lifetimes.{Lfts}
+use contract.Monad.{Fun, fact}
+use denote.Triple.Entry.{Args}
+use denote.Triple.Clauses.{Lasts, at_exit}
+use Rattle.rules.specs.Batch as rules
 use Rattle.tight.specs.Tight.{Tight}
+use Rattle.exports.specs.Leaves as C
+use Rattle.exports.specs.declared.KhChanged.{KhChanged}
+use Rattle.exports.specs.contracts.kh_batch as stated
 use Rattle.exports.proofs as this
 
 pub kh_format_tight : Tight this.kh_format.Kinds.ps this.kh_format.Kinds.r this.kh_format.Reads.Pre this.kh_format.Reads.Post
@@ -27,6 +41,16 @@ kh_withdraw_tight κs a pre z z' l l' p q =
     ((λ i. (e i).back), (λ i. ((e i).working, l.1)))
 
 -- of an outcome: what is handed back, and what is left behind working and items
+abbrev pub BatchPost : (κs : Lfts 3) (a : Args stated.signature κs) → KhChanged → Lasts stated.ended κs a → Type 0
+BatchPost κs a z l =
+    C.batching z l.0 a.1.0.now l.1.1.1.0
+    ≡ C.batched (rules.batch a.0.now a.1.0.now a.1.1.0 a.1.1.1.0.now)
+
+pub kh_batch_ensures_is : {M : Type 1} {𝓤 : Ura M} (𝓛 : Logic 𝓤) (mem : Memory → SProp 𝓤) (run : Routine → Fun 𝓤)
+    (κs : Lfts 3) (a : Args stated.signature κs) (z : KhChanged) (l : Lasts stated.ended κs a)
+    → (stated.clauses 𝓛 mem run κs a).ensures tt z (at_exit stated.ended κs a l) ≡ fact 𝓤 (BatchPost κs a z l)
+kh_batch_ensures_is 𝓛 mem run κs a z l = refl
+
 pub kh_batch_tight : Tight this.kh_batch.Kinds.ps this.kh_batch.Kinds.r this.kh_batch.Reads.Pre this.kh_batch.Reads.Post
 kh_batch_tight κs a pre z z' l l' p q =
     let e = p ∙ sym q in

@@ -4,12 +4,11 @@
 use Rattle.std.specs.Prelude.{◌≡◌, ℕ, zero, suc, ◌+◌, ◌*◌, ◌^◌, ◌≤◌, Bool, true, false, ◌&&◌, List, [], ◌∷◌, length, replicate, ◌==◌, nat_eq}
 use Rattle.std.proofs.Math.Option.{some, none}
 use Rattle.rules.specs.Layout.{page_size, fewest_pages, most_pages}
-use Rattle.rules.specs.Test.{between}
 use Rattle.rules.specs.Key.{key_of}
 use Rattle.rules.specs.Entry.{Child}
 use Rattle.rules.specs.Page.{count}
 use Rattle.rules.specs.Table.{read, number0, root0, set_number}
-use Rattle.rules.specs.Marks.{opened, free_pages, marks}
+use Rattle.rules.specs.Marks.{free_pages, marks}
 use Rattle.rules.specs.Walk.{Step, numbers, way_of}
 use Rattle.rules.specs.Call.{Left, formatted_no, opened_no, inserted_no, withdrawn_no, looked_no, synced_no}
 use Rattle.rules.specs.Format.{format}

@@ -39,7 +39,7 @@ pages t = length t / page_size
 unfoldable pub good_lengths : List ℕ → List ℕ → Bool
 good_lengths w s =
     every
-    (((length w == length s))
+    ((length w == length s)
     ∷ (length w % page_size == 0)
     ∷ between fewest_pages most_pages (pages w)
     ∷ [])

@@ -1,5 +1,5 @@
 -- The first test that a page fails, as code finds it with the header at hand. Assumes nothing.
-use Rattle.std.proofs.Common.{◌≡◌, ℕ, zero, suc, ◌*◌, ◌≤◌, Bool, true, false, eqb, List, [], ◌∷◌, length, get_or, sym, refl, ◌∙◌, true≢false, arith, drop_of_length-le}
+use Rattle.std.proofs.Common.{◌≡◌, ℕ, zero, suc, ◌*◌, ◌≤◌, true, false, eqb, List, [], ◌∷◌, length, get_or, sym, refl, ◌∙◌, true≢false, arith, drop_of_length-le}
 use Rattle.fields.specs.Field.{number, le_at}
 use Rattle.rules.specs.Layout.{page_size}
 use Rattle.rules.specs.Page.{page_in}

@@ -1,9 +1,22 @@
--- No second outcome satisfies a contract of this crate. Assumes nothing.
-use mathlib.Core.Path.{refl, sym, ◌∙◌}
+-- No second outcome satisfies a contract of this crate. That of `batch` is also read as the crate `batch` writes it out:
+-- `batch_ensures_is`. Assumes nothing.
+use mathlib.Core.Path.{◌≡◌, refl, sym, ◌∙◌}
 use mathlib.Core.List.{[]}
 use Rattle.rules.specs.Marks.{begun}
 use Rattle.rules.specs.declared.Session.{Session}
+use seplogic.Ra.Ura.{Ura}
+use base.Logic.{SProp}
+use prog.Memory.{Memory}
+use prog.Routine.{Routine}
+use types.Logic.{Logic}
+use contract.Lifetimes.{Lfts}
+use contract.Monad.{Fun, fact}
+use denote.Triple.Entry.{Args}
+use denote.Triple.Clauses.{Lasts, at_exit}
+use Rattle.rules.specs.declared.Batching.{Batching}
 use Rattle.tight.specs.Tight.{Tight}
+use Rattle.batch.proofs.Tight as below
+use Rattle.store.specs.contracts.batch as stated
 use Rattle.store.proofs as this
 
 pub format_tight : Tight this.format.Kinds.ps this.format.Kinds.r this.format.Reads.Pre this.format.Reads.Post
@@ -25,6 +38,11 @@ pub withdraw_tight : Tight this.withdraw.Kinds.ps this.withdraw.Kinds.r this.wit
 withdraw_tight κs a pre z z' l l' p q =
     let e = p ∙ sym q in
     ((λ i. record { answer = (e i).left.answer; report = (e i).report; session = (e i).left.session }), (λ i. ((e i).left.working, l.1)))
+
+pub batch_ensures_is : {M : Type 1} {𝓤 : Ura M} (𝓛 : Logic 𝓤) (mem : Memory → SProp 𝓤) (run : Routine → Fun 𝓤)
+    (κs : Lfts 3) (a : Args stated.signature κs) (z : Batching) (l : Lasts stated.ended κs a)
+    → (stated.clauses 𝓛 mem run κs a).ensures tt z (at_exit stated.ended κs a l) ≡ fact 𝓤 (below.Post κs a z l)
+batch_ensures_is 𝓛 mem run κs a z l = refl
 
 pub batch_tight : Tight this.batch.Kinds.ps this.batch.Kinds.r this.batch.Reads.Pre this.batch.Reads.Post
 batch_tight κs a pre z z' l l' p q =

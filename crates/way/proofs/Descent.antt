@@ -32,7 +32,6 @@ use Rattle.enter.specs.declared.Entered.{Entered}
 use Rattle.enter.specs.declared.Above.{Above}
 use Rattle.enter.proofs.Told.{enter-same, told-table, told-page, told-damaged}
 use Rattle.way.specs.Ways.{places_below, Leads, Holds, step_of, way_for, then_of, above_in, walking, way_or, told, reported, went}
-use Rattle.way.specs.declared.Step.{Step}
 use Rattle.way.specs.declared.Way.{Way}
 use Rattle.way.proofs.Inner.{places-kids}
 use Rattle.way.proofs.Stood.{Ready, ready-root, ready-next, Stood, stood-here}

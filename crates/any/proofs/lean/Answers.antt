@@ -1,7 +1,6 @@
 -- `any::lean`: each return is one of the ways that the rules name, for every session with these numbers.
 -- Assumes nothing.
 use mathlib.Core.Path.{sym, ◌∙◌}
-use borrow.Author.Tests.{not-true, not-false}
 use Rattle.tables.proofs.Sizes.{sized}
 use Rattle.any.specs.Anys.{first}
 use Rattle.any.proofs.Calls.{first_range, first-rises, bad_length_lem, bad_model, bad_serial, bad_zero, answers}

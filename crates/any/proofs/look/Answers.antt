@@ -1,5 +1,4 @@
 -- `any::look`: at each turn nothing is found yet, and the walk behind the last leaf is what is left to do. Assumes nothing.
-use Prim.Native.Nat.{◌-◌}
 use Rattle.any.proofs.Turns.{goes_first, ends-damaged, reached, spot-room, turns_less, ends_yes, ends_no, goes-next}
 use native.Mathlib.Omega.{arith}
 use Rattle.any.proofs.look.Goals as goal

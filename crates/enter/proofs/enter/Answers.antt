@@ -1,7 +1,6 @@
 -- `enter::enter`: above, fitting, or lost.
 -- Assumes nothing.
 use mathlib.Core.Path.{sym, ap, ◌∙◌}
-use mathlib.Core.Bool.{true, false}
 use Rattle.rules.specs.Place.{is_none, fits}
 use Rattle.rules.specs.Enter as rules
 use Rattle.rules.specs.Report.{reason_at}
@@ -9,7 +8,6 @@ use Rattle.enter.specs.Entering.{told, above_of, entering}
 use Rattle.enter.specs.declared.Entered.{Entered}
 use Rattle.enter.proofs.Mended.{head_read}
 use Rattle.enter.proofs.Told.{enter-above, enter-fits, enter-lost}
-use borrow.Author.Rules.{rules}
 use Rattle.enter.proofs.enter.Goals as goal
 
 pub returns-then-stands_above : goal.returns-then-stands_above

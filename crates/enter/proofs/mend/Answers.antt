@@ -1,7 +1,6 @@
 -- `enter::mend`: damaged, or the page built and read back.
 -- Assumes nothing.
 use mathlib.Core.Path.{sym, ◌∙◌}
-use borrow.Author.Tests.{not-true, not-false}
 use Rattle.rules.specs.Table.{read}
 use Rattle.rules.proofs.Entries.Places.{mendable_true}
 use Rattle.build.proofs.Sounds.{mendable_ordered}

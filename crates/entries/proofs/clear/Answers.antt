@@ -2,7 +2,6 @@
 -- Assumes nothing.
 use Rattle.entries.proofs.Sets.{cleared_more}
 use native.Mathlib.Nat.{sub_self}
-use Prim.Native.Nat.{◌-◌}
 use mathlib.Core.Path.{◌≡◌}
 use borrow.Author.Rules.{rules}
 use native.Mathlib.Omega.{arith}

@@ -1,7 +1,6 @@
 -- `entries::copy`: the invariant: the bytes so far are those of a copy of k bytes. The measure is what is left of the length.
 -- Assumes nothing.
 use Rattle.entries.proofs.Sets.{copied_more}
-use Prim.Native.Nat.{◌-◌}
 use mathlib.Core.Path.{◌≡◌}
 use borrow.Author.Rules.{rules}
 use native.Mathlib.Omega.{arith}

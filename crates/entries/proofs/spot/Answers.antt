@@ -5,7 +5,6 @@ use Rattle.entries.proofs.Passed.{within, spot_pass, spot_stop, spot-end}
 use native.Mathlib.Nat.{zero-add, add-zero, mul-zero, sub-zero, mul-suc}
 use native.Mathlib.Numerals.{add-one}
 use native.Mathlib.Omega.{arith}
-use Prim.Native.Nat.{◌-◌}
 use lib.ListN.{drop}
 use Rattle.entries.specs.Spot.{keys_in}
 use borrow.Author.Rules.{rules}

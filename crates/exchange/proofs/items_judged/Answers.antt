@@ -1,6 +1,5 @@
 -- `exchange::items_judged`: before each turn the judgement is that of the items left.
 -- Assumes nothing.
-use borrow.Author.Tests.{not-true, not-false}
 use mathlib.Core.Path.{refl, sym, ◌∙◌}
 use Rattle.exchange.proofs.Steps.{followed, items-end, items-bare, items-cut, items_bad, items_on}
 use native.Mathlib.Omega.{arith}

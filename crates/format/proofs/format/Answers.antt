@@ -1,10 +1,9 @@
 -- `format::format`: refused, or cleared, named and given its first leaf.
 -- Assumes nothing.
 -- past the test the lengths are good
-use borrow.Author.Tests.{not-true, not-false}
 use mathlib.Core.Path.{sym, ◌∙◌}
 use lib.ListN.{length}
-use Rattle.rules.specs.Table.{pages, set_page, good_lengths}
+use Rattle.rules.specs.Table.{pages, set_page}
 use Rattle.format.proofs.Whole.{few, long, refused, page-blank, made}
 use native.Mathlib.Omega.{arith}
 use Rattle.format.proofs.format.Goals as goal

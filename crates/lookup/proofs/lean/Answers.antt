@@ -1,7 +1,6 @@
 -- `lookup::lean`: test after test, in document 01's order, for every session with these numbers.
 -- Assumes nothing.
 use mathlib.Core.Path.{sym, ◌∙◌}
-use borrow.Author.Tests.{not-true, not-false}
 use Rattle.tables.proofs.Sizes.{sized}
 use Rattle.lookup.proofs.Call.{bad_length_lem, bad_key, bad_zero, looked-up}
 use native.Mathlib.Omega.{arith}

@@ -1,7 +1,6 @@
 -- `marks::first_free`: the loop's invariant says that what was passed was not free.
 -- Assumes nothing.
 use mathlib.Core.Path.{refl, sym, ◌∙◌}
-use Prim.Native.Nat.{◌-◌}
 use Rattle.marks.specs.Lowest.{entered_by, first_of}
 use Rattle.marks.proofs.Search.{free-here, free-later, free-end}
 use Rattle.marks.proofs.first_free.Goals as goal

@@ -1,7 +1,6 @@
 -- `marks::is_entered`: the loop's invariant says that a number not found so far is found behind or not at all.
 -- Assumes nothing.
 use mathlib.Core.Path.{refl, sym, ◌∙◌}
-use Prim.Native.Nat.{◌-◌}
 use Rattle.marks.proofs.Member.{mem-here, mem-later, mem-end}
 use borrow.Author.Rules.{rules}
 use Rattle.marks.proofs.is_entered.Goals as goal

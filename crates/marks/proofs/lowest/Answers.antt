@@ -1,7 +1,6 @@
 -- `marks::lowest`: the loop's invariant is `Choosing`: so many are chosen, and the others lie ahead.
 -- Assumes nothing.
 use mathlib.Core.Path.{sym, ◌∙◌}
-use Prim.Native.Nat.{◌-◌}
 use Rattle.marks.specs.Lowest.{entered_by}
 use Rattle.marks.proofs.Search.{free-first}
 use Rattle.marks.proofs.Choosing.{choosing_none, choosing_more, choosing_nothing, choosing_all}

@@ -4,7 +4,6 @@ use Rattle.rules.specs.Layout.{most_pages}
 use Rattle.rules.specs.Marks.{raised}
 use Rattle.rules.specs.declared.Session.{Session}
 use mathlib.Core.Path.{◌≡◌, ap, ◌∙◌}
-use Prim.Native.Nat.{◌-◌}
 use native.Mathlib.Omega.{arith}
 use Rattle.marks.proofs.Turning.{turning, turn_page, turning-more, turning-none, turning-all}
 use borrow.Author.Rules.{rules}

@@ -1,7 +1,6 @@
 -- `newest::lean`: each return is one of the ways that the rules name, for every session with these numbers.
 -- Assumes nothing.
 use mathlib.Core.Path.{sym, ◌∙◌}
-use borrow.Author.Tests.{not-true, not-false}
 use Rattle.tables.proofs.Sizes.{sized}
 use Rattle.newest.specs.Newests.{range}
 use Rattle.newest.proofs.Calls.{meter-range, meter-rises, meter-few, bad_length_lem, bad_model, bad_serial, bad_zero, answers}

@@ -1,5 +1,4 @@
 -- `newest::look`: at each turn the walk behind the last leaf is what is left to do. Assumes nothing.
-use Prim.Native.Nat.{◌-◌}
 use Rattle.newest.proofs.Turns.{goes_first, ends-damaged, reached, spot-room, turns_less, ends-leaf, goes-next}
 use native.Mathlib.Omega.{arith}
 use Rattle.newest.proofs.look.Goals as goal

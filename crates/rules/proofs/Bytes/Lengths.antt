@@ -1,5 +1,5 @@
 -- What a call's first test says of the lengths of its two tables. Assumes nothing.
-use Rattle.std.proofs.Common.{◌≡◌, ℕ, ◌*◌, ◌%◌, ◌≤◌, Bool, true, false, ◌&&◌, eqb, List, [], ◌∷◌, length, sym, refl, ◌∙◌, arith, eq-eqb, eqb-true, le-leb}
+use Rattle.std.proofs.Common.{◌≡◌, ℕ, ◌*◌, ◌%◌, Bool, true, false, ◌&&◌, eqb, List, [], ◌∷◌, length, sym, refl, ◌∙◌, arith, eq-eqb, eqb-true, le-leb}
 use Rattle.rules.specs.Layout.{page_size, fewest_pages, most_pages}
 use Rattle.rules.specs.Test.{between, every}
 use Rattle.rules.specs.Table.{pages, good_lengths, Tables}

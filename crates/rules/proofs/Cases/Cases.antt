@@ -10,7 +10,6 @@ use Rattle.rules.specs.Format.{formatted, format}
 use Rattle.rules.specs.Open.{open_refused, open_done, opening}
 use Rattle.rules.specs.declared.Formatted.{Formatted}
 use Rattle.rules.specs.declared.Opened.{Opened}
-use Rattle.rules.specs.declared.Looked.{Looked}
 use Rattle.rules.proofs.Bytes.Lengths.{lengths_bad}
 use Rattle.rules.proofs.Bytes.PageZero.{number0-set_number}
 use Rattle.rules.proofs.Bytes.Fresh.{length-formatted, number0-formatted, format-done, opening-formatted}

@@ -1,8 +1,8 @@
 -- A batch is single inserts in list order. Assumes nothing.
-use Rattle.std.proofs.Common.{◌≡◌, ℕ, suc, Bool, true, false, List, [], ◌∷◌, ◌++◌, length, sym, refl, ap, ◌∙◌}
-use Rattle.rules.specs.Report.{Reported, nothing}
+use Rattle.std.proofs.Common.{◌≡◌, ℕ, suc, Bool, true, false, List, [], ◌∷◌, ◌++◌, length, refl, ap}
+use Rattle.rules.specs.Report.{nothing}
 use Rattle.rules.specs.Call.{lengths_for}
-use Rattle.rules.specs.Batch.{Between, between, after_item, item_no, answered, after_items, items_answered, BatchLeft, batch_left, batch}
+use Rattle.rules.specs.Batch.{Between, between, after_item, item_no, answered, after_items, items_answered, batch_left, batch}
 use Rattle.rules.specs.declared.Session.{Session}
 use Rattle.rules.specs.declared.Item.{Item}
 use Rattle.rules.specs.declared.Batched.{Batched}

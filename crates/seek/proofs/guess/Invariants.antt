@@ -1,6 +1,5 @@
 -- `seek::guess`: each turn is one of the definition's.
 -- Assumes nothing.
-use Prim.Native.Nat.{◌-◌}
 use Rattle.entries.specs.Spot.{keys_in}
 use Rattle.seek.proofs.Halving.{Halving}
 use Rattle.seek.proofs.guess.Given as goal

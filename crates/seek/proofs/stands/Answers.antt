@@ -1,7 +1,6 @@
 -- `seek::stands`: the spot is not before the number, and not after it.
 -- Assumes nothing.
 use mathlib.Core.Path.{sym, ◌∙◌}
-use borrow.Author.Tests.{not-true, not-false}
 use Rattle.entries.proofs.Passed.{within}
 use Rattle.seek.proofs.Spots.{beyond_all, not_reached, reached-all, reached-next}
 use native.Mathlib.Omega.{arith}

@@ -1,6 +1,6 @@
 -- `sound::certs_pass`: before each round the answer is what is left to test after the last key.
 -- Assumes nothing.
-use Rattle.std.proofs.Common.{◌+◌, ◌-◌, refl, arith, rules}
+use Rattle.std.proofs.Common.{◌+◌, refl, arith, rules}
 use Rattle.sound.proofs.Certs.{no_cert, cert_below, cert_bad, certs-start, certs_stop, certs_on, certs-end}
 use Rattle.sound.proofs.certs_pass.Goals as goal
 

@@ -1,6 +1,6 @@
 -- `sound::children_pass`: before each round the answer is what is left to test after the last key.
 -- Assumes nothing.
-use Rattle.std.proofs.Common.{◌+◌, ◌-◌, refl, arith, rules}
+use Rattle.std.proofs.Common.{◌+◌, refl, arith, rules}
 use Rattle.sound.proofs.Children.{no_child, starts_elsewhere, starts_bad, starts_on, children_stop, children_on, children-end}
 use Rattle.sound.proofs.children_pass.Goals as goal
 

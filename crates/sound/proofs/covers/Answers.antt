@@ -1,7 +1,7 @@
 -- `sound::covers`: a test that fails decides, and if all others pass the start of the range does.
 -- Assumes nothing.
 use Rattle.std.proofs.Common.{sym, ◌∙◌, arith}
-use borrow.Author.Tests.{lt-leb, not-true, not-false}
+use borrow.Author.Tests.{lt-leb}
 use Rattle.sound.proofs.ByKind.{inner_room_lem}
 use Rattle.sound.proofs.Mending.{covers_fails, covers-last, starts-leaf, starts-inner}
 use Rattle.sound.proofs.covers.Goals as goal

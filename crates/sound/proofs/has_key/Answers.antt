@@ -1,6 +1,6 @@
 -- `sound::has_key`: before each turn the answer is whether the key is among the entries left.
 -- Assumes nothing.
-use Rattle.std.proofs.Common.{◌-◌, arith, rules}
+use Rattle.std.proofs.Common.{arith, rules}
 use Rattle.head.specs.Head.{child_at}
 use Rattle.sound.proofs.Mending.{seek, seek_found, seek_on, seek-end}
 use Rattle.sound.proofs.has_key.Goals as goal

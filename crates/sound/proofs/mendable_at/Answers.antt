@@ -2,7 +2,6 @@
 -- Assumes nothing.
 use Rattle.std.proofs.Common.{sym, ◌∙◌, arith}
 use native.Mathlib.Nat.{add-sub_cancel_left}
-use borrow.Author.Tests.{not-false}
 use Rattle.rules.specs.Table.{page_at, read}
 use Rattle.sound.proofs.Mending.{names-none, names-some, names-within}
 use Rattle.sound.proofs.mendable_at.Goals as goal

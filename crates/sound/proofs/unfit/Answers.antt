@@ -1,7 +1,6 @@
 -- `sound::unfit`: the tests before the one that fails have passed.
 -- Assumes nothing.
 use Rattle.std.proofs.Common.{sym, ◌∙◌, eq-eqb, ne_eqb}
-use borrow.Author.Tests.{not-true, not-false}
 use Rattle.sound.proofs.Fitting.{Passed, unfit_by, unfit-none}
 use Rattle.sound.proofs.unfit.Goals as goal
 

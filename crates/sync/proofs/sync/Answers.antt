@@ -2,10 +2,7 @@
 -- Assumes nothing.
 -- past the first test the lengths are good
 use mathlib.Core.Path.{refl, sym, ◌∙◌}
-use mathlib.Core.Bool.{true}
-use borrow.Author.Tests.{not-true, not-false}
 use Rattle.rules.specs.Table.{set_number}
-use Rattle.rules.specs.Call.{lengths_for}
 use Rattle.sync.proofs.Ways.{refused, spent, done, same, long}
 use native.Mathlib.Omega.{arith}
 use Rattle.sync.proofs.sync.Goals as goal

@@ -4,7 +4,7 @@ use lib.ListN.{length, set}
 use Rattle.tables.proofs.Front.{zeros, length_zeros, zeros_more, length_front, front_all}
 use mathlib.Core.List.{List}
 use mathlib.Core.Path.{refl, ap, ◌∙◌}
-use Prim.Native.Nat.{ℕ, ◌-◌}
+use Prim.Native.Nat.{ℕ}
 use native.Mathlib.Omega.{arith}
 use borrow.Author.Rules.{rules}
 use Rattle.tables.proofs.clear.Goals as goal

@@ -2,7 +2,7 @@
 -- Assumes nothing.
 use mathlib.Core.Path.{refl, ap, ◌∙◌}
 use mathlib.Core.List.{List}
-use Prim.Native.Nat.{ℕ, ◌-◌}
+use Prim.Native.Nat.{ℕ}
 use lib.ListN.{length, set, get_or}
 use Rattle.tables.proofs.Front.{front_more, length_front, front_all}
 use native.Mathlib.Omega.{arith}

@@ -1,14 +1,13 @@
 -- A batch is a row of inserts in a history: it leaves what they leave, the refused ones included, so histories need no event
 -- of its own. Assumes nothing.
-use Rattle.std.proofs.Common.{◌≡◌, ℕ, ◌<◌, Bool, true, false, List, [], ◌∷◌, sym, refl, ap, ◌∙◌, subst}
-use Rattle.rules.specs.Report.{Reported, nothing}
-use Rattle.rules.specs.Call.{Left, lengths_for, Unchanged}
+use Rattle.std.proofs.Common.{◌≡◌, ℕ, ◌<◌, Bool, true, false, List, [], ◌∷◌, refl, ap, ◌∙◌}
+use Rattle.rules.specs.Report.{nothing}
+use Rattle.rules.specs.Call.{Left, lengths_for}
 use Rattle.rules.specs.Insert.{insert_refused, insert}
 use Rattle.rules.specs.Reports.{insert_reported}
-use Rattle.rules.specs.Batch.{Between, between, insert_item, after_item, after_items, batch_left, batch}
+use Rattle.rules.specs.Batch.{Between, between, insert_item, after_item, after_items, batch}
 use Rattle.rules.specs.History.{Event, inserts, State, after_insert, step, run, Proper, AllProper}
 use Rattle.rules.specs.declared.Session.{Session}
-use Rattle.rules.specs.declared.Report.{Report}
 use Rattle.rules.specs.declared.Inserted.{Inserted}
 use Rattle.rules.specs.declared.Item.{Item}
 use Rattle.rules.proofs.Demand1.Refusals.{insert_stable}

@@ -2,7 +2,7 @@
 -- demand 3 says holds at every point of every history.
 use Rattle.std.proofs.Common.{◌≡◌, ℕ, ◌*◌, ◌≤◌, Bool, true, false, leb, List, [], ◌∷◌, length, sym, refl, ap, ◌∙◌, subst, arith, leb-false, leb-true}
 use Rattle.rules.specs.Layout.{page_size, fewest_pages, last_number}
-use Rattle.rules.specs.Table.{pages, good_lengths}
+use Rattle.rules.specs.Table.{good_lengths}
 use Rattle.rules.specs.Marks.{turned}
 use Rattle.rules.specs.Call.{Left}
 use Rattle.rules.specs.Format.{formatted, format}

@@ -8,7 +8,6 @@ use Rattle.rules.specs.Test.{mem}
 use Rattle.rules.specs.Entry.{keys, find}
 use Rattle.rules.specs.Page.{View, Page}
 use Rattle.rules.specs.Table.{read}
-use Rattle.rules.specs.Sound.{sound}
 use Rattle.rules.specs.Place.{kids, pick, cut_view, show}
 use Rattle.rules.specs.declared.Place.{Place}
 use Rattle.rules.proofs.Demand3.Ways.Ways.{Node, Lost}

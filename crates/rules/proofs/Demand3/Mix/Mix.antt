@@ -7,7 +7,7 @@ use Rattle.rules.specs.Table.{read}
 use Rattle.rules.specs.Place.{root_place, fits, cut_view, show}
 use Rattle.rules.specs.declared.Place.{Place}
 use Rattle.rules.proofs.Demand3.Ways.Ways.{Node, Found, Lost}
-use Rattle.rules.proofs.Demand3.Ways.Invariant.{States, Changed, Old, same, changed, root, New, Inv}
+use Rattle.rules.proofs.Demand3.Ways.Invariant.{States, Changed, Old, same, changed, New, Inv}
 use Rattle.rules.proofs.Entries.Places.{fits_true, fits-of, Mendable, Shown, fitting, lost, show-lost, show-some, shows}
 use Rattle.rules.proofs.Demand3.Ways.Sources.{show-found}
 use Rattle.rules.proofs.Demand3.Ways.Nodes.{node-page}

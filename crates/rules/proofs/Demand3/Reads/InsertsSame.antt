@@ -7,7 +7,7 @@ use Rattle.rules.specs.Entry.{find}
 use Rattle.rules.specs.Walk.{Step, numbers, certs_at, way_of}
 use Rattle.rules.specs.Marks.{free_pages}
 use Rattle.rules.specs.Call.{Left}
-use Rattle.rules.specs.Insert.{splitting, too_soon, no_room, insert_refused, insert_done, insert_along, insert_key, insert}
+use Rattle.rules.specs.Insert.{splitting, too_soon, no_room, insert_refused, insert_done, insert_along, insert}
 use Rattle.rules.specs.declared.Session.{Session}
 use Rattle.rules.specs.declared.Inserted.{Inserted}
 use Rattle.rules.proofs.Demand3.Ways.Invariant.{States}

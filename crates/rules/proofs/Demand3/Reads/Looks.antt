@@ -1,31 +1,25 @@
 -- Lookup in a safe store: it answers by what the working table tells of the key, and what its walk mends changes nothing.
-use Rattle.std.proofs.Common.{◌≡◌, ℕ, ◌<◌, ◌≤◌, Bool, true, false, leb, List, [], ◌∷◌, sym, refl, ap, ◌∙◌, subst, arith, leb-false, leb-true}
+use Rattle.std.proofs.Common.{◌≡◌, ℕ, ◌≤◌, Bool, true, false, List, ◌∷◌, sym, refl, ap, ◌∙◌, subst, arith}
 use mathlib.Core.Option.{Option, some, none}
 use Rattle.rules.specs.Layout.{last_key}
 use Rattle.rules.specs.Key.{key_of, model_of, serial_of, issue_of, good_parts, good_key}
 use Rattle.rules.specs.Entry.{find}
-use Rattle.rules.specs.Page.{View}
-use Rattle.rules.specs.Place.{root_place, kids, pick, show}
-use Rattle.rules.specs.Enter.{enter}
-use Rattle.rules.specs.Walk.{Step, numbers, certs_at, Way, descend, way_of}
+use Rattle.rules.specs.Walk.{Step, certs_at, way_of}
 use Rattle.rules.specs.Call.{Left, looked_no}
 use Rattle.rules.specs.Lookup.{found_in, lookup_left, lookup_key, lookup}
 use Rattle.rules.specs.History.{record_in, content}
 use Rattle.rules.specs.declared.Looked.{Looked}
-use Rattle.rules.specs.declared.Place.{Place}
 use Rattle.rules.specs.declared.Session.{Session}
 use Rattle.rules.proofs.Bytes.Keys.{key_of_parts}
 use Rattle.rules.proofs.Entries.Tests.{not_both}
 use Rattle.rules.proofs.Entries.Entries.{all-find}
-use Rattle.rules.proofs.Entries.Picks.{pick-holds}
-use Rattle.rules.proofs.Demand3.Ways.Ways.{Node, Tells}
+use Rattle.rules.proofs.Demand3.Ways.Ways.{Tells}
 use Rattle.rules.proofs.Demand3.Ways.Invariant.{States}
-use Rattle.rules.proofs.Demand3.Ways.Kids.{sound-here, kid-within}
-use Rattle.rules.proofs.Demand3.Ways.Nodes.{node-root, node-range, tells-one}
-use Rattle.rules.proofs.Demand3.Epochs.Epochs.{working-good}
+use Rattle.rules.proofs.Demand3.Ways.Kids.{sound-here}
+use Rattle.rules.proofs.Demand3.Ways.Nodes.{node-range, tells-one}
 use Rattle.rules.proofs.Demand3.Epochs.Store.{Safe}
 use Rattle.rules.proofs.Demand3.Epochs.Syncs.{lengths_for_lem}
-use Rattle.rules.proofs.Demand3.Steps.Mended.{steady_then, steady-tells}
+use Rattle.rules.proofs.Demand3.Steps.Mended.{steady-tells}
 use Rattle.rules.proofs.Demand3.Reads.Enters.{Calm, calm}
 use Rattle.rules.proofs.Demand3.Reads.SameWay.{steps_to, way-passes}
 use Rattle.rules.proofs.Demand3.Steps.Paths.{Descends, way_descends, way-tells}

@@ -19,7 +19,7 @@ use Rattle.rules.proofs.Demand3.Epochs.Epochs.{working-good}
 use Rattle.rules.proofs.Demand3.Epochs.Opens.{kid-node}
 use Rattle.rules.proofs.Demand3.Epochs.Store.{Safe}
 use Rattle.rules.proofs.Demand3.Reads.Brings.{brought}
-use Rattle.rules.proofs.Demand3.Reads.Enters.{Calm, calm, AllHigher, none_higher, more_higher, Entering, entering}
+use Rattle.rules.proofs.Demand3.Reads.Enters.{Calm, AllHigher, none_higher, more_higher, Entering, entering}
 
 -- ── The same way through a table that stays as it is ────────────────────────────────────────────────────────────
 

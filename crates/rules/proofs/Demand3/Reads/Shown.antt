@@ -1,7 +1,7 @@
 -- What is shown of certificates that rise, in a range and while there is room: the first so many of those in the range; and what
 -- newest makes of it, the last one.
-use Rattle.std.proofs.Common.{◌≡◌, ℕ, suc, ◌-◌, ◌<◌, ◌≤◌, min, true, ◌⊎◌, List, [], ◌∷◌, ◌++◌, length, take, drop, sym, refl, ap, ◌∙◌, subst, inl, inr, arith, length-drop, take-append-drop, length-take}
-use mathlib.Core.Option.{Option, some, none, some-injective}
+use Rattle.std.proofs.Common.{◌≡◌, ℕ, suc, ◌-◌, ◌<◌, ◌≤◌, true, ◌⊎◌, List, [], ◌∷◌, length, take, drop, sym, refl, ap, ◌∙◌, inl, inr, arith, length-drop, take-append-drop, length-take}
+use mathlib.Core.Option.{Option, some, none}
 use Rattle.rules.specs.Layout.{last_key, last_final}
 use Rattle.rules.specs.Test.{between, all, mem}
 use Rattle.rules.specs.Key.{key_of, issue_of, good_key}

@@ -1,9 +1,9 @@
 -- How many certificates a tree has: few in any table; in good tables as many as there are keys with a record, so the same
 -- where two tables tell the same, one more where a key more has one and one less where a key less has; and a list from key 0 shows them all.
-use Rattle.std.proofs.Common.{◌≡◌, ℕ, suc, ◌+◌, ◌-◌, ◌*◌, ◌≤◌, min, Bool, true, false, eqb, leb, ◌≢◌, ◌⊎◌, List, [], ◌∷◌, ◌++◌, length, take, sym, refl, ap, ◌∙◌, subst, inl, inr, mul-le-mul_right, arith, length-append, length-take, eqb-true, leb-false, leb-true}
+use Rattle.std.proofs.Common.{◌≡◌, ℕ, suc, ◌+◌, ◌-◌, ◌*◌, ◌≤◌, min, Bool, true, false, eqb, leb, ◌≢◌, ◌⊎◌, List, [], ◌∷◌, length, take, sym, refl, ap, ◌∙◌, subst, inl, inr, mul-le-mul_right, arith, length-append, length-take, eqb-true, leb-false, leb-true}
 use mathlib.Core.Option.{Option, some, none}
 use borrow.Author.Tests.{eqb-false}
-use Rattle.rules.specs.Layout.{leaf_room, inner_room, top_kind, last_key}
+use Rattle.rules.specs.Layout.{leaf_room, inner_room, last_key}
 use Rattle.rules.specs.Test.{between, mem}
 use Rattle.rules.specs.Entry.{Cert, Child, keys, find, put}
 use Rattle.rules.specs.Page.{View}

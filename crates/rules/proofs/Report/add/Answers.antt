@@ -1,7 +1,6 @@
 -- `rules::Report::add`: a page that fitted adds nothing; the first reason stays.
 -- Assumes nothing.
 use Rattle.std.proofs.Common.{sym, ◌∙◌}
-use Rattle.rules.specs.Place.{is_none}
 use Rattle.rules.specs.Report.{first_of, adds}
 use Rattle.rules.proofs.Report.add.Goals as goal
 
