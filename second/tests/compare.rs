@@ -4,7 +4,7 @@
 #[cfg(all(feature = "broken", not(store)))]
 #[test]
 fn the_store_is_there() {
-    panic!("no library of the store: `rt staticlib exports` writes it");
+    panic!("no library of the store: `./build` writes it");
 }
 
 #[cfg(all(store, not(any(feature = "caps4", feature = "caps2"))))]

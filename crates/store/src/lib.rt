@@ -38,8 +38,8 @@
 // `open`, and at a crash.
 //
 // Each contract is one equation with the rule of that name: answer, session and every byte lent are the rule's. What
-// the rules promise of crashes is the theorem `demand3` of `rules`. Stack: no call holds more
-// than 2 KiB of local arrays; `tools/frames` reads off the object code what each function takes.
+// the rules promise of crashes is the theorem `demand3` of `rules`. Stack: no function takes more than 2 KiB, as `tools/frames`
+// reads off the object code, and no call holds more in local arrays but `batch`, whose functions keep eleven sessions' marks.
 //
 // Of a session a call that only reads needs two numbers, n and c, and hands it back as it came. Its lean form,
 // `lean_lookup` and so on, takes them instead and hands no session back. It promises of every session with these

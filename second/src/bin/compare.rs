@@ -4,7 +4,7 @@ use std::process::ExitCode;
 
 #[cfg(not(store))]
 fn main() -> ExitCode {
-    eprintln!("compare: the store's library is not there; `rt staticlib exports` writes it");
+    eprintln!("compare: the store's library is not there; `./build` writes it");
     ExitCode::from(2)
 }
 
