@@ -1,7 +1,11 @@
 -- No second outcome satisfies a contract of this crate. Assumes nothing.
 use mathlib.Core.Path.{refl, sym, ◌∙◌}
 use Rattle.tight.specs.Tight.{Tight}
+use Rattle.tight.specs.Lent.{TightLent}
 use Rattle.head.proofs as this
+
+pub page_at_tight : TightLent this.page_at.Kinds.ps this.page_at.Kinds.r this.page_at.Reads.Pre this.page_at.Reads.Post (λ κs z. z.now)
+page_at_tight κs a pre z z' l l' p q = (p.0 ∙ sym q.0, refl)
 
 pub read_head_tight : Tight this.read_head.Kinds.ps this.read_head.Kinds.r this.read_head.Reads.Pre this.read_head.Reads.Post
 read_head_tight κs a pre z z' l l' p q = (p ∙ sym q, refl)

@@ -54,6 +54,16 @@ pub struct Zero {
     pub birth: u32,
 }
 
+// Page i of a table, lent as it lies there.
+pub fn page_at(table: &[u8], i: usize) -> &[u8]
+    requires { (i + 1) * page_size ≤ length table.now }
+    ensures bytes { result.now ≡ page_at table.now i }
+    ensures size { length result.now ≡ page_size }
+{
+    let from = i * PAGE;
+    &table[from..from + PAGE]
+}
+
 pub fn read_head(page: &[u8]) -> Head
     requires { common_header ≤ length page.now }
     ensures { result ≡ head_in page.now }
