@@ -44,21 +44,12 @@ pub fn copy(to: &mut [u8], from: &[u8])
     requires { length from.now ≡ length to.old }
     ensures { to.new ≡ from.now }
 {
-    let mut i = 0;
-    while i < from.len() {
-        to[i] = from[i];
-        i += 1;
-    }
+    to.copy_from_slice(from);
 }
 
 // Every byte becomes zero.
 pub fn clear(table: &mut [u8])
     ensures { table.new ≡ replicate (length table.old) 0 }
 {
-    let bytes = table.len();
-    let mut i = 0;
-    while i < bytes {
-        table[i] = 0;
-        i += 1;
-    }
+    table.fill(0);
 }
