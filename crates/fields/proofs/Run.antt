@@ -5,8 +5,9 @@ use mathlib.Core.List.{List, [], ◌∷◌, ◌++◌, append_assoc}
 use Prim.Native.Nat.{ℕ, zero, suc, ◌+◌, ◌≤◌}
 use native.Mathlib.Nat.{add-zero, add-suc, suc-add}
 use native.Mathlib.Omega.{arith}
+use borrow.Rule.Slice.PartMut.{put_mid}
 use lib.ListN.{length, set, take, drop, length-drop}
-use lib.Seq.{sets, sets-eq, take_at, drop_at, take-take, drop-set-lt, take-set-le, length-take-le}
+use lib.Seq.{sets, sets-eq, take_at, drop_at, drop-drop, take-take, drop-set-lt, take-set-le, length-take-le}
 
 -- ── A part ──────────────────────────────────────────────────────────────────────────────────────────────────────
 
@@ -42,3 +43,7 @@ part_sets b vs off w e h =
 pub part_sets_below : (vs b : List ℕ) (off at u : ℕ) → at + u ≤ off → take u (drop at (sets b off vs)) ≡ take u (drop at b)
 part_sets_below vs b off at u h =
     sym (part_take u at off (sets b off vs) h) ∙ ap (λ (l : List ℕ). take u (drop at l)) (take_sets vs b off off (omega arith)) ∙ part_take u at off b h
+
+-- what is written over a part of a slice is a run of stores
+pub put_mid-sets : (b ys : List ℕ) (at w : ℕ) → length ys ≡ w → at + w ≤ length b → put_mid at w b ys ≡ sets b at ys
+put_mid-sets b ys at w e h = rw (sets-eq ys b at (rw e h), drop-drop, e, append_assoc)

@@ -1,8 +1,6 @@
-use Rattle.std.proofs.Common.{arith, ◌+◌}
-use Rattle.fields.proofs.Field.{le_at-add, le_at_byte}
+use mathlib.Core.Path.{◌∙◌}
+use Rattle.fields.proofs.Library.{le_at_bytes}
 use Rattle.fields.proofs.get16.Goals as goal
 
 pub returns : goal.returns
-returns c =
-    let a = c.args in
-    omega (arith, le_at-add a.b.now a.at 1 1, le_at_byte a.b.now a.at, le_at_byte a.b.now (a.at + 1))
+returns c = let a = c.args in c.from_le_bytes.ensures ∙ le_at_bytes 1 a.b.now c.bytes_at.result a.at c.bytes_at.ensures

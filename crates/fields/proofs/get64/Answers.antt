@@ -1,6 +1,6 @@
-use Rattle.std.proofs.Common.{arith}
-use Rattle.fields.proofs.Field.{le_at-add}
+use mathlib.Core.Path.{◌∙◌}
+use Rattle.fields.proofs.Library.{le_at_bytes}
 use Rattle.fields.proofs.get64.Goals as goal
 
 pub returns : goal.returns
-returns c = let a = c.args in omega (arith, le_at-add a.b.now a.at 4 4, c.get32-first.ensures, c.get32-second.ensures)
+returns c = let a = c.args in c.from_le_bytes.ensures ∙ le_at_bytes 7 a.b.now c.bytes_at.result a.at c.bytes_at.ensures
