@@ -91,14 +91,14 @@ fn look(t: &mut [u8], n: usize, c: u32, key: u64) -> Sought
 {
     let ended = way::leaf_of(t, n, c, key);
     let report = ended.report;
-    if ended.end.len == 0 {
+    let Some(end) = ended.end else {
         return Sought {
             answer: Looked::Damaged,
             report,
         };
-    }
+    };
     Sought {
-        answer: find_on(t, ended.end.leaf.place.child, ended.end.spot, key),
+        answer: find_on(t, end.leaf.place.child, end.spot, key),
         report,
     }
 }

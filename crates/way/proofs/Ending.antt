@@ -3,15 +3,16 @@ use mathlib.Core.Path.{◌≡◌, refl, sym, ap, ◌∙◌}
 use mathlib.Core.Bool.{true}
 use mathlib.Core.List.{List, []}
 use mathlib.Core.Option.{some}
-use Prim.Native.Nat.{ℕ, ◌+◌, ◌-◌, ◌*◌, ◌^◌, ◌≤◌, ◌<◌}
+use Prim.Native.Nat.{ℕ, suc, ◌+◌, ◌-◌, ◌*◌, ◌^◌, ◌≤◌, ◌<◌}
 use native.Mathlib.Omega.{arith}
 use lib.ListN.{length}
+use Rattle.std.specs.Prelude.{Option, Some, None}
 use Rattle.fields.specs.Field.{Bytes}
 use Rattle.rules.specs.Layout.{page_size, leaf_kind, last_key}
 use Rattle.rules.specs.Table.{read, fit0}
 use Rattle.rules.specs.Place.{root_place, pick}
 use Rattle.rules.specs.Enter as entry
-use Rattle.rules.specs.Report.{Reported, adds, reason_at}
+use Rattle.rules.specs.Report.{adds, reason_at}
 use Rattle.rules.specs.Walk as rules
 use Rattle.rules.specs.declared.Place.{Place}
 use Rattle.rules.specs.declared.Reason.{Reason}
@@ -20,11 +21,10 @@ use Rattle.head.specs.declared.Head.{Head}
 use Rattle.enter.specs.Entering as enters
 use Rattle.enter.specs.declared.Entered.{Entered}
 use Rattle.enter.specs.declared.Above.{Above}
-use Rattle.way.specs.Ways.{places_below, no_step, way_for, then_of, above_in, walking, told, no_end, spot_at, ending, end_in, Walking, Ending, reported, ended}
+use Rattle.way.specs.Ways.{places_below, way_for, then_of, above_in, spot_at, ending, end_or, end_in, Ending, reported, ended}
 use Rattle.way.specs.declared.Way.{Way}
 use Rattle.way.specs.declared.End.{End}
 use Rattle.way.proofs.Descent as way
-use Rattle.way.proofs.Leaf.{spot-nowhere}
 
 pub record Seeking (n c k : ℕ) (t₀ t : List ℕ) (a : Above) (e : Place) (level : ℕ) (x₀ x : Report) : Type 0 where
   pub whole : Way
@@ -39,40 +39,42 @@ begins n c k t e x₀ x l f b g y m h = record {
   above = refl;
 }
 
-no_end_lem : (k : ℕ) (u : List ℕ) → ending u no_end ≡ end_in k (walking u (way_for []))
-no_end_lem k u = ap (λ (y : ℕ). ending u (record { len = 0; leaf = no_step; spot = y })) (sym (spot-nowhere k u))
-
--- the end of what is handed back with a report
-end_of : (k : ℕ) {w z : Reported Walking} → w ≡ z
-    → reported (end_in k w.left) w.report ≡ reported (end_in k z.left) z.report
-end_of k h = ap (λ (q : Reported Walking). reported (end_in k q.left) q.report) h
-
 -- what the code hands back with a report is what the rules do
-abbrev pub Handed : ℕ → ℕ → ℕ → List ℕ → Report → List ℕ → End → Report → Type 0
+abbrev pub Handed : ℕ → ℕ → ℕ → List ℕ → Report → List ℕ → Option End → Report → Type 0
 Handed n c k t₀ x₀ u r x =
-    ended u (record { end = r; report = x }) ≡ reported (end_in k (told (rules.way_of n c k t₀))) (rules.way_report n c k t₀ x₀)
+    ended u (record { end = r; report = x }) ≡ reported (end_in k (rules.way_of n c k t₀)) (rules.way_report n c k t₀ x₀)
+
+both : {a b : Ending} {x y : Report} → a ≡ b → x ≡ y → reported a x ≡ reported b y
+both p q = cc
 
 module _ {n c k : ℕ} {t₀ t : List ℕ} {a : Above} {e : Place} {level : ℕ} {x₀ x : Report} (s : Seeking n c k t₀ t a e level x₀ x) where
-  pub runs_out : level ≡ 0 → Handed n c k t₀ x₀ t no_end x
-  runs_out z = ap (λ (q : Ending). reported q x) (no_end_lem k t) ∙ end_of k (way.runs_out-reported s.descent z)
+  pub runs_out : level ≡ 0 → Handed n c k t₀ x₀ t None x
+  unfolding end_in end_or
+  runs_out z = both (sym (ap (end_in k) (way.out-way s.descent z))) (sym (way.out-report s.descent z))
 
   module _ (o : 0 < level) where
     pub damaged : (u : List ℕ) → enters.entering u Entered.Damaged ≡ enters.told (reason_at n t e) (entry.enter n c (enters.above_of a) t e)
-        → Handed n c k t₀ x₀ u no_end x
-    damaged u h = ap (λ (q : Ending). reported q x) (no_end_lem k u) ∙ end_of k (way.damaged-reported s.descent o a s.above u h)
+        → Handed n c k t₀ x₀ u None x
+    unfolding end_in end_or
+    damaged u h =
+        both (sym (ap (end_in k) (way.damaged-way s.descent o a s.above u h))) (sym (way.damaged-report s.descent o a s.above u h))
 
     module _ (u : List ℕ) (h : Head) (why : Reason)
         (f : enters.entering u (Entered.Page h why) ≡ enters.told (reason_at n t e) (entry.enter n c (enters.above_of a) t e))
         (y : Report) (v : y ≡ adds why x) where
-      entered : s.whole.len ≡ 3 - level
-      entered = omega (arith, ap (λ (w : Way). w.len) s.descent.way, s.descent.deep)
-
-      pub ends : h.kind ≡ leaf_kind → (i : ℕ) → i ≡ spot_at k u (record { place = e; head = h })
-          → Handed n c k t₀ x₀ u (record { len = 3 - level + 1; leaf = record { place = e; head = h }; spot = i }) y
-      ends q i g =
-          ap (λ (l : ℕ). reported (ending u (record { len = l + 1; leaf = record { place = e; head = h }; spot = i })) y) (sym entered)
-          ∙ (ap (λ (j : ℕ). reported (ending u (record { len = s.whole.len + 1; leaf = record { place = e; head = h }; spot = j })) y) g
-          ∙ end_of k (way.ends-reported s.descent o a s.above u h why f q y v))
+      -- one more page than stand above it
+      pub ends : h.kind ≡ leaf_kind → (j : ℕ) → j + level ≡ 4 → (i : ℕ) → i ≡ spot_at k u (record { place = e; head = h })
+          → Handed n c k t₀ x₀ u (Some (record { len = j; leaf = record { place = e; head = h }; spot = i })) y
+      unfolding end_in end_or
+      ends q j m i g =
+          let l : j ≡ suc (length s.descent.above) = omega (arith, m, s.descent.deep) in
+          both
+          (ap (λ (z : ℕ). ending u (Some (record { len = z; leaf = record { place = e; head = h }; spot = i }))) l
+          ∙ (ap (λ (z : ℕ). ending u (Some (record { len = suc (length s.descent.above); leaf = record { place = e; head = h }; spot = z }))) g
+          ∙ (ap (λ (z : Head). ending u (Some (record { len = suc (length s.descent.above); leaf = record { place = e; head = z }; spot = spot_at k u (record { place = e; head = z }) })))
+          (way.head-here s.descent o a s.above u h why f)
+          ∙ sym (ap (end_in k) (way.leaf-way s.descent o a s.above u h why f q)))))
+          (way.more s.descent o a s.above u h why f y v ∙ sym (way.leaf-report s.descent o a s.above u h why f q))
 
       pub goes_on : (h.kind ≡ leaf_kind → ⊥) → (b : Place) → pick k (places_below h (read u e.child).view) ≡ some b
           → Seeking n c k t₀ u (record { parent = e.child; top = a.parent }) b (level - 1) x₀ y
@@ -82,14 +84,9 @@ module _ {n c k : ℕ} {t₀ t : List ℕ} {a : Above} {e : Place} {level : ℕ}
         above = ap (λ (z : Above). record { parent = e.child; top = z.parent }) s.above;
       }
 
--- ── The whole way back from its end ─────────────────────────────────────────────────────────────────────────────
+-- ── The end taken apart ─────────────────────────────────────────────────────────────────────────────────────────
 
--- what the code does not keep, as the rules have it
-abbrev pub whole_of : rules.Way → End → Way
-whole_of x r = record { len = r.len; leaf = r.leaf; parent = (told x).way.parent; top = (told x).way.top }
-
-pub whole-way : (k : ℕ) (x : rules.Way) (u : List ℕ) (r : End) → ending u r ≡ end_in k (told x) → walking u (whole_of x r) ≡ told x
-whole-way k x u r h = ap (λ (y : Ending). walking y.table (whole_of x y.end)) h
-
-pub end-spot : (k : ℕ) (x : rules.Way) (u : List ℕ) (r : End) → ending u r ≡ end_in k (told x) → r.spot ≡ spot_at k u r.leaf
-end-spot k x u r h = ap (λ (y : Ending). y.end.spot) h ∙ sym (ap (λ (y : Ending). spot_at k y.table y.end.leaf) h)
+module _ (k : ℕ) (x : rules.Way) (u : List ℕ) where
+  pub end-table : {r : Option End} → ending u r ≡ end_in k x → u ≡ x.table
+  unfolding end_in
+  end-table h = ap (λ (y : Ending). y.table) h

@@ -1,5 +1,5 @@
 -- A leaf that was entered, by its header: which certificates it has, and that their keys rise. Assumes nothing.
-use mathlib.Core.Path.{◌≡◌, refl, sym, ap, ◌∙◌}
+use mathlib.Core.Path.{◌≡◌, sym, ap, ◌∙◌}
 use mathlib.Core.Bool.{true}
 use mathlib.Core.List.{List}
 use Prim.Native.Nat.{ℕ, ◌≤◌}
@@ -13,9 +13,9 @@ use Rattle.rules.proofs.Bytes.Each.{length-read_each}
 use Rattle.rules.proofs.Entries.Views.{leaf_kind_lem}
 use Rattle.head.specs.declared.Head.{Head}
 use Rattle.head.proofs.Headers.{head_of, view-leaf, kind-view, count-view}
-use Rattle.entries.specs.Spot.{keys_in, spot_of}
+use Rattle.entries.specs.Spot.{keys_in}
 use Rattle.entries.proofs.KeysIn.{keys-certs}
-use Rattle.way.specs.Ways.{Holds, no_step, spot_at}
+use Rattle.way.specs.Ways.{Holds}
 
 -- the first so many certificates of a leaf
 abbrev pub certs_in : ℕ → List ℕ → List Cert
@@ -40,8 +40,3 @@ module _ (b : List ℕ) (h : Head) (f : h ≡ head_of (page_in b)) (l : Holds (v
 
   pub holds-keys : rising (keys_in leaf_header cert_size h.count b) ≡ true
   holds-keys = rw (keys-certs h.count b) at holds-rise
-
--- no step has no keys
-pub spot-nowhere : (k : ℕ) (t : List ℕ) → spot_at k t no_step ≡ 0
-unfolding spot_at keys_in read_each spot_of
-spot-nowhere k t = refl

@@ -19,3 +19,6 @@ look_ahead_tight κs a pre z z' l l' p q = (p ∙ sym q, refl)
 
 pub place_below_tight : Tight this.place_below.Kinds.ps this.place_below.Kinds.r this.place_below.Reads.Pre this.place_below.Reads.Post
 place_below_tight κs a pre z z' l l' p q = (some-injective z z' (sym p ∙ q), refl)
+
+pub spot_at_tight : Tight this.spot_at.Kinds.ps this.spot_at.Kinds.r this.spot_at.Reads.Pre this.spot_at.Reads.Post
+spot_at_tight κs a pre z z' l l' p q = (p ∙ sym q, refl)

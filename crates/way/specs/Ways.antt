@@ -1,5 +1,6 @@
 -- The rules' way as the code hands it back: each step by its place and its page's header, at most three.
-use Rattle.std.specs.Prelude.{ℕ, ◌+◌, ◌-◌, ◌≤◌, ◌≡◌, true, false, List, [], ◌∷◌, length}
+use Rattle.std.specs.Prelude as prelude
+use Rattle.std.specs.Prelude.{ℕ, ◌+◌, ◌-◌, ◌≤◌, ◌≡◌, true, false, List, [], ◌∷◌, length, Some, None}
 use Rattle.std.proofs.Math.Option.{Option, some, none}
 use Rattle.rules.specs.Layout.{leaf_header, cert_size, leaf_room, inner_room}
 use Rattle.rules.specs.Entry.{keys, rising}
@@ -69,22 +70,25 @@ told w = record { table = w.table; way = way_or w.steps }
 
 -- ── The end of a way alone ──────────────────────────────────────────────────────────────────────────────────────
 
-abbrev pub no_end : End
-no_end = record { len = 0; leaf = no_step; spot = 0 }
-
--- how many keys of the leaf of a step stand before the first one above k; of no step none
+-- how many keys of the leaf of a step stand before the first one above k
 unfoldable pub spot_at : ℕ → List ℕ → Step → ℕ
 spot_at k t s = spot_of k (keys_in leaf_header cert_size s.head.count (page_at t s.place.child))
 
 pub record Ending : Type 0 where
   pub table : List ℕ
-  pub end : End
+  pub end : prelude.Option End
 
-abbrev pub ending : List ℕ → End → Ending
+abbrev pub ending : List ℕ → prelude.Option End → Ending
 ending t e = record { table = t; end = e }
 
-abbrev pub end_in : ℕ → Walking → Ending
-end_in k w = ending w.table (record { len = w.way.len; leaf = w.way.leaf; spot = spot_at k w.table w.way.leaf })
+-- the first step, how many steps there are, and the spot of a key there; no steps: a damaged place was met
+unfoldable pub end_or : ℕ → List ℕ → Option (List rules.Step) → prelude.Option End
+end_or k t none = None
+end_or k t (some []) = None
+end_or k t (some (s ∷ ss)) = Some (record { len = length (s ∷ ss); leaf = step_of s; spot = spot_at k t (step_of s) })
+
+unfoldable pub end_in : ℕ → rules.Way → Ending
+end_in k w = ending w.table (end_or k w.table w.steps)
 
 -- ── With a report ───────────────────────────────────────────────────────────────────────────────────────────────
 

@@ -11,25 +11,23 @@
 
 #![tactic(auto)]
 
-ghost use Rattle.std.specs.Prelude.{◌≡◌, true, [], ◌+◌, ◌*◌, ◌-◌, ◌≤◌, ◌<◌, length, drop};
+ghost use Rattle.std.specs.Prelude.{◌≡◌, true, [], ◌+◌, ◌*◌, ◌≤◌, ◌<◌, length};
 ghost use Rattle.std.proofs.Math.Option.{some};
-ghost use Rattle.rules.specs.Layout.{page_size, inner_header, child_size};
-ghost use Rattle.rules.specs.Entry.{keys, rising};
-ghost use Rattle.rules.specs.Page.{read_each, child_in};
+ghost use Rattle.rules.specs.Layout.{page_size, leaf_header, cert_size, leaf_room};
+ghost use Rattle.rules.specs.Entry.{rising};
 ghost use Rattle.rules.specs.Table.{page_at, read, fit0};
-ghost use Rattle.rules.specs.Place.{places_in, pick};
+ghost use Rattle.rules.specs.Place.{pick};
 ghost use Rattle.rules.specs.Report.{nothing};
 ghost use Rattle.rules.specs.Walk.{way_of, way_report};
 ghost use Rattle.entries.specs.Spot.{keys_in, spot_of};
-ghost use Rattle.head.proofs.Headers.{head_of};
 ghost use Rattle.way.specs.Ahead.{ahead_of};
-ghost use Rattle.way.specs.Ways.{places_below, Leads, Holds, no_step, way_for, then_of, above_in, told, no_end, spot_at, end_in, reported, went, ended};
+ghost use Rattle.way.specs.Ways.{places_below, Leads, no_step, way_for, then_of, above_in, told, end_in, reported, went, ended};
 
 use enter::{Above, Entered};
 use head::Head;
 use rules::{
     AT_COUNT, AT_KIND, CERT, CHILD, INNER_HEADER, INNER_ROOM, LEAF, LEAF_HEADER, LEAF_ROOM, LEVELS,
-    PAGE, Place, Report,
+    Place, Report,
 };
 
 // A page entered: the place that asked for it, and its header.
@@ -56,8 +54,7 @@ pub struct Went {
     pub report: Report,
 }
 
-// The end of a way: its leaf, how many pages were entered, and how many of the leaf's keys are not above the one sought;
-// no pages of a way that met a damaged place.
+// The end of a way: its leaf, how many pages were entered, and how many of the leaf's keys are not above the one sought.
 #[derive(Clone, Copy)]
 pub struct End {
     pub len: usize,
@@ -65,10 +62,10 @@ pub struct End {
     pub spot: usize,
 }
 
-// The end of a way, and what was mended on it.
+// The end of a way, unless it met a damaged place, and what was mended on it.
 #[derive(Clone, Copy)]
 pub struct Ended {
-    pub end: End,
+    pub end: Option<End>,
     pub report: Report,
 }
 
@@ -134,12 +131,14 @@ fn above(way: Way) -> Above
     }
 }
 
-// Where halving ends on a page that nobody has tested: in an inner page for the key of the way, in a leaf for the last
-// key wanted there. A page that is not sound may give any number, so every use of it begins with its confirmation.
-fn look_in(page: &[u8], key: u64, upto: u64) -> usize
-    requires { length page.now ≡ page_size }
-    ensures { result ≡ ahead_of key upto page.now }
+// Where halving ends on page i of a table, which nobody has tested: in an inner page for the key of the way, in a leaf for
+// the last key wanted there. A page that is not sound may give any number, so every use of it begins with its
+// confirmation.
+pub fn look_ahead(table: &[u8], i: u16, key: u64, upto: u64) -> usize
+    requires { (i + 1) * page_size ≤ length table.now }
+    ensures { result ≡ ahead_of key upto (page_at table.now i) }
 {
+    let page = head::page_at(table, i as usize);
     let count = fields::get16(page, AT_COUNT);
     if fields::get16(page, AT_KIND) == LEAF {
         if count > LEAF_ROOM {
@@ -153,61 +152,25 @@ fn look_in(page: &[u8], key: u64, upto: u64) -> usize
     seek::guess(page, INNER_HEADER, CHILD, count as usize, key)
 }
 
-// The same on page i of a table.
-pub fn look_ahead(table: &[u8], i: u16, key: u64, upto: u64) -> usize
-    requires { (i + 1) * page_size ≤ length table.now }
-    ensures { result ≡ ahead_of key upto (page_at table.now i) }
-{
-    let from = i as usize * PAGE;
-    let to = from + PAGE;
-    look_in(&table[from..to], key, upto)
-}
-
-// The place that an inner page's entries ask for at a key.
-fn place_in(page: &[u8], kind: u16, count: usize, high: u64, key: u64, guess: usize) -> Place
-    requires { (1 ≤ kind) × (inner_header + child_size * count ≤ length page.now) × (length page.now ≤ page_size)
-        × (rising (keys (read_each child_in child_size count (drop inner_header page.now))) ≡ true) × (key ≤ high)
-        × (1 ≤ spot_of key (keys_in inner_header child_size count page.now)) }
-    ensures { pick key (places_in (kind - 1) high (read_each child_in child_size count (drop inner_header page.now)))
-        ≡ some result }
-{
-    let spot = seek::confirm(page, INNER_HEADER, CHILD, count, key, guess);
-    head::kid(page, count, spot - 1, kind - 1, high)
-}
-
-// The same below a page that was entered, by its header.
+// The place that a page's entries ask for at a key, below a page that was entered, by its header.
 pub fn place_below(table: &[u8], i: u16, head: Head, key: u64, guess: usize) -> Place
     requires { ((i + 1) * page_size ≤ length table.now) × Leads key head (read table.now i).view }
     ensures { pick key (places_below head (read table.now i).view) ≡ some result }
 {
-    let from = i as usize * PAGE;
-    let to = from + PAGE;
-    place_in(
-        &table[from..to],
-        head.kind,
-        head.count as usize,
-        head.high,
-        key,
-        guess,
-    )
+    let page = head::page_at(table, i as usize);
+    let count = head.count as usize;
+    let spot = seek::confirm(page, INNER_HEADER, CHILD, count, key, guess);
+    head::kid(page, count, spot - 1, head.kind - 1, head.high)
 }
 
 // How many of a leaf's keys are not above this one, in a leaf that was entered.
-fn spot_at(table: &[u8], leaf: Step, key: u64, guess: usize) -> usize
-    requires { ((leaf.place.child + 1) * page_size ≤ length table.now)
-        × (leaf.head ≡ head_of (read table.now leaf.place.child)) × (Holds (read table.now leaf.place.child).view) }
-    ensures { result ≡ spot_at key table.now leaf }
+pub fn spot_at(table: &[u8], i: u16, count: u16, key: u64, guess: usize) -> usize
+    requires { ((i + 1) * page_size ≤ length table.now) × (count ≤ leaf_room)
+        × (rising (keys_in leaf_header cert_size count (page_at table.now i)) ≡ true) }
+    ensures { result ≡ spot_of key (keys_in leaf_header cert_size count (page_at table.now i)) }
 {
-    let from = leaf.place.child as usize * PAGE;
-    let to = from + PAGE;
-    seek::confirm(
-        &table[from..to],
-        LEAF_HEADER,
-        CERT,
-        leaf.head.count as usize,
-        key,
-        guess,
-    )
+    let page = head::page_at(table, i as usize);
+    seek::confirm(page, LEAF_HEADER, CERT, count as usize, key, guess)
 }
 
 pub fn way_of(t: &mut [u8], n: usize, c: u32, key: u64) -> Went
@@ -241,36 +204,20 @@ pub fn way_of(t: &mut [u8], n: usize, c: u32, key: u64) -> Went
     }
 }
 
-// An end of no pages.
-fn no_end() -> End
-    ensures { result ≡ no_end }
-{
-    let leaf = no_step();
-    End {
-        len: 0,
-        leaf,
-        spot: 0,
-    }
-}
-
 // The same way for those who want its leaf alone: of the pages above only the numbers are kept, since a way has 272
 // bytes, and a lookup would build and pass on all of them.
 pub fn leaf_of(t: &mut [u8], n: usize, c: u32, key: u64) -> Ended
     requires { (length t.old ≡ n * page_size) × (fit0 n t.old ≡ true) }
     ensures { ended t.new result
-        ≡ reported (end_in key (told (way_of n c key t.old))) (way_report n c key t.old nothing) }
+        ≡ reported (end_in key (way_of n c key t.old)) (way_report n c key t.old nothing) }
 {
     let mut above = Above { parent: 0, top: 0 };
     let mut report = Report::nothing();
     let mut e = head::root_place(t);
-    let mut level = LEVELS;
-    while 0 < level {
+    for level in (0..LEVELS).rev() {
         let guess = look_ahead(t, e.child, key, key);
         let Entered::Page(page, reason) = enter::enter(t, n, c, above, e) else {
-            return Ended {
-                end: no_end(),
-                report,
-            };
+            return Ended { end: None, report };
         };
         report = report.add(reason);
         if page.kind == LEAF {
@@ -278,10 +225,10 @@ pub fn leaf_of(t: &mut [u8], n: usize, c: u32, key: u64) -> Ended
                 place: e,
                 head: page,
             };
-            let len = LEVELS - level + 1;
-            let spot = spot_at(t, leaf, key, guess);
+            let len = LEVELS - level;
+            let spot = spot_at(t, e.child, page.count, key, guess);
             return Ended {
-                end: End { len, leaf, spot },
+                end: Some(End { len, leaf, spot }),
                 report,
             };
         }
@@ -291,10 +238,6 @@ pub fn leaf_of(t: &mut [u8], n: usize, c: u32, key: u64) -> Ended
             top,
         };
         e = place_below(t, e.child, page, key, guess);
-        level -= 1;
     }
-    Ended {
-        end: no_end(),
-        report,
-    }
+    Ended { end: None, report }
 }

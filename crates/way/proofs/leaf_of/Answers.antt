@@ -3,9 +3,11 @@
 use Rattle.enter.specs.Entering.{entering}
 use mathlib.Core.Path.{sym, ap, ◌∙◌}
 use Rattle.rules.specs.Report.{nothing}
-use Rattle.way.specs.Ways.{ended}
-use Rattle.way.specs.declared.End.{End}
 use Rattle.rules.proofs.Bytes.PageZero.{has-zero}
+use Rattle.rules.specs.Page.{page_in}
+use Rattle.rules.specs.Table.{page_at, read}
+use Rattle.way.specs.Ways.{spot_at}
+use Rattle.way.proofs.Leaf.{holds-room, holds-keys}
 use Rattle.way.proofs.Descent.{head-here, holds, leads}
 use Rattle.way.proofs.Ending.{begins, runs_out, damaged, ends, goes_on}
 use native.Mathlib.Omega.{arith}
@@ -48,7 +50,7 @@ returns-in_default c =
     let loop = c.loop-level in
     let loop-test = c.loop-level-test in
     let enter = c.enter in
-    ap (λ (r : End). ended enter.new.t (record { end = r; report = loop.report })) c.no_end.ensures ∙ damaged loop.invariant loop-test.true enter.new.t
+    damaged loop.invariant loop-test.true enter.new.t
     (ap (entering enter.new.t) (sym c.in_default.is) ∙ enter.ensures)
 
 pub overflow_sub-len : goal.overflow_sub-len
@@ -56,23 +58,18 @@ overflow_sub-len c =
     let loop = c.loop-level in
     omega (arith, loop.invariant.descent.deep)
 
-pub overflow_add-len : goal.overflow_add-len
-overflow_add-len c =
-    let loop = c.loop-level in
-    omega (arith, loop.invariant.descent.deep)
-
 pub spot_at-spot-requires : goal.spot_at-spot-requires
+unfolding read page_in
 spot_at-spot-requires c =
     let loop = c.loop-level in
     let loop-test = c.loop-level-test in
     let enter = c.enter in
-    let f = ap (entering enter.new.t) (sym c.in-Page.is) ∙ enter.ensures in (
-      omega (arith, enter.auto.t, loop.invariant.descent.ready.long, loop.invariant.descent.ready.child_below),
-      head-here loop.invariant.descent loop-test.true loop.above loop.invariant.above enter.new.t
-          c.in-Page.page c.in-Page.reason f,
-      holds loop.invariant.descent loop-test.true loop.above loop.invariant.above enter.new.t
-          c.in-Page.page c.in-Page.reason f c.if-page-eq-LEAF.true,
-    )
+    let page = c.in-Page.page in
+    let f = ap (entering enter.new.t) (sym c.in-Page.is) ∙ enter.ensures in
+    let b = page_at enter.new.t loop.e.child in
+    let h = head-here loop.invariant.descent loop-test.true loop.above loop.invariant.above enter.new.t page c.in-Page.reason f in
+    let l = holds loop.invariant.descent loop-test.true loop.above loop.invariant.above enter.new.t page c.in-Page.reason f c.if-page-eq-LEAF.true in
+    (omega (arith, enter.auto.t, loop.invariant.descent.ready.long, loop.invariant.descent.ready.child_below), holds-room b page h l, holds-keys b page h l)
 
 pub shape_of-t-then-page-eq-LEAF : goal.shape_of-t-then-page-eq-LEAF
 shape_of-t-then-page-eq-LEAF c =
@@ -82,6 +79,7 @@ shape_of-t-then-page-eq-LEAF c =
     omega (arith, enter.auto.t, loop.invariant.descent.ready.long, pre.0)
 
 pub returns-then-page-eq-LEAF : goal.returns-then-page-eq-LEAF
+unfolding spot_at
 returns-then-page-eq-LEAF c =
     let loop = c.loop-level in
     let loop-test = c.loop-level-test in
@@ -89,7 +87,7 @@ returns-then-page-eq-LEAF c =
     let spot-at = c.spot_at-spot in
     ends loop.invariant loop-test.true enter.new.t c.in-Page.page c.in-Page.reason
     (ap (entering enter.new.t) (sym c.in-Page.is) ∙ enter.ensures) c.add-report.result
-    c.add-report.ensures c.if-page-eq-LEAF.true
+    c.add-report.ensures c.if-page-eq-LEAF.true _ (omega (arith, loop-test.true, loop.invariant.descent.deep))
     spot-at.result spot-at.ensures
 
 pub place_below-e-requires : goal.place_below-e-requires
@@ -102,11 +100,6 @@ place_below-e-requires c =
       leads loop.invariant.descent loop-test.true loop.above loop.invariant.above enter.new.t
           c.in-Page.page c.in-Page.reason f c.if-page-eq-LEAF.false,
     )
-
-pub overflow_sub-level : goal.overflow_sub-level
-overflow_sub-level c =
-    let loop-test = c.loop-level-test in
-    omega (arith, loop-test.true)
 
 pub loop-level-smaller : goal.loop-level-smaller
 loop-level-smaller c =
@@ -132,4 +125,4 @@ shape_of-t c =
 pub returns : goal.returns
 returns c =
     let loop = c.loop-level in
-    ap (λ (r : End). ended loop.t (record { end = r; report = loop.report })) c.no_end-2.ensures ∙ runs_out loop.invariant (omega (arith, c.loop-level-test.false))
+    runs_out loop.invariant (omega (arith, c.loop-level-test.false))
