@@ -26,7 +26,7 @@ ghost use Rattle.dry.specs.Source.{source, marked_by};
 ghost use Rattle.dry.specs.Cursor.{in_reach, meeting, meet_of, no_run, at_root, under_root, with_lower, due_lower, due_upper, due_root, due_of, under_of, settle_of, stepping, step_of, Leads, Sure};
 ghost use Rattle.dry.specs.declared.Source.{Source};
 
-use head::{head_at, root_place};
+use head::{Table, head_at, root_place};
 use rules::{Asked, LAST_KEY, LEAF, MOST, Place};
 use seen::{Run, mark, marked, place_in, rest_of, run_in};
 use sound::{fits_at, mendable_at};
@@ -110,7 +110,13 @@ fn keeps_child(table: &[u8], n: usize, marks: &[bool], e: Place) -> bool
     if marked(marks, e.child as usize) {
         return false;
     }
-    fits_at(table, e, n)
+    fits_at(
+        Table {
+            bytes: table,
+            pages: n,
+        },
+        e,
+    )
 }
 
 // Whether the previous page of a place can help it still.
@@ -121,7 +127,13 @@ fn helps_child(table: &[u8], n: usize, marks: &[bool], e: Place) -> bool
     if marked(marks, e.previous as usize) {
         return false;
     }
-    mendable_at(table, e, n)
+    mendable_at(
+        Table {
+            bytes: table,
+            pages: n,
+        },
+        e,
+    )
 }
 
 // A child that stands above on the way is damaged; 0, which is never a child, stands for none.

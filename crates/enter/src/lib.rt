@@ -15,7 +15,7 @@ ghost use Rattle.rules.specs.Enter.{mend, enter};
 ghost use Rattle.rules.specs.Report.{reason_at};
 ghost use Rattle.enter.specs.Entering.{above_of, entering, told};
 
-use head::Head;
+use head::{Head, Table, page_at, read_head};
 use rules::{Place, Reason};
 
 // The pages above on the way from the root, at most two; 0, which is never a child, stands for none.
@@ -46,11 +46,11 @@ fn mend(t: &mut [u8], n: usize, c: u32, e: Place, reason: Reason) -> Entered
     requires { (length t.old ≡ n * page_size) × (e.child < n) }
     ensures { entering t.new result ≡ told reason (mend n c t.old e) }
 {
-    if !sound::mendable_at(t, e, n) {
+    if !sound::mendable_at(Table { bytes: t, pages: n }, e) {
         return Entered::Damaged;
     }
     build::build_mended(t, e, c);
-    Entered::Page(head::head_at(t, e.child as usize), reason)
+    Entered::Page(read_head(page_at(t, e.child as usize)), reason)
 }
 
 pub fn enter(t: &mut [u8], n: usize, c: u32, above: Above, e: Place) -> Entered
@@ -61,9 +61,9 @@ pub fn enter(t: &mut [u8], n: usize, c: u32, above: Above, e: Place) -> Entered
     if stands_above(above, e.child) {
         return Entered::Damaged;
     }
-    let reason = sound::unfit_at(t, e, n);
+    let reason = sound::unfit_at(Table { bytes: t, pages: n }, e);
     if reason.is_none() {
-        return Entered::Page(head::head_at(t, e.child as usize), reason);
+        return Entered::Page(read_head(page_at(t, e.child as usize)), reason);
     }
     mend(t, n, c, e, reason)
 }

@@ -4,6 +4,9 @@ use Rattle.tight.specs.Tight.{Tight}
 use Rattle.tight.specs.Lent.{TightLent}
 use Rattle.head.proofs as this
 
+pub table-page_tight : TightLent this.Table.page.Kinds.ps this.Table.page.Kinds.r this.Table.page.Reads.Pre this.Table.page.Reads.Post (λ κs z. z.now)
+table-page_tight κs a pre z z' l l' p q = (p.0 ∙ sym q.0, refl)
+
 pub page_at_tight : TightLent this.page_at.Kinds.ps this.page_at.Kinds.r this.page_at.Reads.Pre this.page_at.Reads.Post (λ κs z. z.now)
 page_at_tight κs a pre z z' l l' p q = (p.0 ∙ sym q.0, refl)
 

@@ -54,6 +54,24 @@ pub struct Zero {
     pub birth: u32,
 }
 
+// A table that is read: its bytes, and how many whole pages they are.
+#[derive(Clone, Copy)]
+pub struct Table<'a> {
+    pub bytes: &'a [u8],
+    pub pages: usize,
+    ghost whole: { length bytes.now ≡ pages * page_size },
+}
+
+impl<'a> Table<'a> {
+    pub fn page(self, i: usize) -> &'a [u8]
+        requires { i < self.pages }
+        ensures bytes { result.now ≡ page_at self.entry.bytes.now i }
+        ensures size { length result.now ≡ page_size }
+    {
+        page_at(self.bytes, i)
+    }
+}
+
 // Page i of a table, lent as it lies there.
 pub fn page_at(table: &[u8], i: usize) -> &[u8]
     requires { (i + 1) * page_size ≤ length table.now }

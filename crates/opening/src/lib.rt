@@ -14,6 +14,7 @@ ghost use Rattle.rules.specs.Open.{opening};
 ghost use Rattle.marks.specs.Opened.{opened_by};
 ghost use Rattle.opening.specs.Opens.{left, refused_with};
 
+use head::Table;
 use rules::{LAST_NUMBER, Opened, Opening, PAGE, Session};
 use seen::Seen;
 
@@ -47,7 +48,11 @@ pub fn open(working: &mut [u8], stable: &mut [u8]) -> Opening
     if !head::fit0(stable, n) {
         return refused(Opened::Damaged);
     }
-    let notes = seen::walk(stable, n);
+    let table = Table {
+        bytes: stable,
+        pages: n,
+    };
+    let notes = seen::walk(table);
     if !seen::good(notes) {
         return refused(Opened::Damaged);
     }

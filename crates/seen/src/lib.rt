@@ -18,7 +18,7 @@ ghost use Rattle.rules.specs.Tree.{tree, tree_of, tree_each};
 ghost use Rattle.seen.specs.Note.{count_on, count_if, tally, seen_of, note, nothing, named, good_marks};
 ghost use Rattle.seen.specs.Run.{entries_in, up_to, run_of, shown_of, place_in, places, rest_of, Runs, Roomy, Counts, Lies};
 
-use head::{cert_key_at, child_key_at, head_at, kid_at, root_place};
+use head::{Table, cert_key_at, child_key_at, head_at, kid_at, root_place};
 use rules::{LEAF, LEVELS, MOST, Place};
 use sound::{fits_at, mendable_at};
 use std::num::wrapping_add_u32;
@@ -104,15 +104,14 @@ pub fn run_in(table: &[u8], page: usize, low: u64, high: u64) -> Run
     }
 }
 
-fn shown_at(table: &[u8], n: usize, e: Place) -> Shown
-    requires { length table.now ≡ n * page_size }
-    ensures { result ≡ shown_of n table.now e }
+fn shown_at(table: Table<'_>, e: Place) -> Shown
+    ensures { result ≡ shown_of table.entry.pages table.entry.bytes.now e }
 {
-    if fits_at(table, e, n) {
-        return Shown::Entries(run_in(table, e.child as usize, e.low, e.high));
+    if fits_at(table, e) {
+        return Shown::Entries(run_in(table.bytes, e.child as usize, e.low, e.high));
     }
-    if mendable_at(table, e, n) {
-        return Shown::Entries(run_in(table, e.previous as usize, e.low, e.high));
+    if mendable_at(table, e) {
+        return Shown::Entries(run_in(table.bytes, e.previous as usize, e.low, e.high));
     }
     Shown::Damaged
 }
@@ -246,28 +245,25 @@ fn damaged(sum: Tally) -> Tally
 // The page walk: a place is noted, and what it shows is counted and walked one level lower.
 #[cycle(walk_entries_walk_page)]
 fn walk_page(
-    table: &[u8],
-    n: usize,
+    table: Table<'_>,
     level: usize,
     e: Place,
     sum: Tally,
     children: &mut [bool],
     spared: &mut [bool],
 ) -> Tally
-    requires { length table.now ≡ n * page_size }
-    ensures { seen_of result children.new spared.new ≡ note (seen_of sum children.old spared.old) (tree level n table.now e) }
+    ensures { seen_of result children.new spared.new ≡ note (seen_of sum children.old spared.old) (tree level table.entry.pages table.entry.bytes.now e) }
 {
     if level == 0 {
         return damaged(sum);
     }
-    let Shown::Entries(r) = shown_at(table, n, e) else {
+    let Shown::Entries(r) = shown_at(table, e) else {
         return damaged(sum);
     };
     let whole = name_place(sum.whole, e.child as usize, r.page, children, spared);
-    let total = count_at(table, r.page, e, sum.total);
+    let total = count_at(table.bytes, r.page, e, sum.total);
     walk_entries(
         table,
-        n,
         level - 1,
         r,
         e.high,
@@ -280,8 +276,7 @@ fn walk_page(
 // The entry walk: the first entry's page, then the entries behind it.
 #[cycle(walk_entries_walk_page)]
 fn walk_entries(
-    table: &[u8],
-    n: usize,
+    table: Table<'_>,
     level: usize,
     r: Run,
     high: u64,
@@ -289,30 +284,30 @@ fn walk_entries(
     children: &mut [bool],
     spared: &mut [bool],
 ) -> Tally
-    requires { (length table.now ≡ n * page_size) × Lies n r }
-    ensures { seen_of result children.new spared.new ≡ note (seen_of sum children.old spared.old) (tree_each (tree level n table.now) (places table.now high r)) }
+    requires { Lies table.pages r }
+    ensures { seen_of result children.new spared.new ≡ note (seen_of sum children.old spared.old) (tree_each (tree level table.entry.pages table.entry.bytes.now) (places table.entry.bytes.now high r)) }
 {
     if r.left == 0 {
         return sum;
     }
-    let e = place_in(table, r, high);
-    let still = walk_page(table, n, level, e, sum, children, spared);
-    walk_entries(table, n, level, rest_of(r), high, still, children, spared)
+    let e = place_in(table.bytes, r, high);
+    let still = walk_page(table, level, e, sum, children, spared);
+    walk_entries(table, level, rest_of(r), high, still, children, spared)
 }
 
 // The whole tree, from the root on.
-pub fn walk(table: &[u8], n: usize) -> Seen
-    requires { (length table.now ≡ n * page_size) × (0 < n) }
-    ensures { result ≡ note nothing (tree_of n table.now) }
+pub fn walk(table: Table<'_>) -> Seen
+    requires { 0 < table.pages }
+    ensures { result ≡ note nothing (tree_of table.entry.pages table.entry.bytes.now) }
 {
-    let root = root_place(table);
+    let root = root_place(table.bytes);
     let mut children = [false; MOST];
     let mut spared = [false; MOST];
     let none = Tally {
         whole: true,
         total: 0,
     };
-    let sum = walk_page(table, n, LEVELS, root, none, &mut children, &mut spared);
+    let sum = walk_page(table, LEVELS, root, none, &mut children, &mut spared);
     Seen {
         whole: sum.whole,
         total: sum.total,

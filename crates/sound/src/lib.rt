@@ -22,8 +22,8 @@ ghost use Rattle.rules.specs.Report.{reason_at};
 ghost use Rattle.head.specs.Head.{child_at};
 ghost use Rattle.sound.specs.Pass.{certs_pass, children_pass, names_previous, covers};
 
-use head::{cert_key, child_key, child_number, child_previous, read_head};
-use rules::{INNER_ROOM, LEAF, LEAF_ROOM, MODEL, PAGE, Place, Reason, SERIAL, TOP};
+use head::{Table, cert_key, child_key, child_number, child_previous, read_head};
+use rules::{INNER_ROOM, LEAF, LEAF_ROOM, MODEL, Place, Reason, SERIAL, TOP};
 use std::num::wrapping_sub_usize;
 
 // How many serials there are.
@@ -213,25 +213,21 @@ pub fn unfit(page: &[u8], e: Place, n: usize) -> Reason
 }
 
 // A number beyond the table names no page, so nothing sound is there.
-pub fn unfit_at(table: &[u8], e: Place, n: usize) -> Reason
-    requires { length table.now ≡ n * page_size }
-    ensures { result ≡ reason_at n table.now e }
+pub fn unfit_at(table: Table<'_>, e: Place) -> Reason
+    ensures { result ≡ reason_at table.entry.pages table.entry.bytes.now e }
 {
     let child = e.child as usize;
-    if child >= n {
+    if child >= table.pages {
         return Reason::Soundness;
     }
-    let from = child * PAGE;
-    let to = from + PAGE;
-    unfit(&table[from..to], e, n)
+    unfit(table.page(child), e, table.pages)
 }
 
 // For those who do not ask why.
-pub fn fits_at(table: &[u8], e: Place, n: usize) -> bool
-    requires { length table.now ≡ n * page_size }
-    ensures { result ≡ fits n e (read table.now e.child) }
+pub fn fits_at(table: Table<'_>, e: Place) -> bool
+    ensures { result ≡ fits table.entry.pages e (read table.entry.bytes.now e.child) }
 {
-    unfit_at(table, e, n).is_none()
+    unfit_at(table, e).is_none()
 }
 
 // An entry of the inner page has this key.
@@ -288,14 +284,11 @@ fn covers(page: &[u8], e: Place, n: usize) -> bool
 
 // A lost child can be mended from its previous page. If not, the place is damaged. The page is looked at only where the
 // place names one.
-pub fn mendable_at(table: &[u8], e: Place, n: usize) -> bool
-    requires { length table.now ≡ n * page_size }
-    ensures { result ≡ mendable n e (read table.now e.previous) }
+pub fn mendable_at(table: Table<'_>, e: Place) -> bool
+    ensures { result ≡ mendable table.entry.pages e (read table.entry.bytes.now e.previous) }
 {
-    if !names_previous(e, n) {
+    if !names_previous(e, table.pages) {
         return false;
     }
-    let from = e.previous as usize * PAGE;
-    let to = from + PAGE;
-    covers(&table[from..to], e, n)
+    covers(table.page(e.previous as usize), e, table.pages)
 }

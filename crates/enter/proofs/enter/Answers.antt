@@ -4,6 +4,7 @@ use mathlib.Core.Path.{sym, ap, ◌∙◌}
 use Rattle.rules.specs.Place.{is_none, fits}
 use Rattle.rules.specs.Enter as rules
 use Rattle.rules.specs.Report.{reason_at}
+use Rattle.head.specs.Head.{head_in}
 use Rattle.enter.specs.Entering.{told, above_of, entering}
 use Rattle.enter.specs.declared.Entered.{Entered}
 use Rattle.enter.proofs.Mended.{head_read}
@@ -20,7 +21,7 @@ returns-then-is_none c =
     let why = c.unfit_at-reason.ensures in
     cc (
       ap (λ a. entering args.t.now (Entered.Page a (reason_at args.n args.t.now args.e)))
-          (head_read args.t.now args.e.child c.head_at.ensures)
+          (head_read args.t.now args.e.child (c.read_head.ensures ∙ ap head_in c.page_at.ensures.bytes))
           ∙ enter-fits args.n args.c args.t.now args.e (reason_at args.n args.t.now args.e) (above_of args.above)
           (sym c.stands_above.ensures ∙ c.if-stands_above.false) (sym (c.is_none.ensures ∙ ap is_none why) ∙ c.if-is_none.true),
       why,

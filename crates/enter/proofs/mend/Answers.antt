@@ -1,9 +1,10 @@
 -- `enter::mend`: damaged, or the page built and read back.
 -- Assumes nothing.
-use mathlib.Core.Path.{sym, ◌∙◌}
+use mathlib.Core.Path.{sym, ap, ◌∙◌}
 use Rattle.rules.specs.Table.{read}
 use Rattle.rules.proofs.Entries.Places.{mendable_true}
 use Rattle.build.proofs.Sounds.{mendable_ordered}
+use Rattle.head.specs.Head.{head_in}
 use Rattle.enter.proofs.Told.{mend-damaged}
 use Rattle.enter.proofs.Mended.{mended-told}
 use native.Mathlib.Omega.{arith}
@@ -33,8 +34,7 @@ returns c =
     let if1 = c.if-not-mendable_at in
     let build-mended = c.build_mended in
     let struct_known = c.struct_known-1 in
-    let head_at = c.head_at in
     mended-told args.n args.c args.t.now args.e slice-known.given record
     { counter = omega (arith, fits.c); birth = omega (arith, struct_known.given.1.1.0); low = omega (arith, struct_known.given.1.1.1.0); high = omega (arith, struct_known.given.1.1.1.1.0) }
     pre.0 pre.1 (sym mendable-at.ensures ∙ if1.false)
-    build-mended.new.table head_at.result args.reason build-mended.ensures head_at.ensures
+    build-mended.new.table c.read_head.result args.reason build-mended.ensures (c.read_head.ensures ∙ ap head_in c.page_at.ensures.bytes)

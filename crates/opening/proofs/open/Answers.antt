@@ -36,17 +36,18 @@ returns-then-not-fit0 c =
     (sym good_lengths_lem.ensures ∙ if1.false)
     (sym fit0.ensures ∙ c.if-not-fit0.true)
 
+pub invariant_of-table : goal.invariant_of-table
+unfolding pages
+invariant_of-table c =
+    let args = c.args in
+    record { whole = whole args.working.now args.stable.now (sym c.good_lengths.ensures ∙ c.if-not-good_lengths.false) }
+
 pub walk-notes-requires : goal.walk-notes-requires
 unfolding pages
 walk-notes-requires c =
     let args = c.args in
-    let good_lengths_lem = c.good_lengths in
-    let if1 = c.if-not-good_lengths in (
-      whole args.working.now args.stable.now
-          (sym good_lengths_lem.ensures ∙ if1.false),
-      omega
-          (arith, some args.working.now args.stable.now (sym good_lengths_lem.ensures ∙ if1.false)),
-    )
+    omega
+    (arith, some args.working.now args.stable.now (sym c.good_lengths.ensures ∙ c.if-not-good_lengths.false))
 
 pub returns-then-not-good : goal.returns-then-not-good
 unfolding pages

@@ -13,27 +13,23 @@ use Rattle.seen.proofs.+walk_entries_walk_page.Goals as goal
 pub walk_entries-returns-then-r-eq0 : goal.walk_entries-returns-then-r-eq0
 walk_entries-returns-then-r-eq0 t c =
     let args = c.args in
-    run_none (tree args.level args.n args.table.now) args.table.now args.high args.r
+    run_none (tree args.level args.table.pages args.table.bytes.now) args.table.bytes.now args.high args.r
     (seen_of args.sum args.children.now args.spared.now) c.if-r-eq0.true
 
 pub walk_entries-walk_page-still-requires : goal.walk_entries-walk_page-still-requires
-walk_entries-walk_page-still-requires t c =
-    (omega (arith, c.decreases, c.if-r-eq0.false), c.requires.0)
+walk_entries-walk_page-still-requires t c = (omega (arith, c.decreases, c.if-r-eq0.false), tt)
 
 pub walk_entries-walk_entries-requires : goal.walk_entries-walk_entries-requires
 walk_entries-walk_entries-requires t c =
     let args = c.args in (
       omega (arith, c.decreases, ap (λ (x : Run). x.left) c.rest_of.ensures, c.if-r-eq0.false),
-      (
-        c.requires.0,
-        lies-rest args.n args.r c.rest_of.result c.rest_of.ensures (omega (arith, c.if-r-eq0.false)) c.requires.1,
-      ),
+      lies-rest args.table.pages args.r c.rest_of.result c.rest_of.ensures (omega (arith, c.if-r-eq0.false)) c.requires,
     )
 
 pub walk_entries-returns : goal.walk_entries-returns
 walk_entries-returns t c =
     let args = c.args in
-    run_step (tree args.level args.n args.table.now) args.table.now args.high args.r
+    run_step (tree args.level args.table.pages args.table.bytes.now) args.table.bytes.now args.high args.r
     (seen_of args.sum args.children.now args.spared.now) c.place_in-e.result c.rest_of.result
     (seen_of c.walk_page-still.result c.walk_page-still.new.children c.walk_page-still.new.spared)
     (seen_of c.walk_entries.result c.walk_entries.new.children c.walk_entries.new.spared)
@@ -45,7 +41,7 @@ walk_page-returns-then-level-eq0 t c =
     ap (λ (x : Tally). seen_of x args.children.now args.spared.now) c.damaged.ensures
     ∙ note-broken (seen_of args.sum args.children.now args.spared.now)
     ∙ ap (note (seen_of args.sum args.children.now args.spared.now))
-    (page-deep args.n args.table.now args.e args.level c.if-level-eq0.true)
+    (page-deep args.table.pages args.table.bytes.now args.e args.level c.if-level-eq0.true)
 
 pub walk_page-returns-in_default : goal.walk_page-returns-in_default
 walk_page-returns-in_default t c =
@@ -53,25 +49,25 @@ walk_page-returns-in_default t c =
     ap (λ (x : Tally). seen_of x args.children.now args.spared.now) c.damaged-in_default.ensures
     ∙ note-broken (seen_of args.sum args.children.now args.spared.now)
     ∙ ap (note (seen_of args.sum args.children.now args.spared.now))
-    (page-damaged args.n args.table.now args.e c.requires args.level c.if-level-eq0.false (sym c.shown_at.ensures ∙ c.in_default.is))
+    (page-damaged args.table.pages args.table.bytes.now args.e args.table.whole args.level c.if-level-eq0.false (sym c.shown_at.ensures ∙ c.in_default.is))
 
 pub walk_page-count_at-total-requires : goal.walk_page-count_at-total-requires
 walk_page-count_at-total-requires t c =
-    (showing c.args.n c.args.table.now c.args.e c.requires c.in-Entries.r (sym c.shown_at.ensures ∙ c.in-Entries.is)).counts
+    (showing c.args.table.pages c.args.table.bytes.now c.args.e c.args.table.whole c.in-Entries.r (sym c.shown_at.ensures ∙ c.in-Entries.is)).counts
 
 pub walk_page-walk_entries-requires : goal.walk_page-walk_entries-requires
 walk_page-walk_entries-requires t c =
     let args = c.args in
-    let w = showing args.n args.table.now args.e c.requires c.in-Entries.r
+    let w = showing args.table.pages args.table.bytes.now args.e args.table.whole c.in-Entries.r
     (sym c.shown_at.ensures ∙ c.in-Entries.is) in
-    (omega (arith, c.decreases, w.lies.end, c.if-level-eq0.false), (c.requires, w.lies))
+    (omega (arith, c.decreases, w.lies.end, c.if-level-eq0.false), w.lies)
 
 pub walk_page-returns : goal.walk_page-returns
 walk_page-returns t c =
     let args = c.args in
     let name_place = c.name_place-whole in
-    let certs = certs_of args.n args.table.now args.e c.requires c.in-Entries.r in
-    page-walk args.n args.table.now args.e c.requires args.level c.in-Entries.r
+    let certs = certs_of args.table.pages args.table.bytes.now args.e args.table.whole c.in-Entries.r in
+    page-walk args.table.pages args.table.bytes.now args.e args.table.whole args.level c.in-Entries.r
     (seen_of args.sum args.children.now args.spared.now)
     (seen_of (tally name_place.result c.count_at-total.result) name_place.new.children name_place.new.spared)
     (seen_of c.walk_entries.result c.walk_entries.new.children c.walk_entries.new.spared)

@@ -9,21 +9,19 @@ use Rattle.seen.proofs.shown_at.Goals as goal
 pub run_in-requires : goal.run_in-requires
 run_in-requires c =
     let args = c.args in
-    let pre = c.requires in
-    runs_fitting args.n args.table.now args.e pre
+    runs_fitting args.table.pages args.table.bytes.now args.e args.table.whole
     (sym c.fits_at.ensures ∙ c.if-fits_at.true)
 
 pub returns-then-fits_at : goal.returns-then-fits_at
 returns-then-fits_at c =
     let args = c.args in
-    ap (λ (r : Run). Shown.Entries r) c.run_in.ensures ∙ shown-fitting args.n args.table.now args.e
+    ap (λ (r : Run). Shown.Entries r) c.run_in.ensures ∙ shown-fitting args.table.pages args.table.bytes.now args.e
     (sym c.fits_at.ensures ∙ c.if-fits_at.true)
 
 pub run_in-requires-then-mendable_at : goal.run_in-requires-then-mendable_at
 run_in-requires-then-mendable_at c =
     let args = c.args in
-    let pre = c.requires in
-    runs_lost args.n args.table.now args.e pre
+    runs_lost args.table.pages args.table.bytes.now args.e args.table.whole
     (sym c.mendable_at.ensures ∙ c.if-mendable_at.true)
 
 pub returns-then-mendable_at : goal.returns-then-mendable_at
@@ -31,13 +29,13 @@ returns-then-mendable_at c =
     let args = c.args in
     let fits-at = c.fits_at in
     let if1 = c.if-fits_at in
-    ap (λ (r : Run). Shown.Entries r) c.run_in-then-mendable_at.ensures ∙ shown-lost args.n args.table.now args.e
+    ap (λ (r : Run). Shown.Entries r) c.run_in-then-mendable_at.ensures ∙ shown-lost args.table.pages args.table.bytes.now args.e
     (sym fits-at.ensures ∙ if1.false)
     (sym c.mendable_at.ensures ∙ c.if-mendable_at.true)
 
 pub returns : goal.returns
 returns c =
     let args = c.args in
-    shown-damaged args.n args.table.now args.e
+    shown-damaged args.table.pages args.table.bytes.now args.e
     (sym c.fits_at.ensures ∙ c.if-fits_at.false)
     (sym c.mendable_at.ensures ∙ c.if-mendable_at.false)

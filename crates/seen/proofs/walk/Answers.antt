@@ -10,5 +10,5 @@ unfolding tree_of nothing
 returns c =
     let args = c.args in
     let root-place = c.root_place-root in
-    c.walk_page-sum.ensures ∙ ap (λ (e : Place). note nothing (tree 3 args.n args.table.now e))
+    c.walk_page-sum.ensures ∙ ap (λ (e : Place). note nothing (tree 3 args.table.pages args.table.bytes.now e))
     root-place.ensures
