@@ -23,7 +23,7 @@ use Rattle.rules.proofs.Bytes.Tables.{has-page, Room, wide_read, read-build-same
 use Rattle.rules.proofs.Bytes.Widths.{wide-mended}
 use Rattle.rules.proofs.Entries.Places.{mendable_true}
 use Rattle.enter.specs.Entering.{entering, told}
-use Rattle.enter.specs.declared.Entered.{Entered}
+use Rattle.enter.specs.Entering as enters
 use Rattle.enter.proofs.Told.{mend-page}
 
 -- every number of a place, and the counter, fits its field
@@ -60,7 +60,7 @@ module _ (n c : ℕ) (t : List ℕ) (e : Place) (b : Bytes t) (w : Narrow c e) (
   -- the table after a mend, and the header read there
   pub mended-told : mendable n e (read t e.previous) ≡ true → (u : List ℕ) (a : Head) (r : Reason)
       → u ≡ build t e.child (mended c e (read t e.previous)) → a ≡ head_in (page_at u e.child)
-      → entering u (Entered.Page a r) ≡ told r (rules.mend n c t e)
+      → entering u (enters.found a r) ≡ told r (rules.mend n c t e)
   mended-told m u a r f g =
       let q = head_read u e.child g ∙ ap (λ (x : List ℕ). head_of (read x e.child)) f ∙ ap head_of (read-mended n c t e b w l h m) in
       cc (mend-page n c t e r m)

@@ -16,26 +16,28 @@ use Rattle.rules.specs.declared.Place.{Place}
 use Rattle.rules.specs.declared.Reason.{Reason}
 use Rattle.head.specs.declared.Head.{Head}
 use Rattle.head.proofs.Headers.{head_of}
+use Rattle.enter.specs.Entering as enters
 use Rattle.enter.specs.Entering.{Entering, entering, answer_of, told}
+use Rattle.std.specs.Prelude.{Option as Maybe}
 use Rattle.enter.specs.declared.Entered.{Entered}
 
 module _ (n c : ℕ) (t : List ℕ) (e : Place) (r : Reason) where
-  pub mend-damaged : mendable n e (read t e.previous) ≡ false → entering t Entered.Damaged ≡ told r (rules.mend n c t e)
+  pub mend-damaged : mendable n e (read t e.previous) ≡ false → entering t enters.damaged ≡ told r (rules.mend n c t e)
   unfolding rules.mend told answer_of
   mend-damaged m = rw (m, rules.mend)
 
   pub mend-page : mendable n e (read t e.previous) ≡ true
-      → entering (build t e.child (mended c e (read t e.previous))) (Entered.Page (head_of (mended c e (read t e.previous))) r) ≡ told r (rules.mend n c t e)
+      → entering (build t e.child (mended c e (read t e.previous))) (enters.found (head_of (mended c e (read t e.previous))) r) ≡ told r (rules.mend n c t e)
   unfolding rules.mend told answer_of
   mend-page m = rw (m, rules.mend)
 
   module _ (above : List ℕ) where
-    pub enter-above : mem e.child above ≡ true → entering t Entered.Damaged ≡ told r (rules.enter n c above t e)
+    pub enter-above : mem e.child above ≡ true → entering t enters.damaged ≡ told r (rules.enter n c above t e)
     unfolding rules.enter told answer_of
     enter-above a = rw (a, rules.enter)
 
     pub enter-fits : mem e.child above ≡ false → fits n e (read t e.child) ≡ true
-        → entering t (Entered.Page (head_of (read t e.child)) r) ≡ told r (rules.enter n c above t e)
+        → entering t (enters.found (head_of (read t e.child)) r) ≡ told r (rules.enter n c above t e)
     unfolding rules.enter told answer_of
     enter-fits a f = rw (a, rules.enter, f)
 
@@ -65,23 +67,25 @@ enter-same n c xs ys t e h = rw (h, rules.enter)
 
 -- ── An answer taken apart ───────────────────────────────────────────────────────────────────────────────────────
 
-pub told-table : {t : List ℕ} {a : Entered} (r : Reason) (x : rules.Entered) → entering t a ≡ told r x → t ≡ x.table
+pub told-table : {t : List ℕ} {a : Maybe Entered} (r : Reason) (x : rules.Entered) → entering t a ≡ told r x → t ≡ x.table
 unfolding told
 told-table r x h = ap (λ (y : Entering). y.table) h
 
-pub told-page : {t : List ℕ} (r : Reason) (h : Head) (s : Reason) (x : rules.Entered) → entering t (Entered.Page h s) ≡ told r x
+pub told-page : {t : List ℕ} (r : Reason) (h : Head) (s : Reason) (x : rules.Entered) → entering t (enters.found h s) ≡ told r x
     → (p : Page) × (x.page ≡ some p) × (h ≡ head_of p) × (s ≡ r)
 unfolding told answer_of
 told-page r h s x f = go x.page refl (ap (λ (y : Entering). y.answer) f)
   where
-    go : (o : Option Page) → x.page ≡ o → Entered.Page h s ≡ answer_of r o → (p : Page) × (x.page ≡ some p) × (h ≡ head_of p) × (s ≡ r)
+    go : (o : Option Page) → x.page ≡ o → enters.found h s ≡ answer_of r o → (p : Page) × (x.page ≡ some p) × (h ≡ head_of p) × (s ≡ r)
     go none q g = absurd (let z : ◌≡◌ {A = ℕ} 0 1 = cc in omega arith)
-    go (some p) q g = (p, q, cc, cc)
+    go (some p) q g =
+        let same : ◌≡◌ {A = Entered} (record { head = h; reason = s }) (record { head = head_of p; reason = r }) = cc in
+        (p, q, ap (λ (y : Entered). y.head) same, ap (λ (y : Entered). y.reason) same)
 
-pub told-damaged : {t : List ℕ} (r : Reason) (x : rules.Entered) → entering t Entered.Damaged ≡ told r x → x.page ≡ none
+pub told-damaged : {t : List ℕ} (r : Reason) (x : rules.Entered) → entering t enters.damaged ≡ told r x → x.page ≡ none
 unfolding told answer_of
 told-damaged r x h = go x.page refl (ap (λ (y : Entering). y.answer) h)
   where
-    go : (o : Option Page) → x.page ≡ o → Entered.Damaged ≡ answer_of r o → x.page ≡ none
+    go : (o : Option Page) → x.page ≡ o → enters.damaged ≡ answer_of r o → x.page ≡ none
     go none q g = q
     go (some p) q g = absurd (let z : ◌≡◌ {A = ℕ} 0 1 = cc in omega arith)

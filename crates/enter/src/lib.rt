@@ -25,11 +25,11 @@ pub struct Above {
     pub top: u16,
 }
 
-// The page entered, by its header, with the reason why it was mended, or none; or the place is damaged.
+// The page entered, by its header, with the reason why it was mended, or none.
 #[derive(Clone, Copy)]
-pub enum Entered {
-    Page(Head, Reason),
-    Damaged,
+pub struct Entered {
+    pub head: Head,
+    pub reason: Reason,
 }
 
 fn stands_above(above: Above, child: u16) -> bool
@@ -42,28 +42,31 @@ fn stands_above(above: Above, child: u16) -> bool
 }
 
 // A child that doesn't fit is lost: it is mended where its previous page allows it.
-fn mend(t: &mut [u8], n: usize, c: u32, e: Place, reason: Reason) -> Entered
+fn mend(t: &mut [u8], n: usize, c: u32, e: Place, reason: Reason) -> Option<Entered>
     requires { (length t.old ≡ n * page_size) × (e.child < n) }
     ensures { entering t.new result ≡ told reason (mend n c t.old e) }
 {
     if !sound::mendable_at(Table { bytes: t, pages: n }, e) {
-        return Entered::Damaged;
+        return None;
     }
     build::build_mended(t, e, c);
-    Entered::Page(read_head(page_at(t, e.child as usize)), reason)
+    let head = read_head(page_at(t, e.child as usize));
+    Some(Entered { head, reason })
 }
 
-pub fn enter(t: &mut [u8], n: usize, c: u32, above: Above, e: Place) -> Entered
+// The page found at a place, or none: then the place is damaged.
+pub fn enter(t: &mut [u8], n: usize, c: u32, above: Above, e: Place) -> Option<Entered>
     requires { (length t.old ≡ n * page_size) × (e.child < n) }
     ensures { entering t.new result
         ≡ told (reason_at n t.old e) (enter n c (above_of above) t.old e) }
 {
     if stands_above(above, e.child) {
-        return Entered::Damaged;
+        return None;
     }
     let reason = sound::unfit_at(Table { bytes: t, pages: n }, e);
     if reason.is_none() {
-        return Entered::Page(read_head(page_at(t, e.child as usize)), reason);
+        let head = read_head(page_at(t, e.child as usize));
+        return Some(Entered { head, reason });
     }
     mend(t, n, c, e, reason)
 }

@@ -25,7 +25,6 @@ use Rattle.head.proofs.Headers.{head_of}
 use Rattle.entries.specs.Spot.{keys_in, spot_of}
 use Rattle.entries.proofs.KeysIn.{keys-certs}
 use Rattle.enter.specs.Entering as enters
-use Rattle.enter.specs.declared.Entered.{Entered}
 use Rattle.enter.specs.declared.Above.{Above}
 use Rattle.way.specs.Ways.{places_below, Leads, Holds, way_for, above_in}
 use Rattle.way.proofs.Inner.{places-kids}
@@ -150,14 +149,14 @@ module _ {n c k : ℕ} {t₀ t : List ℕ} {x : Above} {e : Place} {level : ℕ}
 
   module _ (o : 0 < level) where
     pub damaged : (upto : ℕ) (u : List ℕ)
-        → enters.entering u Entered.Damaged ≡ enters.told (reason_at n t e) (entry.enter n c (enters.above_of x) t e)
+        → enters.entering u enters.damaged ≡ enters.told (reason_at n t e) (entry.enter n c (enters.above_of x) t e)
         → Handed upto n c k t₀ y₀ u (Stepped.Damaged y)
     unfolding next_of next_or
     damaged upto u h =
         rw (way.damaged-way m.descent o x m.above u h, way.damaged-report m.descent o x m.above u h)
 
     module _ (u : List ℕ) (h : Head) (why : Reason)
-        (f : enters.entering u (Entered.Page h why) ≡ enters.told (reason_at n t e) (entry.enter n c (enters.above_of x) t e)) where
+        (f : enters.entering u (enters.found h why) ≡ enters.told (reason_at n t e) (entry.enter n c (enters.above_of x) t e)) where
       head-here : h ≡ head_of (read u e.child)
       head-here = way.head-here m.descent o x m.above u h why f
 

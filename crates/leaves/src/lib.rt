@@ -23,7 +23,7 @@ ghost use Rattle.rules.specs.Walk.{way_of, way_report};
 ghost use Rattle.entries.specs.Spot.{keys_in, spot_of};
 ghost use Rattle.leaves.specs.Cursors.{no_cursor, holding_in, levels_in, place_in, Lies, LeadsOn, Kept, nexting, next_of};
 
-use enter::{Above, Entered};
+use enter::Above;
 use head::Head;
 use rules::{CERT, LEAF, LEAF_HEADER, LEVELS, PAGE, Place, Report};
 
@@ -136,10 +136,11 @@ pub fn next(
     let mut level = levels(above);
     while 0 < level {
         let guess = way::look_ahead(t, e.child, key, upto);
-        let Entered::Page(page, reason) = enter::enter(t, n, c, above, e) else {
+        let Some(entered) = enter::enter(t, n, c, above, e) else {
             return Stepped::Damaged(report);
         };
-        report = report.add(reason);
+        let page = entered.head;
+        report = report.add(entered.reason);
         if page.kind == LEAF {
             let spot = spot_at(t, e.child, page.count, upto, guess);
             return Stepped::Leaf(Leaf {

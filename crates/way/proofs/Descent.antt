@@ -28,7 +28,6 @@ use Rattle.head.specs.declared.Head.{Head}
 use Rattle.head.proofs.Headers.{head_of}
 use Rattle.rules.proofs.Demand1.WalkSteps.{descend-damaged, descend-ends, descend-below, report-damaged, report-ends, report-below}
 use Rattle.enter.specs.Entering as enters
-use Rattle.enter.specs.declared.Entered.{Entered}
 use Rattle.enter.specs.declared.Above.{Above}
 use Rattle.enter.proofs.Told.{enter-same, told-table, told-page, told-damaged}
 use Rattle.way.specs.Ways.{places_below, Leads, Holds, step_of, way_for, then_of, above_in, walking, way_or, told, reported, went}
@@ -113,7 +112,7 @@ module _ {n c k : ℕ} {t₀ t : List ℕ} {w : Way} {e : Place} {level : ℕ} {
   one-level : rules.descend level n c k d.above t e ≡ rules.descend (suc (level - 1)) n c k d.above t e
   one-level = let q : level ≡ suc (level - 1) = omega arith in ap (λ (l : ℕ). rules.descend l n c k d.above t e) q
 
-  module _ (u : List ℕ) (h : enters.entering u Entered.Damaged ≡ enters.told (reason_at n t e) (entry.enter n c (enters.above_of a) t e)) where
+  module _ (u : List ℕ) (h : enters.entering u enters.damaged ≡ enters.told (reason_at n t e) (entry.enter n c (enters.above_of a) t e)) where
     pub damaged-way : rules.way_of n c k t₀ ≡ rules.no_way u
     damaged-way =
         let y = entry.enter n c (rules.numbers d.above) t e in
@@ -135,7 +134,7 @@ module _ {n c k : ℕ} {t₀ t : List ℕ} {w : Way} {e : Place} {level : ℕ} {
     pub damaged-reported : Handed n c k t₀ x₀ u (way_for []) x
     damaged-reported = both damaged (sym damaged-report)
 
-  module _ (u : List ℕ) (h : Head) (why : Reason) (f : enters.entering u (Entered.Page h why) ≡ enters.told (reason_at n t e) (entry.enter n c (enters.above_of a) t e)) where
+  module _ (u : List ℕ) (h : Head) (why : Reason) (f : enters.entering u (enters.found h why) ≡ enters.told (reason_at n t e) (entry.enter n c (enters.above_of a) t e)) where
     page : (p : Page) × ((entry.enter n c (rules.numbers d.above) t e).page ≡ some p) × (h ≡ head_of p) × (why ≡ reason_at n t e)
     page = told-page (reason_at n t e) h why (entry.enter n c (rules.numbers d.above) t e) (f ∙ ap (enters.told (reason_at n t e)) as_rules)
 

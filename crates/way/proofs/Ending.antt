@@ -19,7 +19,6 @@ use Rattle.rules.specs.declared.Reason.{Reason}
 use Rattle.rules.specs.declared.Report.{Report}
 use Rattle.head.specs.declared.Head.{Head}
 use Rattle.enter.specs.Entering as enters
-use Rattle.enter.specs.declared.Entered.{Entered}
 use Rattle.enter.specs.declared.Above.{Above}
 use Rattle.way.specs.Ways.{places_below, way_for, then_of, above_in, spot_at, ending, end_or, end_in, Ending, reported, ended}
 use Rattle.way.specs.declared.Way.{Way}
@@ -53,14 +52,14 @@ module _ {n c k : ℕ} {t₀ t : List ℕ} {a : Above} {e : Place} {level : ℕ}
   runs_out z = both (sym (ap (end_in k) (way.out-way s.descent z))) (sym (way.out-report s.descent z))
 
   module _ (o : 0 < level) where
-    pub damaged : (u : List ℕ) → enters.entering u Entered.Damaged ≡ enters.told (reason_at n t e) (entry.enter n c (enters.above_of a) t e)
+    pub damaged : (u : List ℕ) → enters.entering u enters.damaged ≡ enters.told (reason_at n t e) (entry.enter n c (enters.above_of a) t e)
         → Handed n c k t₀ x₀ u None x
     unfolding end_in end_or
     damaged u h =
         both (sym (ap (end_in k) (way.damaged-way s.descent o a s.above u h))) (sym (way.damaged-report s.descent o a s.above u h))
 
     module _ (u : List ℕ) (h : Head) (why : Reason)
-        (f : enters.entering u (Entered.Page h why) ≡ enters.told (reason_at n t e) (entry.enter n c (enters.above_of a) t e))
+        (f : enters.entering u (enters.found h why) ≡ enters.told (reason_at n t e) (entry.enter n c (enters.above_of a) t e))
         (y : Report) (v : y ≡ adds why x) where
       -- one more page than stand above it
       pub ends : h.kind ≡ leaf_kind → (j : ℕ) → j + level ≡ 4 → (i : ℕ) → i ≡ spot_at k u (record { place = e; head = h })

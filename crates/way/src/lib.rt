@@ -23,7 +23,7 @@ ghost use Rattle.entries.specs.Spot.{keys_in, spot_of};
 ghost use Rattle.way.specs.Ahead.{ahead_of};
 ghost use Rattle.way.specs.Ways.{places_below, Leads, no_step, way_for, then_of, above_in, told, end_in, reported, went, ended};
 
-use enter::{Above, Entered};
+use enter::Above;
 use head::Head;
 use rules::{
     AT_COUNT, AT_KIND, CERT, CHILD, INNER_HEADER, INNER_ROOM, LEAF, LEAF_HEADER, LEAF_ROOM, LEVELS,
@@ -184,14 +184,15 @@ pub fn way_of(t: &mut [u8], n: usize, c: u32, key: u64) -> Went
     let mut level = LEVELS;
     while 0 < level {
         let guess = look_ahead(t, e.child, key, key);
-        let Entered::Page(head, reason) = enter::enter(t, n, c, above(way), e) else {
+        let Some(entered) = enter::enter(t, n, c, above(way), e) else {
             return Went {
                 way: no_way(),
                 report,
             };
         };
+        let head = entered.head;
         way = then(way, Step { place: e, head });
-        report = report.add(reason);
+        report = report.add(entered.reason);
         if head.kind == LEAF {
             return Went { way, report };
         }
@@ -216,10 +217,11 @@ pub fn leaf_of(t: &mut [u8], n: usize, c: u32, key: u64) -> Ended
     let mut e = head::root_place(t);
     for level in (0..LEVELS).rev() {
         let guess = look_ahead(t, e.child, key, key);
-        let Entered::Page(page, reason) = enter::enter(t, n, c, above, e) else {
+        let Some(entered) = enter::enter(t, n, c, above, e) else {
             return Ended { end: None, report };
         };
-        report = report.add(reason);
+        let page = entered.head;
+        report = report.add(entered.reason);
         if page.kind == LEAF {
             let leaf = Step {
                 place: e,

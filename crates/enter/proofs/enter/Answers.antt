@@ -6,7 +6,7 @@ use Rattle.rules.specs.Enter as rules
 use Rattle.rules.specs.Report.{reason_at}
 use Rattle.head.specs.Head.{head_in}
 use Rattle.enter.specs.Entering.{told, above_of, entering}
-use Rattle.enter.specs.declared.Entered.{Entered}
+use Rattle.enter.specs.Entering as enters
 use Rattle.enter.proofs.Mended.{head_read}
 use Rattle.enter.proofs.Told.{enter-above, enter-fits, enter-lost}
 use Rattle.enter.proofs.enter.Goals as goal
@@ -20,8 +20,8 @@ returns-then-is_none c =
     let args = c.args in
     let why = c.unfit_at-reason.ensures in
     cc (
-      ap (λ a. entering args.t.now (Entered.Page a (reason_at args.n args.t.now args.e)))
-          (head_read args.t.now args.e.child (c.read_head.ensures ∙ ap head_in c.page_at.ensures.bytes))
+      ap (λ a. entering args.t.now (enters.found a (reason_at args.n args.t.now args.e)))
+          (head_read args.t.now args.e.child (c.read_head-head.ensures ∙ ap head_in c.page_at.ensures.bytes))
           ∙ enter-fits args.n args.c args.t.now args.e (reason_at args.n args.t.now args.e) (above_of args.above)
           (sym c.stands_above.ensures ∙ c.if-stands_above.false) (sym (c.is_none.ensures ∙ ap is_none why) ∙ c.if-is_none.true),
       why,

@@ -37,4 +37,4 @@ returns c =
     mended-told args.n args.c args.t.now args.e slice-known.given record
     { counter = omega (arith, fits.c); birth = omega (arith, struct_known.given.1.1.0); low = omega (arith, struct_known.given.1.1.1.0); high = omega (arith, struct_known.given.1.1.1.1.0) }
     pre.0 pre.1 (sym mendable-at.ensures ∙ if1.false)
-    build-mended.new.table c.read_head.result args.reason build-mended.ensures (c.read_head.ensures ∙ ap head_in c.page_at.ensures.bytes)
+    build-mended.new.table c.read_head-head.result args.reason build-mended.ensures (c.read_head-head.ensures ∙ ap head_in c.page_at.ensures.bytes)

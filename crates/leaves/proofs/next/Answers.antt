@@ -73,8 +73,8 @@ spot_at-spot-requires c =
     let enter = c.enter in
     let o = loop-test.true in
     let q = c.if-page-eq-LEAF.true in
-    let f = ap (entering enter.new.t) (sym c.in-Page.is) ∙ enter.ensures in
-    (omega (arith, enter.auto.t, loop.invariant.descent.ready.long, loop.invariant.descent.ready.child_below), leaf_room_lem loop.invariant o enter.new.t c.in-Page.page c.in-Page.reason f q, leaf-rise loop.invariant o enter.new.t c.in-Page.page c.in-Page.reason f q)
+    let f = ap (entering enter.new.t) (sym c.in-Some.is) ∙ enter.ensures in
+    (omega (arith, enter.auto.t, loop.invariant.descent.ready.long, loop.invariant.descent.ready.child_below), leaf_room_lem loop.invariant o enter.new.t c.in-Some.entered.head c.in-Some.entered.reason f q, leaf-rise loop.invariant o enter.new.t c.in-Some.entered.head c.in-Some.entered.reason f q)
 
 pub shape_of-t-then-page-eq-LEAF : goal.shape_of-t-then-page-eq-LEAF
 shape_of-t-then-page-eq-LEAF c =
@@ -92,16 +92,16 @@ returns-then-page-eq-LEAF c =
     let add = c.add-report in
     let if1 = c.if-page-eq-LEAF in
     let spot-at = c.spot_at-spot in
-    let f = ap (entering enter.new.t) (sym c.in-Page.is) ∙ enter.ensures in
-    ends loop.invariant loop-test.true enter.new.t c.in-Page.page c.in-Page.reason f if1.true add.result add.ensures args.upto spot-at.result spot-at.ensures
+    let f = ap (entering enter.new.t) (sym c.in-Some.is) ∙ enter.ensures in
+    ends loop.invariant loop-test.true enter.new.t c.in-Some.entered.head c.in-Some.entered.reason f if1.true add.result add.ensures args.upto spot-at.result spot-at.ensures
 
 pub place_below-e-requires : goal.place_below-e-requires
 place_below-e-requires c =
     let loop = c.loop-level in
     let loop-test = c.loop-level-test in
     let enter = c.enter in
-    let f = ap (entering enter.new.t) (sym c.in-Page.is) ∙ enter.ensures in
-    (omega (arith, enter.auto.t, loop.invariant.descent.ready.long, loop.invariant.descent.ready.child_below), leads loop.invariant loop-test.true enter.new.t c.in-Page.page c.in-Page.reason f c.if-page-eq-LEAF.false)
+    let f = ap (entering enter.new.t) (sym c.in-Some.is) ∙ enter.ensures in
+    (omega (arith, enter.auto.t, loop.invariant.descent.ready.long, loop.invariant.descent.ready.child_below), leads loop.invariant loop-test.true enter.new.t c.in-Some.entered.head c.in-Some.entered.reason f c.if-page-eq-LEAF.false)
 
 pub overflow_sub-level : goal.overflow_sub-level
 overflow_sub-level c =
@@ -121,8 +121,8 @@ loop-level-preserved c =
     let add = c.add-report in
     let if1 = c.if-page-eq-LEAF in
     let place-below = c.place_below-e in
-    let f = ap (entering enter.new.t) (sym c.in-Page.is) ∙ enter.ensures in
-    goes_on loop.invariant loop-test.true enter.new.t c.in-Page.page c.in-Page.reason f add.result add.ensures if1.false place-below.result place-below.ensures
+    let f = ap (entering enter.new.t) (sym c.in-Some.is) ∙ enter.ensures in
+    goes_on loop.invariant loop-test.true enter.new.t c.in-Some.entered.head c.in-Some.entered.reason f add.result add.ensures if1.false place-below.result place-below.ensures
 
 pub shape_of-t : goal.shape_of-t
 shape_of-t c =

@@ -64,11 +64,11 @@ spot_at-spot-requires c =
     let loop = c.loop-level in
     let loop-test = c.loop-level-test in
     let enter = c.enter in
-    let page = c.in-Page.page in
-    let f = ap (entering enter.new.t) (sym c.in-Page.is) ∙ enter.ensures in
+    let page = c.in-Some.entered.head in
+    let f = ap (entering enter.new.t) (sym c.in-Some.is) ∙ enter.ensures in
     let b = page_at enter.new.t loop.e.child in
-    let h = head-here loop.invariant.descent loop-test.true loop.above loop.invariant.above enter.new.t page c.in-Page.reason f in
-    let l = holds loop.invariant.descent loop-test.true loop.above loop.invariant.above enter.new.t page c.in-Page.reason f c.if-page-eq-LEAF.true in
+    let h = head-here loop.invariant.descent loop-test.true loop.above loop.invariant.above enter.new.t page c.in-Some.entered.reason f in
+    let l = holds loop.invariant.descent loop-test.true loop.above loop.invariant.above enter.new.t page c.in-Some.entered.reason f c.if-page-eq-LEAF.true in
     (omega (arith, enter.auto.t, loop.invariant.descent.ready.long, loop.invariant.descent.ready.child_below), holds-room b page h l, holds-keys b page h l)
 
 pub shape_of-t-then-page-eq-LEAF : goal.shape_of-t-then-page-eq-LEAF
@@ -85,8 +85,8 @@ returns-then-page-eq-LEAF c =
     let loop-test = c.loop-level-test in
     let enter = c.enter in
     let spot-at = c.spot_at-spot in
-    ends loop.invariant loop-test.true enter.new.t c.in-Page.page c.in-Page.reason
-    (ap (entering enter.new.t) (sym c.in-Page.is) ∙ enter.ensures) c.add-report.result
+    ends loop.invariant loop-test.true enter.new.t c.in-Some.entered.head c.in-Some.entered.reason
+    (ap (entering enter.new.t) (sym c.in-Some.is) ∙ enter.ensures) c.add-report.result
     c.add-report.ensures c.if-page-eq-LEAF.true _ (omega (arith, loop-test.true, loop.invariant.descent.deep))
     spot-at.result spot-at.ensures
 
@@ -95,10 +95,10 @@ place_below-e-requires c =
     let loop = c.loop-level in
     let loop-test = c.loop-level-test in
     let enter = c.enter in
-    let f = ap (entering enter.new.t) (sym c.in-Page.is) ∙ enter.ensures in (
+    let f = ap (entering enter.new.t) (sym c.in-Some.is) ∙ enter.ensures in (
       omega (arith, enter.auto.t, loop.invariant.descent.ready.long, loop.invariant.descent.ready.child_below),
       leads loop.invariant.descent loop-test.true loop.above loop.invariant.above enter.new.t
-          c.in-Page.page c.in-Page.reason f c.if-page-eq-LEAF.false,
+          c.in-Some.entered.head c.in-Some.entered.reason f c.if-page-eq-LEAF.false,
     )
 
 pub loop-level-smaller : goal.loop-level-smaller
@@ -112,8 +112,8 @@ loop-level-preserved c =
     let loop-test = c.loop-level-test in
     let enter = c.enter in
     let place-below = c.place_below-e in
-    let f = ap (entering enter.new.t) (sym c.in-Page.is) ∙ enter.ensures in
-    goes_on loop.invariant loop-test.true enter.new.t c.in-Page.page c.in-Page.reason f
+    let f = ap (entering enter.new.t) (sym c.in-Some.is) ∙ enter.ensures in
+    goes_on loop.invariant loop-test.true enter.new.t c.in-Some.entered.head c.in-Some.entered.reason f
     c.add-report.result c.add-report.ensures c.if-page-eq-LEAF.false
     place-below.result place-below.ensures
 

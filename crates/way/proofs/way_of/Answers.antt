@@ -75,8 +75,8 @@ returns-then-head-eq-LEAF c =
     let enter = c.enter in
     let add = c.add-report in
     ap (λ (w : Way). went enter.new.t (record { way = w; report = add.result })) c.then-way.ensures
-    ∙ ends-reported loop.invariant loop-test.true above.result above.ensures enter.new.t c.in-Page.head c.in-Page.reason
-    (ap (entering enter.new.t) (sym c.in-Page.is) ∙ enter.ensures) c.if-head-eq-LEAF.true add.result add.ensures
+    ∙ ends-reported loop.invariant loop-test.true above.result above.ensures enter.new.t c.in-Some.entered.head c.in-Some.entered.reason
+    (ap (entering enter.new.t) (sym c.in-Some.is) ∙ enter.ensures) c.if-head-eq-LEAF.true add.result add.ensures
 
 pub place_below-e-requires : goal.place_below-e-requires
 place_below-e-requires c =
@@ -84,9 +84,9 @@ place_below-e-requires c =
     let loop-test = c.loop-level-test in
     let above = c.above in
     let enter = c.enter in
-    let f = ap (entering enter.new.t) (sym c.in-Page.is) ∙ enter.ensures in (
+    let f = ap (entering enter.new.t) (sym c.in-Some.is) ∙ enter.ensures in (
       omega (arith, enter.auto.t, loop.invariant.ready.long, loop.invariant.ready.child_below),
-      leads loop.invariant loop-test.true above.result above.ensures enter.new.t c.in-Page.head c.in-Page.reason f
+      leads loop.invariant loop-test.true above.result above.ensures enter.new.t c.in-Some.entered.head c.in-Some.entered.reason f
           c.if-head-eq-LEAF.false,
     )
 
@@ -108,9 +108,9 @@ loop-level-preserved c =
     let enter = c.enter in
     let then = c.then-way in
     let place-below = c.place_below-e in
-    let f = ap (entering enter.new.t) (sym c.in-Page.is) ∙ enter.ensures in
+    let f = ap (entering enter.new.t) (sym c.in-Some.is) ∙ enter.ensures in
     rw then.ensures
-    (goes_on loop.invariant loop-test.true above.result above.ensures enter.new.t c.in-Page.head c.in-Page.reason f c.if-head-eq-LEAF.false place-below.result place-below.ensures c.add-report.result c.add-report.ensures)
+    (goes_on loop.invariant loop-test.true above.result above.ensures enter.new.t c.in-Some.entered.head c.in-Some.entered.reason f c.if-head-eq-LEAF.false place-below.result place-below.ensures c.add-report.result c.add-report.ensures)
 
 pub shape_of-t : goal.shape_of-t
 shape_of-t c =
