@@ -1,11 +1,12 @@
 -- The loop of the walk that counts: the tally of what was seen, and what is left to walk. Assumes nothing.
 use Prim.Native.Nat.{ℕ, ◌+◌, ◌*◌, ◌-◌, ◌≤◌, ◌<◌}
 use native.Mathlib.Omega.{arith}
-use mathlib.Core.Path.{◌≡◌, ap, sym, subst, ◌∙◌}
+use mathlib.Core.Path.{◌≡◌, refl, ap, sym, subst, ◌∙◌}
 use mathlib.Core.Bool.{Bool, true, false}
 use mathlib.Core.List.{List, [], ◌++◌}
 use lib.ListN.{length, take, drop, replicate}
 use lib.Seq.{take_all}
+use Rattle.std.specs.Prelude.{Option, Some, None, Result, Ok, Err, is_ok}
 use Rattle.rules.specs.Layout.{page_size, leaf_header, cert_size, leaf_room, most_pages, last_key}
 use Rattle.rules.specs.Entry.{Cert, cut}
 use Rattle.rules.specs.Page.{read_each, cert_in}
@@ -17,22 +18,41 @@ use Rattle.rules.proofs.Bytes.Each.{length-read_each}
 use Rattle.head.specs.Head.{head_in}
 use Rattle.head.specs.declared.Head.{Head}
 use Rattle.head.proofs.Headers.{head_in-page, certs-leaf}
+use Rattle.rules.proofs.Entries.Tests.{not_both}
 use Rattle.dry.specs.Walk.{sighted, asks, dry_over}
 use Rattle.dry.specs.Count.{Leaf}
-use Rattle.dry.specs.Cursor.{no_run, at_root, stepping, step_of}
+use Rattle.dry.specs.Cursor.{at_root, reaching, leaf_of, way_left}
+use Rattle.dry.specs.declared.Damaged.{Damaged}
 use Rattle.dry.specs.declared.Cursor.{Cursor}
 use Rattle.dry.specs.declared.LeafAt.{LeafAt}
-use Rattle.dry.specs.declared.Step.{Step}
-use Rattle.dry.proofs.Leads.{way_left, root_left}
 use Rattle.dry.proofs.Tallies.{leaf_room_lem}
-use Rattle.dry.proofs.Going.{Going, Taken, leaf_view, root-comes, root-leads, full_sees, end_sees, damage_sees, on_less, on_comes, on_leads, leaf_less, leaf-inside, leaf_there, leaf-comes, leaf-leads}
+use Rattle.dry.proofs.Going.{Going, Taken, leaf_view, root-comes, root-leads, full_sees, end_sees, damage_sees, leaf_less, leaf-inside, leaf_there, leaf-comes, leaf-leads}
 use Rattle.counts.specs.Tally.{everything, no_tally, counted_all, Few, ahead_by, ahead_of}
 use Rattle.counts.specs.declared.Tally.{Tally}
-use Rattle.counts.specs.declared.Ahead.{Ahead}
 use Rattle.counts.proofs.Tallies.{few-none, few-all, certs-all, certs-found, all_append}
 
-abbrev by : Bool → Tally → Ahead
-by whole c = record { whole = whole; tally = c }
+-- what code keeps of the walk, read
+module _ (n : ℕ) (t : List ℕ) where
+  pub ahead-whole : is_ok (ahead_of n t) ≡ (dry_over n everything t).whole
+  unfolding ahead_of ahead_by
+  ahead-whole = go (dry_over n everything t).whole refl
+    where
+      go : (b : Bool) → (dry_over n everything t).whole ≡ b → is_ok (ahead_of n t) ≡ (dry_over n everything t).whole
+      go true h = rw (ahead_of, ahead_by, h)
+      go false h = rw (ahead_of, ahead_by, h)
+
+  same : (x y : Tally) → ◌≡◌ {A = Result Tally Tally} (Ok x) (Ok y) → x ≡ y
+  same x y h = cc
+
+  pub ahead-tally : (d : Tally) → Ok d ≡ ahead_of n t → d ≡ counted_all no_tally (dry_over n everything t).found
+  unfolding ahead_of ahead_by
+  ahead-tally d e = go (dry_over n everything t).whole refl
+    where
+      go : (b : Bool) → (dry_over n everything t).whole ≡ b → d ≡ counted_all no_tally (dry_over n everything t).found
+      go true h = same d _ (e ∙ rw (ahead_of, ahead_by, h))
+      go false h =
+          let k : is_ok (ahead_of n t) ≡ false = rw (ahead_of, ahead_by, h) in
+          absurd (not_both (sym (ap is_ok e)) k)
 
 -- What was seen so far. Each step takes from what is left of the way and sees one leaf at the most, so there is always room.
 pub record Counting (n : ℕ) (a : Asked) (t : List ℕ) (c : Cursor) (tally : Tally) (m : List Bool) : Type 0 where
@@ -41,12 +61,12 @@ pub record Counting (n : ℕ) (a : Asked) (t : List ℕ) (c : Cursor) (tally : T
   pub few : tally.certs + leaf_room * way_left c ≤ leaf_room * 4096
 
 module _ {n : ℕ} {a : Asked} {t : List ℕ} (ea : a ≡ everything) where
-  pub counting_begins : (c : Cursor) → c ≡ at_root → (z : Tally) → z ≡ no_tally → fit0 n t ≡ true → Counting n a t c z (replicate most_pages false)
-  unfolding no_tally counted_all way_left root_left at_root no_run
-  counting_begins c e z q fit = record {
-    going = record { found = []; counts = sym (ap (λ (x : Tally). x.certs) q); comes = root-comes n t c e a; leads = root-leads n t c e fit };
+  pub counting_begins : (z : Tally) → z ≡ no_tally → fit0 n t ≡ true → Counting n a t at_root z (replicate most_pages false)
+  unfolding no_tally counted_all way_left
+  counting_begins z q fit = record {
+    going = record { found = []; counts = sym (ap (λ (x : Tally). x.certs) q); comes = root-comes n t a; leads = root-leads n t fit };
     tally_is = q;
-    few = subst (λ (x : Cursor). z.certs + leaf_room * way_left x ≤ leaf_room * 4096) (sym e) (rw q (omega arith));
+    few = rw q (omega arith);
   }
 
   module _ {c : Cursor} {tally : Tally} {m : List Bool} (x : Counting n a t c tally m) where
@@ -59,36 +79,29 @@ module _ {n : ℕ} {a : Asked} {t : List ℕ} (ea : a ≡ everything) where
     pub counting_room : tally.certs + leaf_room ≤ 4294967295
     counting_room = omega (arith, x.few)
 
-    ends : (whole : Bool) (marks : List Bool) → sighted whole seen marks ≡ dry_over n a t → by whole tally ≡ ahead_of n t
+    ends : (marks : List Bool) → sighted true seen marks ≡ dry_over n a t → Ok tally ≡ ahead_of n t
     unfolding ahead_of ahead_by
-    ends whole marks p = ap (by whole) x.tally_is ∙ ap ahead_by (p ∙ ap (λ (b : Asked). dry_over n b t) ea)
+    ends marks p = ap Ok x.tally_is ∙ ap ahead_by (p ∙ ap (λ (b : Asked). dry_over n b t) ea)
 
-    pub counting_full : a.room ≤ tally.certs → by true tally ≡ ahead_of n t
-    counting_full h = ends true m (full_sees x.going h)
+    breaks : (marks : List Bool) → sighted false seen marks ≡ dry_over n a t → Err tally ≡ ahead_of n t
+    unfolding ahead_of ahead_by
+    breaks marks p = ap Err x.tally_is ∙ ap ahead_by (p ∙ ap (λ (b : Asked). dry_over n b t) ea)
 
-    module _ (long : length t ≡ n * page_size) (room : tally.certs < a.room) {s : Step} {marks : List Bool}
-        (is : stepping s marks ≡ step_of n a t c m) where
+    pub counting_full : a.room ≤ tally.certs → Ok tally ≡ ahead_of n t
+    counting_full h = ends m (full_sees x.going h)
+
+    module _ (long : length t ≡ n * page_size) (room : tally.certs < a.room) {s : Result (Option LeafAt) Damaged} {marks : List Bool}
+        (is : reaching s marks ≡ leaf_of n a t c m) where
       abbrev y : Taken n a t c tally.certs m s marks
       y = record { long = long; room = room; going = x.going; is = is }
 
-      pub counting_ends : s ≡ Step.End → by true tally ≡ ahead_of n t
-      counting_ends q = ends true marks (end_sees y q)
+      pub counting_ends : s ≡ Ok None → Ok tally ≡ ahead_of n t
+      counting_ends q = ends marks (end_sees y q)
 
-      pub counting_breaks : s ≡ Step.Damaged → by false tally ≡ ahead_of n t
-      counting_breaks q = ends false marks (damage_sees y q)
+      pub counting_breaks : (d : Damaged) → s ≡ Err d → Err tally ≡ ahead_of n t
+      counting_breaks d q = breaks marks (damage_sees y d q)
 
-      module _ (z : Cursor) (q : s ≡ Step.On z) where
-        pub counting_less : way_left z < way_left c
-        counting_less = on_less y z q
-
-        pub counting_on : Counting n a t z tally marks
-        counting_on = record {
-          going = record { found = seen; counts = x.going.counts; comes = on_comes y z q; leads = on_leads y z q };
-          tally_is = x.tally_is;
-          few = omega (arith, x.few, on_less y z q);
-        }
-
-      module _ (l : LeafAt) (q : s ≡ Step.Leaf l) where
+      module _ (l : LeafAt) (q : s ≡ Ok (Some l)) where
         pub counting_passes : way_left l.after < way_left c
         counting_passes = leaf_less y l q
 

@@ -1,12 +1,11 @@
 -- Models, meters and certificates counted in key order, from certificate to certificate.
-use Rattle.std.specs.Prelude.{ℕ, ◌+◌, ◌/◌, ◌≤◌, true, false, List, [], ◌∷◌, eqb}
+use Rattle.std.specs.Prelude.{ℕ, ◌+◌, ◌/◌, ◌≤◌, true, false, Result, Ok, Err, List, [], ◌∷◌, eqb}
 use Rattle.rules.specs.Layout.{last_key}
 use Rattle.rules.specs.Test.{between}
 use Rattle.rules.specs.Entry.{Cert}
 use Rattle.rules.specs.declared.Asked.{Asked}
 use Rattle.dry.specs.Walk.{Sighted, dry_over}
 use Rattle.counts.specs.declared.Tally.{Tally}
-use Rattle.counts.specs.declared.Ahead.{Ahead}
 
 -- a listing from key 0 with room for all: no walk finds as many as a count of four bytes can say
 unfoldable pub everything : Asked
@@ -43,8 +42,9 @@ pub record Few (c : Tally) : Type 0 where
   pub meters : c.meters ≤ c.certs
 
 -- what code keeps of the dry walk over all keys
-unfoldable pub ahead_by : Sighted → Ahead
-ahead_by d = record { whole = d.whole; tally = counted_all no_tally d.found }
+unfoldable pub ahead_by : Sighted → Result Tally Tally
+ahead_by d =
+    elim d.whole [ true ↦ Ok (counted_all no_tally d.found) | false ↦ Err (counted_all no_tally d.found) ]
 
-unfoldable pub ahead_of : ℕ → List ℕ → Ahead
+unfoldable pub ahead_of : ℕ → List ℕ → Result Tally Tally
 ahead_of n t = ahead_by (dry_over n everything t)

@@ -15,7 +15,7 @@ ghost use Rattle.rules.specs.Page.{read_each, cert_in};
 ghost use Rattle.rules.specs.Table.{page_at, fit0};
 ghost use Rattle.counts.specs.Tally.{everything, no_tally, one_more, counted, counted_in, counted_all, Few, ahead_of};
 
-use dry::Step;
+use dry::Cursor;
 use head::{cert_key_at, head_at};
 use rules::{Asked, LAST_KEY, MOST};
 
@@ -26,13 +26,6 @@ pub struct Tally {
     pub meters: usize,
     pub certs: usize,
     pub last: u64,
-}
-
-// What a walk over all keys will find, if it meets no damaged place.
-#[derive(Clone, Copy)]
-pub struct Ahead {
-    pub whole: bool,
-    pub tally: Tally,
 }
 
 // A key over one of these is its meter, its model.
@@ -121,44 +114,34 @@ fn count_leaf(table: &[u8], page: usize, entries: usize, low: u64, high: u64, c:
     t
 }
 
-// The whole walk, from the root on.
-pub fn count_of(table: &[u8], n: usize) -> Ahead
+// The tally of what a walk over all keys finds; where it meets a damaged place, of what it found before that.
+pub fn count_of(table: &[u8], n: usize) -> Result<Tally, Tally>
     requires { (length table.now ≡ n * page_size) × (fit0 n table.now ≡ true) }
     ensures { result ≡ ahead_of n table.now }
 {
     let a = everything();
-    let mut c = dry::at_root();
+    let mut at = Cursor::AtRoot;
     let mut tally = no_tally();
     let mut mended = [false; MOST];
     while tally.certs < a.room {
-        let s = dry::next(table, n, a, c, false, &mut mended);
-        match s {
-            Step::On(way) => {
-                c = way;
-            }
-            Step::Leaf(leaf) => {
-                let i = leaf.page as usize;
-                let head = head_at(table, i);
-                tally = count_leaf(
-                    table,
-                    i,
-                    head.count as usize,
-                    leaf.place.low,
-                    leaf.place.high,
-                    tally,
-                );
-                c = leaf.after;
-            }
-            Step::End => {
-                return Ahead { whole: true, tally };
-            }
-            Step::Damaged => {
-                return Ahead {
-                    whole: false,
-                    tally,
-                };
-            }
-        }
+        let Ok(next) = dry::next_leaf(table, n, a, at, &mut mended) else {
+            return Err(tally);
+        };
+        let Some(leaf) = next else {
+            return Ok(tally);
+        };
+        let page = leaf.page as usize;
+        let head = head_at(table, page);
+        let place = leaf.place;
+        tally = count_leaf(
+            table,
+            page,
+            head.count as usize,
+            place.low,
+            place.high,
+            tally,
+        );
+        at = leaf.after;
     }
-    Ahead { whole: true, tally }
+    Ok(tally)
 }

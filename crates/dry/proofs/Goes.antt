@@ -6,6 +6,7 @@ use mathlib.Core.Bool.{Bool, true, false}
 use mathlib.Core.List.{List, [], ◌∷◌, ◌++◌, append-nil}
 use lib.ListN.{length}
 use lib.Seq.{take-nil}
+use Rattle.std.specs.Prelude.{Some}
 use Rattle.rules.specs.Layout.{page_size, leaf_kind}
 use Rattle.rules.specs.Test.{mem}
 use Rattle.rules.specs.Test.{all}
@@ -33,7 +34,6 @@ use Rattle.dry.specs.Walk.{keeps, helps, sighted, meets, asks, takes, dry_each, 
 use Rattle.dry.specs.Source.{source, marked_by}
 use Rattle.dry.specs.Count.{Leaf}
 use Rattle.dry.specs.Cursor.{Names}
-use Rattle.dry.specs.declared.Source.{Source}
 use Rattle.dry.proofs.Sources.{source-above, source-child, source-previous, source-none, same-page, never, keeps-fits, helps-mendable}
 use Rattle.dry.proofs.Steps.{step-goes}
 
@@ -64,7 +64,7 @@ module _ (n : ℕ) (t : List ℕ) (long : length t ≡ n * page_size) where
         let q = mendable_true n e (read t e.previous) (helps-mendable n above t m e k) in
         record { sound = q.sound; inside = q.below }
 
-    pub sourced : (i : ℕ) → source n above t m e ≡ Source.Page i → Sourced n t i
+    pub sourced : (i : ℕ) → source n above t m e ≡ Some i → Sourced n t i
     sourced i s = go (mem e.child above) refl (keeps n t m e) refl (helps n t m e) refl
       where
         go : (a : Bool) → mem e.child above ≡ a → (b : Bool) → keeps n t m e ≡ b → (d : Bool) → helps n t m e ≡ d → Sourced n t i
@@ -104,7 +104,7 @@ module _ (n : ℕ) (t : List ℕ) (long : length t ≡ n * page_size) where
   -- ── What it shows ─────────────────────────────────────────────────────────────────────────────────────────────
 
   module _ (a : Asked) (parent top : ℕ) (e : Place) (found : List Cert) (m : List Bool) (level i : ℕ) (h : meets a e (sighted true found m) ≡ true)
-      (p : source n (parent ∷ top ∷ []) t m e ≡ Source.Page i) where
+      (p : source n (parent ∷ top ∷ []) t m e ≡ Some i) where
     view : View
     view = cut_view e.low e.high (read t i).view
 

@@ -6,6 +6,7 @@ use mathlib.Core.Path.{◌≡◌, refl, ap, sym, subst, ◌∙◌}
 use mathlib.Core.Bool.{Bool, true, false}
 use mathlib.Core.List.{List, [], ◌∷◌, ◌++◌}
 use lib.ListN.{length, length-append, replicate}
+use Rattle.std.specs.Prelude.{Option, Some, None, Result, Ok, Err}
 use Rattle.rules.specs.Layout.{page_size, most_pages}
 use Rattle.rules.specs.Entry.{Cert}
 use Rattle.rules.specs.Table.{page_at, read, fit0}
@@ -16,15 +17,16 @@ use Rattle.head.specs.declared.Head.{Head}
 use Rattle.seen.proofs.Looks.{head-kind}
 use Rattle.dry.specs.Walk.{sighted, asks, untouched, dry_over, counted, dry_of}
 use Rattle.dry.specs.Count.{tally, tally_at, Leaf}
-use Rattle.dry.specs.Cursor.{at_root, stepping, Stepping, step_of, ahead, Leads}
+use Rattle.dry.specs.Cursor.{at_root, Reaching, reaching, leaf_of, way_left, ahead, Leads}
+use Rattle.dry.specs.declared.Damaged.{Damaged}
 use Rattle.dry.specs.declared.Dry.{Dry}
 use Rattle.dry.specs.declared.Cursor.{Cursor}
 use Rattle.dry.specs.declared.LeafAt.{LeafAt}
-use Rattle.dry.specs.declared.Step.{Step}
 use Rattle.dry.proofs.Goes.{Sourced, sourced, source-inside, source-leaf}
 use Rattle.dry.proofs.Answers.{root-named}
-use Rattle.dry.proofs.Ways.{stepped, ahead-begins, ahead-full, step-ahead}
-use Rattle.dry.proofs.Leads.{way_left, LeafShown, Good, leads-root, step-good}
+use Rattle.dry.proofs.Ways.{ahead-begins, ahead-full}
+use Rattle.dry.proofs.Leads.{LeafShown}
+use Rattle.dry.proofs.Reaches.{come, Reached, leaf-reached, leaf-ahead}
 
 -- the certificates seen so far, and the way that can be gone
 pub record Going (n : ℕ) (a : Asked) (t : List ℕ) (c : Cursor) (count : ℕ) (m : List Bool) : Type 0 where
@@ -33,99 +35,83 @@ pub record Going (n : ℕ) (a : Asked) (t : List ℕ) (c : Cursor) (count : ℕ)
   pub comes : ahead n a t c (sighted true found m) ≡ dry_over n a t
   pub leads : Leads n t c
 
-abbrev dry_by : Bool → ℕ → List Bool → Dry
-dry_by whole count m = record { whole = whole; count = count; mended = m }
+abbrev dry_by : ℕ → List Bool → Dry
+dry_by count m = record { count = count; mended = m }
 
 -- a leaf's certificates, as its place shows them
 abbrev pub leaf_view : List ℕ → Asked → LeafAt → List Cert → List Cert
 leaf_view t a l found = asks a (cut_view l.place.low l.place.high (read t l.page).view) found
 
--- a step that was taken while there was room
-pub record Taken (n : ℕ) (a : Asked) (t : List ℕ) (c : Cursor) (count : ℕ) (m : List Bool) (s : Step) (marks : List Bool) : Type 0 where
+-- a leaf that was sought while there was room
+pub record Taken (n : ℕ) (a : Asked) (t : List ℕ) (c : Cursor) (count : ℕ) (m : List Bool) (s : Result (Option LeafAt) Damaged) (marks : List Bool) : Type 0 where
   pub long : length t ≡ n * page_size
   pub room : count < a.room
   pub going : Going n a t c count m
-  pub is : stepping s marks ≡ step_of n a t c m
+  pub is : reaching s marks ≡ leaf_of n a t c m
 
-pub taken : {n : ℕ} {a : Asked} {t : List ℕ} {c : Cursor} {count : ℕ} {m : List Bool} {s : Step} {marks : List Bool}
-    → length t ≡ n * page_size → Going n a t c count m → count < a.room → stepping s marks ≡ step_of n a t c m → Taken n a t c count m s marks
+pub taken : {n : ℕ} {a : Asked} {t : List ℕ} {c : Cursor} {count : ℕ} {m : List Bool} {s : Result (Option LeafAt) Damaged} {marks : List Bool}
+    → length t ≡ n * page_size → Going n a t c count m → count < a.room → reaching s marks ≡ leaf_of n a t c m → Taken n a t c count m s marks
 taken long g room is = record { long = long; room = room; going = g; is = is }
 
-module _ (n : ℕ) (t : List ℕ) (c : Cursor) (e : c ≡ at_root) where
-  pub root-comes : (a : Asked) → ahead n a t c (sighted true [] (replicate most_pages false)) ≡ dry_over n a t
+module _ (n : ℕ) (t : List ℕ) where
+  pub root-comes : (a : Asked) → ahead n a t at_root (sighted true [] (replicate most_pages false)) ≡ dry_over n a t
   unfolding untouched
-  root-comes a = ap (λ (x : Cursor). ahead n a t x (sighted true [] (replicate most_pages false))) e ∙ ahead-begins n a t
+  root-comes a = ahead-begins n a t
 
-  pub root-leads : fit0 n t ≡ true → Leads n t c
-  root-leads fit = subst (Leads n t) (sym e) (leads-root n t (root-named n t fit))
+  pub root-leads : fit0 n t ≡ true → Leads n t at_root
+  root-leads fit = root-named n t fit
 
-  pub going-begins : (a : Asked) → fit0 n t ≡ true → Going n a t c 0 (replicate most_pages false)
+  pub going-begins : (a : Asked) → fit0 n t ≡ true → Going n a t at_root 0 (replicate most_pages false)
   going-begins a fit = record { found = []; counts = refl; comes = root-comes a; leads = root-leads fit }
 
 module _ {n : ℕ} {a : Asked} {t : List ℕ} where
   module _ {c : Cursor} {count : ℕ} {m : List Bool} where
-    ends : (g : Going n a t c count m) (whole : Bool) (marks : List Bool) → sighted whole g.found marks ≡ dry_over n a t
-        → dry_by whole count marks ≡ dry_of n a t
+    ends : (g : Going n a t c count m) (marks : List Bool) → sighted true g.found marks ≡ dry_over n a t → Ok (dry_by count marks) ≡ dry_of n a t
     unfolding dry_of counted
-    ends g whole marks p = ap (λ (k : ℕ). dry_by whole k marks) (sym g.counts) ∙ ap counted p
+    ends g marks p = ap (λ (k : ℕ). Ok (dry_by k marks)) (sym g.counts) ∙ ap counted p
+
+    breaks : (g : Going n a t c count m) (marks : List Bool) → sighted false g.found marks ≡ dry_over n a t → Err (dry_by count marks) ≡ dry_of n a t
+    unfolding dry_of counted
+    breaks g marks p = ap (λ (k : ℕ). Err (dry_by k marks)) (sym g.counts) ∙ ap counted p
 
     -- there is no room
     pub full_sees : (g : Going n a t c count m) → a.room ≤ count → sighted true g.found m ≡ dry_over n a t
     full_sees g h = sym (ahead-full n a t c (sighted true g.found m) (omega (arith, g.counts))) ∙ g.comes
 
-    pub going-full : Going n a t c count m → a.room ≤ count → dry_by true count m ≡ dry_of n a t
-    going-full g h = ends g true m (full_sees g h)
+    pub going-full : Going n a t c count m → a.room ≤ count → Ok (dry_by count m) ≡ dry_of n a t
+    going-full g h = ends g m (full_sees g h)
 
-    module _ {s : Step} {marks : List Bool} (y : Taken n a t c count m s marks) where
+    module _ {s : Result (Option LeafAt) Damaged} {marks : List Bool} (y : Taken n a t c count m s marks) where
       abbrev seen : List Cert
       seen = y.going.found
 
-      goes : stepped n a t seen s marks ≡ dry_over n a t
+      goes : come n a t seen s marks ≡ dry_over n a t
       goes =
-          ap (λ (x : Stepping). stepped n a t seen x.step x.marks) y.is
-          ∙ sym (step-ahead n a t y.long seen m (omega (arith, y.going.counts, y.room)) c)
+          ap (λ (x : Reaching). come n a t seen x.leaf x.marks) y.is
+          ∙ sym (leaf-ahead n a t y.long seen (omega (arith, y.going.counts, y.room)) c m y.going.leads)
           ∙ y.going.comes
 
-      good : Good n t m (way_left c) s marks
-      good =
-          subst (λ (x : Stepping). Good n t m (way_left c) x.step x.marks) (sym y.is)
-          (step-good n t a m y.long c y.going.leads)
+      reached : Reached n t (way_left c) s marks
+      reached =
+          subst (λ (x : Reaching). Reached n t (way_left c) x.leaf x.marks) (sym y.is)
+          (leaf-reached n a t y.long c m y.going.leads)
 
-      module _ (x : Cursor) (q : s ≡ Step.On x) where
-        on : Good n t m (way_left c) (Step.On x) marks
-        on = subst (λ (z : Step). Good n t m (way_left c) z marks) q good
-
-        pub on_less : way_left x < way_left c
-        unfolding Good
-        on_less = on.1
-
-        pub on_leads : Leads n t x
-        unfolding Good
-        on_leads = on.0
-
-        pub on_comes : ahead n a t x (sighted true y.going.found marks) ≡ dry_over n a t
-        unfolding stepped
-        on_comes = sym (ap (λ (z : Step). stepped n a t seen z marks) q) ∙ goes
-
-        pub going_on : Going n a t x count marks
-        going_on = record { found = seen; counts = y.going.counts; comes = on_comes; leads = on_leads }
-
-      module _ (l : LeafAt) (q : s ≡ Step.Leaf l) where
-        leaf : Good n t m (way_left c) (Step.Leaf l) marks
-        leaf = subst (λ (z : Step). Good n t m (way_left c) z marks) q good
+      module _ (l : LeafAt) (q : s ≡ Ok (Some l)) where
+        leaf : Reached n t (way_left c) (Ok (Some l)) marks
+        leaf = subst (λ (z : Result (Option LeafAt) Damaged). Reached n t (way_left c) z marks) q reached
 
         pub leaf_less : way_left l.after < way_left c
-        unfolding Good
+        unfolding Reached
         leaf_less = leaf.1
 
-        pub leaf-shown : LeafShown n t m marks l
-        unfolding Good
+        pub leaf-shown : LeafShown n t marks l
+        unfolding Reached
         leaf-shown = leaf.2
 
         leaf_sourced : Sourced n t l.page
         leaf_sourced =
             let x = leaf-shown in
-            sourced n t y.long (x.parent ∷ x.top ∷ []) m l.place l.page x.source_is
+            sourced n t y.long (x.parent ∷ x.top ∷ []) x.before l.place l.page x.source_is
 
         pub leaf-inside : (l.page + 1) * page_size ≤ length t
         leaf-inside = source-inside n t y.long l.page leaf_sourced
@@ -141,12 +127,12 @@ module _ {n : ℕ} {a : Asked} {t : List ℕ} where
             ∙ sym e
 
         pub leaf-leads : Leads n t l.after
-        unfolding Good
+        unfolding Reached
         leaf-leads = leaf.0
 
         pub leaf-comes : ahead n a t l.after (sighted true (y.going.found ++ leaf_view t a l y.going.found) marks) ≡ dry_over n a t
-        unfolding stepped
-        leaf-comes = sym (ap (λ (z : Step). stepped n a t seen z marks) q) ∙ goes
+        unfolding come
+        leaf-comes = sym (ap (λ (z : Result (Option LeafAt) Damaged). come n a t seen z marks) q) ∙ goes
 
         pub going-leaf : (k : ℕ) → k ≡ tally_at t l.page a l.place count → Going n a t l.after k marks
         going-leaf k e = record {
@@ -156,16 +142,16 @@ module _ {n : ℕ} {a : Asked} {t : List ℕ} where
           leads = leaf-leads;
         }
 
-      pub end_sees : s ≡ Step.End → sighted true y.going.found marks ≡ dry_over n a t
-      unfolding stepped
-      end_sees q = sym (ap (λ (z : Step). stepped n a t seen z marks) q) ∙ goes
+      pub end_sees : s ≡ Ok None → sighted true y.going.found marks ≡ dry_over n a t
+      unfolding come
+      end_sees q = sym (ap (λ (z : Result (Option LeafAt) Damaged). come n a t seen z marks) q) ∙ goes
 
-      pub damage_sees : s ≡ Step.Damaged → sighted false y.going.found marks ≡ dry_over n a t
-      unfolding stepped
-      damage_sees q = sym (ap (λ (z : Step). stepped n a t seen z marks) q) ∙ goes
+      pub damage_sees : (x : Damaged) → s ≡ Err x → sighted false y.going.found marks ≡ dry_over n a t
+      unfolding come
+      damage_sees x q = sym (ap (λ (z : Result (Option LeafAt) Damaged). come n a t seen z marks) q) ∙ goes
 
-      pub going-ends : s ≡ Step.End → dry_by true count marks ≡ dry_of n a t
-      going-ends q = ends y.going true marks (end_sees q)
+      pub going-ends : s ≡ Ok None → Ok (dry_by count marks) ≡ dry_of n a t
+      going-ends q = ends y.going marks (end_sees q)
 
-      pub going-breaks : s ≡ Step.Damaged → dry_by false count marks ≡ dry_of n a t
-      going-breaks q = ends y.going false marks (damage_sees q)
+      pub going-breaks : (x : Damaged) → s ≡ Err x → Err (dry_by count marks) ≡ dry_of n a t
+      going-breaks x q = breaks y.going marks (damage_sees x q)

@@ -13,6 +13,7 @@ pub mod Goes
 pub mod Turns
 pub mod Ways
 pub mod Leads
+pub mod Reaches
 pub mod Going
 pub mod Sures
 pub mod Tight

@@ -1,12 +1,9 @@
--- One mark, and the two tests that it decides; marks looked through one by one. Assumes nothing.
-use Prim.Native.Nat.{ℕ, zero, suc, ◌+◌, ◌≤◌, ◌<◌}
-use native.Mathlib.Omega.{arith}
-use native.Mathlib.Numerals.{add-one}
-use mathlib.Core.Path.{◌≡◌, refl, ap, sym, ◌∙◌}
-use mathlib.Core.Bool.{Bool, true, false, not, ◌&&◌, and-true}
+-- One mark, and the two tests that it decides; whether any is set. Assumes nothing.
+use Prim.Native.Nat.{ℕ, zero, suc}
+use mathlib.Core.Path.{◌≡◌, refl}
+use mathlib.Core.Bool.{Bool, true, false, not, beq}
+use Rattle.std.specs.List.{list_any}
 use mathlib.Core.List.{List, [], ◌∷◌}
-use lib.ListN.{length, get_or, drop, drop_of_length-le}
-use lib.Seq.{drop-cons}
 use borrow.Author.Tests.{not-true}
 use Rattle.rules.specs.Table.{read}
 use Rattle.rules.specs.Place.{fits, mendable}
@@ -33,21 +30,12 @@ module _ (n : ℕ) (t : List ℕ) (m : List Bool) (e : Place) where
 
 -- ── All of them ─────────────────────────────────────────────────────────────────────────────────────────────────
 
--- what was found of the marks below i, and those behind, come to what all come to
-abbrev pub Looked : List Bool → Bool → ℕ → Type 0
-Looked m none i = (none && none_marked (drop i m)) ≡ none_marked m
-
-pub looked_on : (m : List Bool) (none : Bool) (i size : ℕ) → length m ≡ size → i < size → Looked m none i → Looked m (none && not (get_or m i false)) (i + 1)
+-- none is marked where none of them is true
+pub none_marked-any : (m : List Bool) → not (list_any (λ (x : Bool). beq x true) m) ≡ none_marked m
 unfolding none_marked
-looked_on m none i size e h p = sym (rw (drop-cons m i false (omega arith), add-one) (joined none (not (get_or m i false)) (none_marked (drop (suc i) m)))) ∙ p
-  where
-    joined : (x y z : Bool) → (x && (y && z)) ≡ ((x && y) && z)
-    joined true y z = refl
-    joined false y z = refl
-
-pub looked-all : (m : List Bool) (none : Bool) (i size : ℕ) → length m ≡ size → size ≤ i → Looked m none i → none ≡ none_marked m
-unfolding none_marked
-looked-all m none i size e h p = let k : length m ≤ i = omega arith in sym (ap (λ (xs : List Bool). none && none_marked xs) (drop_of_length-le m k) ∙ and-true none) ∙ p
+none_marked-any [] = refl
+none_marked-any (true ∷ m) = refl
+none_marked-any (false ∷ m) = none_marked-any m
 
 pub none_marked_lem : (m : List Bool) → none_marked m ≡ true → (i : ℕ) → marked m i ≡ false
 unfolding none_marked marked

@@ -8,6 +8,7 @@ use mathlib.Core.Option.{some, none}
 use lib.Dec.{eqb}
 use lib.ListN.{set}
 use borrow.Author.Tests.{eq-eqb, ne_eqb}
+use Rattle.std.specs.Prelude.{Some, None}
 use Rattle.rules.specs.Test.{mem}
 use Rattle.rules.specs.Table.{read}
 use Rattle.rules.specs.Place.{fits, mendable, cut_view}
@@ -17,7 +18,6 @@ use Rattle.rules.proofs.Entries.Sounds.{sound-cut-all}
 use Rattle.rules.proofs.Entries.Places.{fits_true, mendable_true}
 use Rattle.dry.specs.Walk.{marked, keeps, helps, sight_of, sight_mended, sight}
 use Rattle.dry.specs.Source.{source_lost, source, marked_by}
-use Rattle.dry.specs.declared.Source.{Source}
 
 pub above_parent : (i parent top : ℕ) → i ≡ parent → true ≡ mem i (parent ∷ top ∷ [])
 unfolding mem
@@ -41,30 +41,30 @@ unfolding marked_by
 marked_other i e m h = rw (marked_by, ne_eqb i e.child h)
 
 module _ (n : ℕ) (above t : List ℕ) (m : List Bool) (e : Place) where
-  pub source-above : mem e.child above ≡ true → Source.Damaged ≡ source n above t m e
+  pub source-above : mem e.child above ≡ true → None ≡ source n above t m e
   unfolding source
   source-above h = rw (source, h)
 
-  pub source-child : mem e.child above ≡ false → keeps n t m e ≡ true → Source.Page e.child ≡ source n above t m e
+  pub source-child : mem e.child above ≡ false → keeps n t m e ≡ true → Some e.child ≡ source n above t m e
   unfolding source
   source-child h k = rw (source, h, k)
 
   pub source-previous : mem e.child above ≡ false → keeps n t m e ≡ false → helps n t m e ≡ true
-      → Source.Page e.previous ≡ source n above t m e
+      → Some e.previous ≡ source n above t m e
   unfolding source source_lost
   source-previous h k l = rw (source, h, k, source_lost, l)
 
   pub source-none : mem e.child above ≡ false → keeps n t m e ≡ false → helps n t m e ≡ false
-      → Source.Damaged ≡ source n above t m e
+      → None ≡ source n above t m e
   unfolding source source_lost
   source-none h k l = rw (source, h, k, source_lost, l)
 
   -- ── What the place shows ────────────────────────────────────────────────────────────────────────────────────────
 
-  pub same-page : (i j : ℕ) → Source.Page i ≡ Source.Page j → i ≡ j
+  pub same-page : (i j : ℕ) → Some i ≡ Some j → i ≡ j
   same-page i j h = cc
 
-  pub never : (i : ℕ) → Source.Damaged ≡ Source.Page i → ⊥
+  pub never : (i : ℕ) → None ≡ Some i → ⊥
   never i h = let z : ◌≡◌ {A = ℕ} 0 1 = cc in omega arith
 
   abbrev shown_by : ℕ → Type 0
@@ -90,7 +90,7 @@ module _ (n : ℕ) (above t : List ℕ) (m : List Bool) (e : Place) where
       let f = mendable_true n e (read t e.previous) (helps-mendable l) in
       rw (sight, h, k, sight_mended, l, marked_by, ne_eqb e.previous e.child f.other)
 
-  pub sight-source : (i : ℕ) → source n above t m e ≡ Source.Page i → shown_by i
+  pub sight-source : (i : ℕ) → source n above t m e ≡ Some i → shown_by i
   sight-source i s = go (mem e.child above) refl (keeps n t m e) refl (helps n t m e) refl
     where
       go : (a : Bool) → mem e.child above ≡ a → (b : Bool) → keeps n t m e ≡ b → (d : Bool) → helps n t m e ≡ d → shown_by i
@@ -101,7 +101,7 @@ module _ (n : ℕ) (above t : List ℕ) (m : List Bool) (e : Place) where
       go false p false q false r = absurd (never i (source-none p q r ∙ s))
 
   -- a child that is its own source fits
-  pub source_fits : source n above t m e ≡ Source.Page e.child → fits n e (read t e.child) ≡ true
+  pub source_fits : source n above t m e ≡ Some e.child → fits n e (read t e.child) ≡ true
   source_fits s = go (mem e.child above) refl (keeps n t m e) refl (helps n t m e) refl
     where
       go : (a : Bool) → mem e.child above ≡ a → (b : Bool) → keeps n t m e ≡ b → (d : Bool) → helps n t m e ≡ d
@@ -114,7 +114,7 @@ module _ (n : ℕ) (above t : List ℕ) (m : List Bool) (e : Place) where
           (same-page e.previous e.child (source-previous p q r ∙ s)))
       go false p false q false r = absurd (never e.child (source-none p q r ∙ s))
 
-  pub sight-damaged : source n above t m e ≡ Source.Damaged → sight n above t m e ≡ none
+  pub sight-damaged : source n above t m e ≡ None → sight n above t m e ≡ none
   unfolding sight sight_mended
   sight-damaged s = go (mem e.child above) refl (keeps n t m e) refl (helps n t m e) refl
     where

@@ -3,13 +3,13 @@ use Prim.Native.Nat.{ℕ, zero, suc, ◌≤◌}
 use mathlib.Core.Path.{◌≡◌, refl, ap, sym, ◌∙◌}
 use mathlib.Core.Bool.{Bool, true, false}
 use mathlib.Core.List.{List, [], ◌∷◌}
+use Rattle.std.specs.Prelude.{Some, None}
 use Rattle.rules.specs.Table.{read}
 use Rattle.rules.specs.Place.{kids, cut_view}
 use Rattle.rules.specs.declared.Asked.{Asked}
 use Rattle.rules.specs.declared.Place.{Place}
 use Rattle.dry.specs.Walk.{Sighted, sighted, meets, takes, breaks, dry_each, dry}
 use Rattle.dry.specs.Source.{source, marked_by}
-use Rattle.dry.specs.declared.Source.{Source}
 use Rattle.dry.proofs.Meets.{meets-broken, meets-full}
 use Rattle.dry.proofs.Sources.{sight-source, sight-damaged}
 use lib.ListN.{length}
@@ -20,13 +20,13 @@ module _ (n : ℕ) (a : Asked) (parent top : ℕ) (t : List ℕ) (e : Place) (d 
   unfolding dry
   step-passes level m = rw (dry, m)
 
-  pub step-damaged : (level : ℕ) → meets a e d ≡ true → source n (parent ∷ top ∷ []) t d.mended e ≡ Source.Damaged
+  pub step-damaged : (level : ℕ) → meets a e d ≡ true → source n (parent ∷ top ∷ []) t d.mended e ≡ None
       → dry (suc level) n a parent top t e d ≡ breaks d
   unfolding dry
   step-damaged level m s = rw (dry, m, sight-damaged n (parent ∷ top ∷ []) t d.mended e s)
 
   -- its source's entries in its range, one level lower
-  pub step-goes : (level i : ℕ) → meets a e d ≡ true → source n (parent ∷ top ∷ []) t d.mended e ≡ Source.Page i
+  pub step-goes : (level i : ℕ) → meets a e d ≡ true → source n (parent ∷ top ∷ []) t d.mended e ≡ Some i
       → dry (suc level) n a parent top t e d
       ≡ dry_each (dry level n a e.child parent t) (kids e (cut_view e.low e.high (read t i).view))
       (takes a (cut_view e.low e.high (read t i).view) d (marked_by i e d.mended))

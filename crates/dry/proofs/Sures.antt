@@ -6,9 +6,10 @@ use mathlib.Core.Path.{◌≡◌, refl, ap, sym, subst, ◌∙◌}
 use mathlib.Core.Bool.{Bool, true, false}
 use mathlib.Core.List.{List, [], ◌∷◌}
 use lib.Dec.{eqb}
-use lib.ListN.{length, set, get_or}
+use lib.ListN.{length, length-set, set, get_or}
 use lib.Seq.{get_or-set_same, get_or-set_other}
 use borrow.Author.Tests.{eqb-true, eqb-false}
+use Rattle.std.specs.Prelude.{Option, Some, None, Result, Ok}
 use Rattle.rules.specs.Layout.{last_key}
 use Rattle.rules.specs.Entry.{Cert}
 use Rattle.rules.specs.Place.{root_place, kids, cut_view}
@@ -22,13 +23,11 @@ use Rattle.rules.proofs.Entries.Places.{Fits, fits_true}
 use Rattle.seen.specs.Run.{places}
 use Rattle.dry.specs.Walk.{marked, Sighted, sighted, meets, asks, takes, breaks, dry_each, dry, dry_over}
 use Rattle.dry.specs.Source.{source, marked_by}
-use Rattle.dry.specs.Cursor.{in_reach, due_lower, due_upper, due_root, due_last, due_of, ahead_root, ahead, Names, Leads, Sure}
+use Rattle.dry.specs.Cursor.{in_reach, due_lower, due_upper, due_root, due_under, due_of, ahead, Names, Leads, Sure}
 use Rattle.dry.specs.declared.Cursor.{Cursor}
-use Rattle.dry.specs.declared.Source.{Source}
+use Rattle.dry.specs.declared.Damaged.{Damaged}
 use Rattle.dry.specs.declared.Spot.{Spot}
-use Rattle.dry.specs.declared.Due.{Due}
 use Rattle.dry.specs.declared.LeafAt.{LeafAt}
-use Rattle.dry.specs.declared.Step.{Step}
 use Rattle.dry.proofs.Sources.{marked-own, marked_other, source_fits}
 use Rattle.dry.proofs.Meets.{meets_reach}
 use Rattle.dry.proofs.Steps.{step-passes, step-damaged, step-goes}
@@ -64,6 +63,13 @@ by_grows i e m = go (eqb i e.child) refl
     go true q = subst (Grows m) (marked-own i e m (eqb-true i e.child q)) (λ j h. h)
     go false q = subst (Grows m) (marked_other i e m (eqb-false i e.child q)) (set-grows m e.child)
 
+length-by : (i : ℕ) (e : Place) (m : List Bool) → length (marked_by i e m) ≡ length m
+length-by i e m = go (eqb i e.child) refl
+  where
+    go : (b : Bool) → eqb i e.child ≡ b → length (marked_by i e m) ≡ length m
+    go true q = ap length (sym (marked-own i e m (eqb-true i e.child q)))
+    go false q = ap length (sym (marked_other i e m (eqb-false i e.child q))) ∙ length-set m e.child true
+
 -- a child that is not its own source is marked
 mended_there : (i : ℕ) (e : Place) (m : List Bool) → e.child < length m → (i ≡ e.child → ⊥) → marked (marked_by i e m) e.child ≡ true
 unfolding marked
@@ -85,32 +91,28 @@ module _ (n : ℕ) (a : Asked) (t : List ℕ) where
   dry-grows zero parent top e d = λ i h. h
   dry-grows (suc level) parent top e d = go (meets a e d) refl (source n (parent ∷ top ∷ []) t d.mended e) refl (dry-grows level e.child parent)
     where
-      go : (b : Bool) → meets a e d ≡ b → (x : Source) → source n (parent ∷ top ∷ []) t d.mended e ≡ x
+      go : (b : Bool) → meets a e d ≡ b → (x : Option ℕ) → source n (parent ∷ top ∷ []) t d.mended e ≡ x
           → Walks (dry level n a e.child parent t) → Grows d.mended (dry (suc level) n a parent top t e d).mended
       go false p x q k = subst (λ (z : Sighted). Grows d.mended z.mended) (sym (step-passes n a parent top t e d level p)) (λ i h. h)
-      go true p Source.Damaged q k =
+      go true p None q k =
           subst (λ (z : Sighted). Grows d.mended z.mended) (sym (step-damaged n a parent top t e d level p q)) (λ i h. h)
-      go true p (Source.Page j) q k =
+      go true p (Some j) q k =
           let v = cut_view e.low e.high (read t j).view in
           subst (λ (z : Sighted). Grows d.mended z.mended) (sym (step-goes n a parent top t e d level j p q))
           (λ i h. each_grows (dry level n a e.child parent t) k (kids e v) (takes a v d (marked_by j e d.mended)) i (by_grows j e d.mended i h))
 
   pub ahead-grows : (c : Cursor) (d : Sighted) → Grows d.mended (ahead n a t c d).mended
-  unfolding ahead ahead_root
-  ahead-grows c d i h =
-      go c.fresh _
-      (each_grows (dry 2 n a c.root 0 t) (dry-grows 2 c.root 0) (places t last_key c.upper) _ i
-      (each_grows (dry 1 n a c.parent c.root t) (dry-grows 1 c.parent c.root) (places t c.high c.lower) d i h))
-    where
-      go : (b : Bool) (x : Sighted) → marked x.mended i ≡ true → marked (ahead_root n a t b x).mended i ≡ true
-      go true x k = dry-grows 3 0 0 (root_place t) x i k
-      go false x k = k
+  unfolding ahead
+  ahead-grows Cursor.AtRoot d i h = dry-grows 3 0 0 (root_place t) d i h
+  ahead-grows (Cursor.Under w) d i h =
+      each_grows (dry 2 n a w.root 0 t) (dry-grows 2 w.root 0) (places t last_key w.upper) _ i
+      (each_grows (dry 1 n a w.parent w.root t) (dry-grows 1 w.parent w.root) (places t w.high w.lower) d i h)
 
   -- ── A place that is met ─────────────────────────────────────────────────────────────────────────────────────────
 
   module _ (found : List Cert) (m : List Bool) (room : length found < a.room) (s : Spot) (level : ℕ) (below : s.place.child < length m)
-      (whole : (ahead n a t s.rest (dry (suc level) n a s.parent s.top t s.place (sighted true found m))).whole ≡ true)
-      (still : (i : ℕ) → marked (ahead n a t s.rest (dry (suc level) n a s.parent s.top t s.place (sighted true found m))).mended i ≡ false)
+      (whole : (ahead n a t (Cursor.Under s.rest) (dry (suc level) n a s.parent s.top t s.place (sighted true found m))).whole ≡ true)
+      (still : (i : ℕ) → marked (ahead n a t (Cursor.Under s.rest) (dry (suc level) n a s.parent s.top t s.place (sighted true found m))).mended i ≡ false)
       (h : in_reach a s.place ≡ true) where
     abbrev e : Place
     e = s.place
@@ -121,41 +123,41 @@ module _ (n : ℕ) (a : Asked) (t : List ℕ) where
     met : meets a e d ≡ true
     met = meets_reach a s.place found m room ∙ h
 
-    pub source-own : source n (s.parent ∷ s.top ∷ []) t m e ≡ Source.Page e.child
+    pub source-own : source n (s.parent ∷ s.top ∷ []) t m e ≡ Some e.child
     unfolding breaks takes
     source-own = go (source n (s.parent ∷ s.top ∷ []) t m s.place) refl
       where
-        go : (x : Source) → source n (s.parent ∷ s.top ∷ []) t m s.place ≡ x → source n (s.parent ∷ s.top ∷ []) t m s.place ≡ Source.Page s.place.child
-        go Source.Damaged p =
+        go : (x : Option ℕ) → source n (s.parent ∷ s.top ∷ []) t m s.place ≡ x → source n (s.parent ∷ s.top ∷ []) t m s.place ≡ Some s.place.child
+        go None p =
             absurd
             (not_both whole
-            (ap (λ (x : Sighted). (ahead n a t s.rest x).whole) (step-damaged n a s.parent s.top t e d level met p)
-            ∙ ap (λ (x : Sighted). x.whole) (ahead_halts n a t s.rest (breaks d) refl)))
-        go (Source.Page i) p = own (eqb i s.place.child) refl
+            (ap (λ (x : Sighted). (ahead n a t (Cursor.Under s.rest) x).whole) (step-damaged n a s.parent s.top t e d level met p)
+            ∙ ap (λ (x : Sighted). x.whole) (ahead_halts n a t (Cursor.Under s.rest) (breaks d) refl)))
+        go (Some i) p = own (eqb i s.place.child) refl
           where
-            own : (b : Bool) → eqb i s.place.child ≡ b → source n (s.parent ∷ s.top ∷ []) t m s.place ≡ Source.Page s.place.child
-            own true q = p ∙ ap Source.Page (eqb-true i s.place.child q)
+            own : (b : Bool) → eqb i s.place.child ≡ b → source n (s.parent ∷ s.top ∷ []) t m s.place ≡ Some s.place.child
+            own true q = p ∙ ap Some (eqb-true i s.place.child q)
             own false q =
                 absurd
                 (not_both
-                (subst (λ (x : Sighted). marked (ahead n a t s.rest x).mended s.place.child ≡ true)
+                (subst (λ (x : Sighted). marked (ahead n a t (Cursor.Under s.rest) x).mended s.place.child ≡ true)
                 (sym (step-goes n a s.parent s.top t e d level i met p))
-                (ahead-grows s.rest _ s.place.child
+                (ahead-grows (Cursor.Under s.rest) _ s.place.child
                 (each_grows (dry level n a s.place.child s.parent t) (dry-grows level s.place.child s.parent) _ _ s.place.child
                 (mended_there i s.place m below (eqb-false i s.place.child q)))))
                 (still s.place.child))
 
   -- ── The place that is next ──────────────────────────────────────────────────────────────────────────────────────
 
-  same_spot : (x y : Spot) → Due.At x ≡ Due.At y → x ≡ y
+  same_spot : (x y : Spot) → Some x ≡ Some y → x ≡ y
   same_spot x y h = cc
 
-  never : (x : Spot) → Due.None ≡ Due.At x → ⊥
+  never : (x : Spot) → None ≡ Some x → ⊥
   never x h = let z : ◌≡◌ {A = ℕ} 0 1 = cc in omega arith
 
   module _ (c : Cursor) (m : List Bool) (leads : Leads n t c) (sure : Sure n a t c m) where
     abbrev Own : Spot → Type 0
-    Own s = in_reach a s.place ≡ true → source n (s.parent ∷ s.top ∷ []) t m s.place ≡ Source.Page s.place.child
+    Own s = in_reach a s.place ≡ true → source n (s.parent ∷ s.top ∷ []) t m s.place ≡ Some s.place.child
 
     own : (s : Spot) (level : ℕ) → Next n a t c s level → Names n s.place → Own s
     own s level next names h =
@@ -164,30 +166,35 @@ module _ (n : ℕ) (a : Asked) (t : List ℕ) where
         (ap (λ (x : Sighted). x.whole) (sym e) ∙ sure.whole)
         (λ i. ap (λ (x : Sighted). marked x.mended i) (sym e) ∙ sure.still i) h
 
-    pub sure_own : (s : Spot) → due_of t c ≡ Due.At s → Own s
-    unfolding due_of due_last due_lower due_upper due_root
-    sure_own s d = go (eqb c.lower.left 0) refl (eqb c.upper.left 0) refl c.fresh refl d
+    pub sure_own : (s : Spot) → due_of t c ≡ Some s → Own s
+    unfolding due_of due_under due_lower due_upper due_root
+    sure_own s d = go c refl leads d
       where
-        go : (x : Bool) → eqb c.lower.left 0 ≡ x → (y : Bool) → eqb c.upper.left 0 ≡ y → (b : Bool) → c.fresh ≡ b
-            → due_of t c ≡ Due.At s → Own s
-        go false p y q b r e =
-            let z = eqb-false c.lower.left 0 p in
-            subst Own (same_spot (due_lower t c) s (sym (rw (due_of, p)) ∙ e))
-            (own (due_lower t c) 0 (lower-next n a t c z) (names-first n t c.high c.lower z leads.lower_names))
-        go true p false q b r e =
-            let z = eqb-false c.upper.left 0 q in
-            subst Own (same_spot (due_upper t c) s (sym (rw (due_of, p, q)) ∙ e))
-            (own (due_upper t c) 1 (upper-next n a t c (eqb-true c.lower.left 0 p) z) (names-first n t last_key c.upper z leads.upper_names))
-        go true p true q true r e =
-            subst Own (same_spot (due_root t) s (sym (rw (due_of, p, q) (ap (due_last t) r)) ∙ e))
-            (own (due_root t) 2 (root-next n a t c (eqb-true c.lower.left 0 p) (eqb-true c.upper.left 0 q) r) leads.root_names)
-        go true p true q false r e = absurd (never s (sym (rw (due_of, p, q) (ap (due_last t) r)) ∙ e))
+        go : (x : Cursor) → c ≡ x → Leads n t x → due_of t x ≡ Some s → Own s
+        go Cursor.AtRoot r l e =
+            subst Own (same_spot (due_root t) s e)
+            (own (due_root t) 2 (subst (λ (z : Cursor). Next n a t z (due_root t) 2) (sym r) (root-next n a t)) l)
+        go (Cursor.Under w) r l e = under (eqb w.lower.left 0) refl (eqb w.upper.left 0) refl
+          where
+            next : (x : Spot) (level : ℕ) → Next n a t (Cursor.Under w) x level → Next n a t c x level
+            next x level = subst (λ (z : Cursor). Next n a t z x level) (sym r)
+
+            under : (x : Bool) → eqb w.lower.left 0 ≡ x → (y : Bool) → eqb w.upper.left 0 ≡ y → Own s
+            under false p y q =
+                let z = eqb-false w.lower.left 0 p in
+                subst Own (same_spot (due_lower t w) s (sym (rw (due_under, p)) ∙ e))
+                (own (due_lower t w) 0 (next (due_lower t w) 0 (lower-next n a t w z)) (names-first n t w.high w.lower z l.lower_names))
+            under true p false q =
+                let z = eqb-false w.upper.left 0 q in
+                subst Own (same_spot (due_upper t w) s (sym (rw (due_under, p, q)) ∙ e))
+                (own (due_upper t w) 1 (next (due_upper t w) 1 (upper-next n a t w (eqb-true w.lower.left 0 p) z)) (names-first n t last_key w.upper z l.upper_names))
+            under true p true q = absurd (never s (sym (rw (due_under, p, q)) ∙ e))
 
 -- ── A leaf of such a walk ───────────────────────────────────────────────────────────────────────────────────────
 
-module _ {n : ℕ} {a : Asked} {t : List ℕ} {c : Cursor} {count : ℕ} {m : List Bool} {s : Step} {marks : List Bool} (y : Taken n a t c count m s marks)
-    (size : n ≤ length m) (still : (i : ℕ) → marked (dry_over n a t).mended i ≡ false) (l : LeafAt) (q : s ≡ Step.Leaf l) where
-  shown : LeafShown n t m marks l
+module _ {n : ℕ} {a : Asked} {t : List ℕ} {c : Cursor} {count : ℕ} {m : List Bool} {s : Result (Option LeafAt) Damaged} {marks : List Bool} (y : Taken n a t c count m s marks)
+    (size : n ≤ length marks) (still : (i : ℕ) → marked (dry_over n a t).mended i ≡ false) (l : LeafAt) (q : s ≡ Ok (Some l)) where
+  shown : LeafShown n t marks l
   shown = leaf-shown y l q
 
   own-page : l.page ≡ l.place.child
@@ -201,7 +208,7 @@ module _ {n : ℕ} {a : Asked} {t : List ℕ} {c : Cursor} {count : ℕ} {m : Li
           (subst (λ (x : Sighted). marked x.mended l.place.child ≡ true) (leaf-comes y l q)
           (ahead-grows n a t l.after _ l.place.child
           (subst (λ (x : List Bool). marked x l.place.child ≡ true) (sym shown.marks_are)
-          (mended_there l.page l.place m (omega (arith, size, shown.names)) (eqb-false l.page l.place.child z)))))
+          (mended_there l.page l.place shown.before (omega (arith, size, shown.names, ap length shown.marks_are, length-by l.page l.place shown.before)) (eqb-false l.page l.place.child z)))))
           (still l.place.child))
 
   -- it fits its place
@@ -209,7 +216,7 @@ module _ {n : ℕ} {a : Asked} {t : List ℕ} {c : Cursor} {count : ℕ} {m : Li
   leaf-fits =
       subst (λ (i : ℕ). Fits n l.place (read t i)) (sym own-page)
       (fits_true n l.place (read t l.place.child)
-      (source_fits n (shown.parent ∷ shown.top ∷ []) t m l.place (shown.source_is ∙ ap Source.Page own-page)))
+      (source_fits n (shown.parent ∷ shown.top ∷ []) t shown.before l.place (shown.source_is ∙ ap Some own-page)))
 
   -- so it is shown as it lies
   pub leaf-view : (found : List Cert) → leaf_view t a l found ≡ asks a (read t l.page).view found

@@ -1,9 +1,10 @@
 -- The ways of one step, as code takes it. Assumes nothing.
 use Prim.Native.Nat.{ℕ}
-use mathlib.Core.Path.{◌≡◌, ap, sym, ◌∙◌}
-use mathlib.Core.Bool.{Bool, true, false}
+use mathlib.Core.Path.{◌≡◌, refl, ap, sym, subst, ◌∙◌}
+use mathlib.Core.Bool.{Bool, true, false, false≢true}
 use mathlib.Core.List.{List, [], ◌∷◌}
 use borrow.Author.Tests.{eq-eqb, ne_eqb}
+use Rattle.std.specs.Prelude.{Option, Some, None, Result, Ok, Err, is_err}
 use Rattle.rules.specs.Layout.{leaf_kind}
 use Rattle.rules.specs.Table.{page_at}
 use Rattle.rules.specs.declared.Asked.{Asked}
@@ -14,38 +15,43 @@ use Rattle.seen.specs.declared.Run.{Run}
 use Rattle.seen.specs.Run.{run_of, kind_at}
 use Rattle.seen.proofs.Looks.{head-kind}
 use Rattle.dry.specs.Source.{source, marked_by}
-use Rattle.dry.specs.Cursor.{in_reach, Meeting, meeting, met_page, met_by, meet_of, under_root, with_lower, due_lower, due_upper, due_root, due_last, due_of, under_of, settle_of, stepping, settled, step_at, step_of}
+use Rattle.dry.specs.Cursor.{damaged, in_reach, meeting, met_page, met_by, meet_of, no_run, under_root, with_lower, due_lower, due_upper, due_root, due_under, due_of, on, under_of, settle_of, settle_met, stepping, settled, step_at, step_of, LeadsUnder, Leads}
+use Rattle.dry.specs.declared.Damaged.{Damaged}
+use Rattle.dry.specs.declared.Way.{Way}
 use Rattle.dry.specs.declared.Cursor.{Cursor}
 use Rattle.dry.specs.declared.Met.{Met}
-use Rattle.dry.specs.declared.Source.{Source}
 use Rattle.dry.specs.declared.Spot.{Spot}
-use Rattle.dry.specs.declared.Due.{Due}
 use Rattle.dry.specs.declared.Step.{Step}
+
+-- damage is of one kind
+pub err-is : {A : Type 0} (r : Result A Damaged) → is_err r ≡ true → r ≡ Err damaged
+err-is (Ok x) h = absurd (false≢true h)
+err-is (Err x) h = refl
 
 -- ── One place ───────────────────────────────────────────────────────────────────────────────────────────────────
 
 module _ (n : ℕ) (a : Asked) (above t : List ℕ) (m : List Bool) (e : Place) where
-  pub met-passed : in_reach a e ≡ false → meeting Met.Passed m ≡ meet_of n a above t m e
+  pub met-passed : in_reach a e ≡ false → meeting (Ok Met.Passed) m ≡ meet_of n a above t m e
   unfolding meet_of
   met-passed h = rw (meet_of, h)
 
   module _ (h : in_reach a e ≡ true) where
-    pub met-damaged : source n above t m e ≡ Source.Damaged → meeting Met.Damaged m ≡ meet_of n a above t m e
+    pub met-damaged : source n above t m e ≡ None → meeting (Err damaged) m ≡ meet_of n a above t m e
     unfolding meet_of met_by
     met-damaged s = rw (meet_of, h, s)
 
-    module _ (i : ℕ) (s : source n above t m e ≡ Source.Page i) (marks : List Bool) (u : marks ≡ marked_by i e m) (x : Head)
+    module _ (i : ℕ) (s : source n above t m e ≡ Some i) (marks : List Bool) (u : marks ≡ marked_by i e m) (x : Head)
         (f : x ≡ head_in (page_at t i)) where
-      met_page_lem : (y : Met) → y ≡ met_page t e i → meeting y marks ≡ meet_of n a above t m e
+      met_page_lem : (y : Met) → y ≡ met_page t e i → meeting (Ok y) marks ≡ meet_of n a above t m e
       unfolding meet_of met_by
       met_page_lem y p = rw (meet_of, h, s, p, u)
 
-      pub met-leaf : x.kind ≡ leaf_kind → meeting (Met.Leaf i) marks ≡ meet_of n a above t m e
+      pub met-leaf : x.kind ≡ leaf_kind → meeting (Ok (Met.Leaf i)) marks ≡ meet_of n a above t m e
       unfolding met_page
       met-leaf k = met_page_lem (Met.Leaf i) (rw (met_page, eq-eqb (kind_at t i) leaf_kind (sym (head-kind t i x f) ∙ k)))
 
       pub met-entries : (x.kind ≡ leaf_kind → ⊥) → (r : Run) → r ≡ run_of t i e.low e.high
-          → meeting (Met.Entries r) marks ≡ meet_of n a above t m e
+          → meeting (Ok (Met.Entries r)) marks ≡ meet_of n a above t m e
       unfolding met_page
       met-entries k r p =
           met_page_lem (Met.Entries r)
@@ -54,55 +60,82 @@ module _ (n : ℕ) (a : Asked) (above t : List ℕ) (m : List Bool) (e : Place) 
 -- ── The place that is next ──────────────────────────────────────────────────────────────────────────────────────
 
 module _ (t : List ℕ) (c : Cursor) where
-  pub due_low : (c.lower.left ≡ 0 → ⊥) → (s : Spot) → s ≡ due_lower t c → Due.At s ≡ due_of t c
+  pub due_first : c ≡ Cursor.AtRoot → (s : Spot) → s ≡ due_root t → Some s ≡ due_of t c
   unfolding due_of
-  due_low h s p = rw (due_of, ne_eqb c.lower.left 0 h, p)
+  due_first q s p = ap Some p ∙ sym (ap (due_of t) q)
 
-  module _ (z : c.lower.left ≡ 0) where
-    pub due_up : (c.upper.left ≡ 0 → ⊥) → (s : Spot) → s ≡ due_upper t c → Due.At s ≡ due_of t c
+  module _ (w : Way) (q : c ≡ Cursor.Under w) where
+    by_way : due_under t w ≡ due_of t c
     unfolding due_of
-    due_up h s p = rw (due_of, eq-eqb c.lower.left 0 z, ne_eqb c.upper.left 0 h, p)
+    by_way = sym (ap (due_of t) q)
 
-    module _ (y : c.upper.left ≡ 0) where
-      pub due_first : c.fresh ≡ true → (s : Spot) → s ≡ due_root t → Due.At s ≡ due_of t c
-      unfolding due_of due_last
-      due_first f s p =
-          rw (due_of, eq-eqb c.lower.left 0 z, eq-eqb c.upper.left 0 y) (ap Due.At p ∙ sym (ap (due_last t) f))
+    -- and it leads on
+    pub way-leads : (n : ℕ) → Leads n t c → LeadsUnder n t w
+    way-leads n l = subst (Leads n t) q l
 
-      pub due_none : c.fresh ≡ false → Due.None ≡ due_of t c
-      unfolding due_of due_last
-      due_none f = rw (due_of, eq-eqb c.lower.left 0 z, eq-eqb c.upper.left 0 y) (sym (ap (due_last t) f))
+    pub due_low : (w.lower.left ≡ 0 → ⊥) → (s : Spot) → s ≡ due_lower t w → Some s ≡ due_of t c
+    unfolding due_under
+    due_low h s p = let k : Some s ≡ due_under t w = rw (due_under, ne_eqb w.lower.left 0 h, p) in k ∙ by_way
+
+    module _ (z : w.lower.left ≡ 0) where
+      pub due_up : (w.upper.left ≡ 0 → ⊥) → (s : Spot) → s ≡ due_upper t w → Some s ≡ due_of t c
+      unfolding due_under
+      due_up h s p =
+          let k : Some s ≡ due_under t w = rw (due_under, eq-eqb w.lower.left 0 z, ne_eqb w.upper.left 0 h, p) in
+          k ∙ by_way
+
+      pub due_none : w.upper.left ≡ 0 → None ≡ due_of t c
+      unfolding due_under
+      due_none y =
+          let k : None ≡ due_under t w = rw (due_under, eq-eqb w.lower.left 0 z, eq-eqb w.upper.left 0 y) in
+          k ∙ by_way
+
+-- ── What is left ────────────────────────────────────────────────────────────────────────────────────────────────
+
+-- a run of nothing, and a way whose lower page has nothing left
+pub run_none : {r : Run} → r.page ≡ 0 → r.first ≡ 0 → r.left ≡ 0 → r.want ≡ 0 → r ≡ no_run
+unfolding no_run
+run_none p q s u = λ i. record { page = p i; first = q i; left = s i; want = u i }
+
+pub way_none : {w : Way} {root : ℕ} {r : Run} → w.root ≡ root → w.upper ≡ r → w.parent ≡ 0 → w.lower ≡ no_run → w.high ≡ 0 → w ≡ under_root root r
+way_none p q s u v = λ i. record { root = p i; upper = q i; parent = s i; lower = u i; high = v i }
 
 -- ── What it comes to ────────────────────────────────────────────────────────────────────────────────────────────
 
 module _ (s : Spot) (r : Run) where
-  pub under_first : s.level ≡ 3 → (c : Cursor) → c ≡ under_root s.place.child r → Step.On c ≡ under_of s r
+  pub under_first : s.level ≡ 3 → (w : Way) → w ≡ under_root s.place.child r → on w ≡ under_of s r
   unfolding under_of
-  under_first h c p = rw (under_of, eq-eqb s.level 3 h, p)
+  under_first h w p = rw (under_of, eq-eqb s.level 3 h, p)
 
   module _ (g : s.level ≡ 3 → ⊥) where
-    pub under_up : s.level ≡ 2 → (c : Cursor) → c ≡ with_lower s.rest s.place.child r s.place.high → Step.On c ≡ under_of s r
+    pub under_up : s.level ≡ 2 → on (with_lower s.rest s.place.child r s.place.high) ≡ under_of s r
     unfolding under_of
-    under_up h c p = rw (under_of, ne_eqb s.level 3 g, eq-eqb s.level 2 h, p)
+    under_up h = rw (under_of, ne_eqb s.level 3 g, eq-eqb s.level 2 h)
 
     module _ (h : s.level ≡ 2 → ⊥) where
-      pub under_none : r.left ≡ 0 → Step.On s.rest ≡ under_of s r
+      pub under_none : r.left ≡ 0 → on s.rest ≡ under_of s r
       unfolding under_of
       under_none z = rw (under_of, ne_eqb s.level 3 g, ne_eqb s.level 2 h, eq-eqb r.left 0 z)
 
-      pub under-deep : (r.left ≡ 0 → ⊥) → Step.Damaged ≡ under_of s r
+      pub under-deep : (r.left ≡ 0 → ⊥) → Err damaged ≡ under_of s r
       unfolding under_of
       under-deep z = rw (under_of, ne_eqb s.level 3 g, ne_eqb s.level 2 h, ne_eqb r.left 0 z)
 
-module _ (n : ℕ) (a : Asked) (t : List ℕ) (c : Cursor) (m : List Bool) (d : Due) (p : d ≡ due_of t c) where
-  pub step-ends : d ≡ Due.None → stepping Step.End m ≡ step_of n a t c m
+module _ (n : ℕ) (a : Asked) (t : List ℕ) (c : Cursor) (m : List Bool) (d : Option Spot) (p : d ≡ due_of t c) where
+  pub step-ends : d ≡ None → stepping (Ok Step.End) m ≡ step_of n a t c m
   unfolding step_of step_at
   step-ends q = rw (step_of, sym p, q)
 
-  pub step_settles : (s : Spot) → d ≡ Due.At s → (x : Met) (marks : List Bool) → meeting x marks ≡ meet_of n a (s.parent ∷ s.top ∷ []) t m s.place
-      → (y : Step) → y ≡ settle_of s x → stepping y marks ≡ step_of n a t c m
-  unfolding step_of step_at settled
-  step_settles s q x marks f y g =
-      ap (λ (z : Step). stepping z marks) g
-      ∙ ap (λ (z : Meeting). stepping (settle_of s z.met) z.marks) f
-      ∙ sym (rw (step_of, sym p, q))
+  module _ (s : Spot) (q : d ≡ Some s) (x : Result Met Damaged) (marks : List Bool)
+      (f : meeting x marks ≡ meet_of n a (s.parent ∷ s.top ∷ []) t m s.place) where
+    met_settles : settled s (meeting x marks) ≡ step_of n a t c m
+    unfolding step_of step_at settled
+    met_settles = ap (settled s) f ∙ sym (rw (step_of, sym p, q))
+
+    pub step_settles : (y : Met) → x ≡ Ok y → (z : Result Step Damaged) → z ≡ settle_of s y → stepping z marks ≡ step_of n a t c m
+    unfolding settled settle_met
+    step_settles y h z g = ap (λ (v : Result Step Damaged). stepping v marks) g ∙ sym (ap (λ (v : Result Met Damaged). settled s (meeting v marks)) h) ∙ met_settles
+
+    pub step-breaks : (y : Damaged) → x ≡ Err y → stepping (Err y) marks ≡ step_of n a t c m
+    unfolding settled settle_met
+    step-breaks y h = sym (ap (λ (v : Result Met Damaged). settled s (meeting v marks)) h) ∙ met_settles

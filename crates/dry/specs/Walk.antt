@@ -1,5 +1,5 @@
 -- The rules' range walk over a table that stays as it lies, with a mark for each number that the walk would mend.
-use Rattle.std.specs.Prelude.{ℕ, zero, suc, ◌-◌, Bool, true, false, not, ◌&&◌, List, [], ◌∷◌, ◌++◌, leb, ltb, length, take, get_or, set, replicate}
+use Rattle.std.specs.Prelude.{ℕ, zero, suc, ◌-◌, Bool, true, false, not, ◌&&◌, Result, Ok, Err, List, [], ◌∷◌, ◌++◌, leb, ltb, length, take, get_or, set, replicate}
 use Rattle.std.proofs.Math.Option.{Option, some, none}
 use Rattle.rules.specs.Layout.{top_kind, most_pages}
 use Rattle.rules.specs.Test.{every, mem}
@@ -98,13 +98,22 @@ unfoldable pub dry_over : ℕ → Asked → List ℕ → Sighted
 dry_over n a t = dry top_kind n a 0 0 t (root_place t) untouched
 
 -- what code keeps of it: of the certificates only how many there are
-unfoldable pub counted : Sighted → Dry
-counted d = record { whole = d.whole; count = length d.found; mended = d.mended }
+abbrev pub seen_of : Sighted → Dry
+seen_of d = record { count = length d.found; mended = d.mended }
+
+-- where it met a damaged place, what it found before that
+unfoldable pub counted : Sighted → Result Dry Dry
+counted d = elim d.whole [ true ↦ Ok (seen_of d) | false ↦ Err (seen_of d) ]
+
+-- either way
+abbrev pub kept : Result Dry Dry → Dry
+kept (Ok d) = d
+kept (Err d) = d
 
 -- no number is marked
 unfoldable pub none_marked : List Bool → Bool
 none_marked [] = true
 none_marked (x ∷ xs) = not x && none_marked xs
 
-unfoldable pub dry_of : ℕ → Asked → List ℕ → Dry
+unfoldable pub dry_of : ℕ → Asked → List ℕ → Result Dry Dry
 dry_of n a t = counted (dry_over n a t)

@@ -5,9 +5,10 @@
 // stands as it lies. So one mark for each page does instead of a copy of the table. proofs/Decides says it of the rules:
 // the dry walk is whole exactly if the walk is, and counts what the walk finds.
 //
-// The walk is one loop over `next`, which goes on by one place of the way: the way keeps the entries left of the root and
-// of the page under it, so no place is entered twice. A step passes a place, goes on to its entries, or comes to a leaf:
-// the page that shows it and the place that asks for it. The first damaged place ends the walk.
+// The walk is one loop over `next_leaf`, which goes on by `next`, one place of the way at a time: the way keeps the
+// entries left of the root and of the page under it, so no place is entered twice. A step passes a place, goes on to its
+// entries, or comes to a leaf: the page that shows it and the place that asks for it. The first damaged place ends the
+// walk.
 //
 // Below stand `seen`, which finds the entries of a page that lie in a range, `sound`, which tests a page against a
 // place, `head`, which reads headers and entries, and `rules`.
@@ -16,15 +17,14 @@
 
 mod tally;
 
-ghost use Rattle.std.specs.Prelude.{◌≡◌, true, ◌+◌, ◌*◌, ◌≤◌, ◌<◌, length, [], ◌∷◌};
+ghost use Rattle.std.specs.Prelude.{◌≡◌, true, ◌+◌, ◌*◌, ◌≤◌, ◌<◌, length, [], ◌∷◌, Some, Ok};
 ghost use Rattle.rules.specs.Layout.{page_size};
 ghost use Rattle.rules.specs.Test.{mem};
 ghost use Rattle.rules.specs.Table.{fit0};
 ghost use Rattle.seen.specs.Run.{Lies};
 ghost use Rattle.dry.specs.Walk.{keeps, helps, none_marked, dry_of};
 ghost use Rattle.dry.specs.Source.{source, marked_by};
-ghost use Rattle.dry.specs.Cursor.{in_reach, meeting, meet_of, no_run, at_root, under_root, with_lower, due_lower, due_upper, due_root, due_of, under_of, settle_of, stepping, step_of, Leads, Sure};
-ghost use Rattle.dry.specs.declared.Source.{Source};
+ghost use Rattle.dry.specs.Cursor.{in_reach, meeting, meet_of, under_root, with_lower, due_lower, due_upper, due_root, due_of, under_of, settle_of, stepping, step_of, reaching, leaf_of, Leads, LeadsUnder, Sure};
 
 use head::{Table, head_at, root_place};
 use rules::{Asked, LAST_KEY, LEAF, MOST, Place};
@@ -32,36 +32,38 @@ use seen::{Run, mark, marked, place_in, rest_of, run_in};
 use sound::{fits_at, mendable_at};
 use tally::tally_leaf;
 
-// What a dry walk has found so far: whether it met no damaged place, how many certificates there are, and which numbers
-// it would have mended.
+// What a dry walk has found: how many certificates there are, and which numbers it would have mended.
 #[derive(Clone, Copy)]
 pub struct Dry {
-    pub whole: bool,
     pub count: usize,
     pub mended: [bool; MOST],
 }
 
-// The page that shows a place: the child, or the previous page that it would be mended from. Or the place is damaged.
-#[derive(Clone, Copy)]
-pub enum Source {
-    Page(u16),
-    Damaged,
+impl Dry {
+    // Whether the walk would mend nothing: then it leaves the table as it lies, and every place that it enters fits.
+    pub fn mends_nothing(&self) -> bool
+        ensures { result ≡ none_marked self.now.mended }
+    {
+        !self.mended.contains(&true)
+    }
 }
 
-// What a place comes to: it is passed, it shows a leaf or entries, or it is damaged.
+// The walk met a damaged place.
+#[derive(Clone, Copy)]
+pub struct Damaged;
+
+// What a place comes to: it is passed, or it shows a leaf or entries.
 #[derive(Clone, Copy)]
 pub enum Met {
     Passed,
     Leaf(u16),
     Entries(Run),
-    Damaged,
 }
 
 // The way of a walk: the entries left of the root and of the page under it that was entered last, the numbers of the
-// two, and where the lower one's range ends; the root's is every key. Before the first step the root itself is left.
-#[derive(Clone, Copy)]
-pub struct Cursor {
-    pub fresh: bool,
+// two, and where the lower one's range ends; the root's is every key.
+#[derive(Clone, Copy, Default)]
+pub struct Way {
     pub root: u16,
     pub upper: Run,
     pub parent: u16,
@@ -69,7 +71,14 @@ pub struct Cursor {
     pub high: u64,
 }
 
-// A leaf that a walk has come to: the page that shows it, the place that asks for it, and the way behind it.
+// Where a walk stands: before its first step, with the root itself left, or on its way under the root.
+#[derive(Clone, Copy)]
+pub enum Cursor {
+    AtRoot,
+    Under(Way),
+}
+
+// A leaf that a walk has come to: the page that shows it, the place that asks for it, and where the walk stands then.
 #[derive(Clone, Copy)]
 pub struct LeafAt {
     pub page: u16,
@@ -84,22 +93,15 @@ pub struct Spot {
     pub parent: u16,
     pub top: u16,
     pub place: Place,
-    pub rest: Cursor,
+    pub rest: Way,
 }
 
-#[derive(Clone, Copy)]
-pub enum Due {
-    At(Spot),
-    None,
-}
-
-// What a step comes to: the way goes on, it has come to a leaf, it is at its end, or it met a damaged place.
+// What a step comes to: the walk goes on, it has come to a leaf, or it is at its end.
 #[derive(Clone, Copy)]
 pub enum Step {
     On(Cursor),
     Leaf(LeafAt),
     End,
-    Damaged,
 }
 
 // Whether the child of a place fits it still.
@@ -146,33 +148,33 @@ fn stands_above(parent: u16, top: u16, child: u16) -> bool
     child == top
 }
 
-// The page that shows a place in the course of a walk. Where it is known to be the child, nothing is tested.
-fn source_at(
+// The page that shows a place in the course of a walk: the child, or the previous page that it would be mended from;
+// none of a damaged place. Where it is known to be the child, nothing is tested.
+fn source_at<const KNOWN: bool>(
     table: &[u8],
     n: usize,
     parent: u16,
     top: u16,
-    known: bool,
     marks: &[bool],
     e: Place,
-) -> Source
+) -> Option<u16>
     requires { (length table.now ≡ n * page_size)
-        × (known ≡ true → source n (parent ∷ top ∷ []) table.now marks.now e ≡ Source.Page e.child) }
+        × (KNOWN ≡ true → source n (parent ∷ top ∷ []) table.now marks.now e ≡ Some e.child) }
     ensures { result ≡ source n (parent ∷ top ∷ []) table.now marks.now e }
 {
-    if known {
-        return Source::Page(e.child);
+    if KNOWN {
+        return Some(e.child);
     }
     if stands_above(parent, top, e.child) {
-        return Source::Damaged;
+        return None;
     }
     if keeps_child(table, n, marks, e) {
-        return Source::Page(e.child);
+        return Some(e.child);
     }
     if helps_child(table, n, marks, e) {
-        return Source::Page(e.previous);
+        return Some(e.previous);
     }
-    Source::Damaged
+    None
 }
 
 // Whether a place's range meets the asked one.
@@ -196,113 +198,74 @@ fn mark_by(marks: &mut [bool], page: u16, e: Place)
 }
 
 // One place: it is passed, it shows a leaf or entries, or it is damaged.
-fn meet(
+fn meet<const KNOWN: bool>(
     table: &[u8],
     n: usize,
     a: Asked,
     parent: u16,
     top: u16,
     e: Place,
-    known: bool,
     marks: &mut [bool],
-) -> Met
+) -> Result<Met, Damaged>
     requires { (length table.now ≡ n * page_size)
-        × (known ≡ true → in_reach a e ≡ true → source n (parent ∷ top ∷ []) table.now marks.old e ≡ Source.Page e.child) }
+        × (KNOWN ≡ true → in_reach a e ≡ true → source n (parent ∷ top ∷ []) table.now marks.old e ≡ Some e.child) }
     ensures { meeting result marks.new ≡ meet_of n a (parent ∷ top ∷ []) table.now marks.old e }
 {
     if !in_reach(a, e) {
-        return Met::Passed;
+        return Ok(Met::Passed);
     }
-    let Source::Page(page) = source_at(table, n, parent, top, known, marks, e) else {
-        return Met::Damaged;
+    let Some(page) = source_at::<KNOWN>(table, n, parent, top, marks, e) else {
+        return Err(Damaged);
     };
     mark_by(marks, page, e);
     let i = page as usize;
     let head = head_at(table, i);
     if head.kind == LEAF {
-        return Met::Leaf(page);
+        return Ok(Met::Leaf(page));
     }
-    Met::Entries(run_in(table, i, e.low, e.high))
-}
-
-fn no_run() -> Run
-    ensures { result ≡ no_run }
-{
-    Run {
-        page: 0,
-        first: 0,
-        left: 0,
-        want: 0,
-    }
-}
-
-// Before the first step the root is left.
-pub fn at_root() -> Cursor
-    ensures { result ≡ at_root }
-{
-    Cursor {
-        fresh: true,
-        root: 0,
-        upper: no_run(),
-        parent: 0,
-        lower: no_run(),
-        high: 0,
-    }
+    Ok(Met::Entries(run_in(table, i, e.low, e.high)))
 }
 
 // The way to the entries of the root.
-fn under_root(root: u16, run: Run) -> Cursor
+fn under_root(root: u16, run: Run) -> Way
     ensures { result ≡ under_root root run }
 {
-    Cursor {
-        fresh: false,
+    Way {
         root,
         upper: run,
-        parent: 0,
-        lower: no_run(),
-        high: 0,
+        ..Way::default()
     }
 }
 
-// The way to the entries of a page under the root.
-fn under_upper(mut c: Cursor, parent: u16, run: Run, high: u64) -> Cursor
-    ensures { result ≡ with_lower c parent run high }
+fn due_lower(table: &[u8], n: usize, w: Way) -> Spot
+    requires { (length table.now ≡ n * page_size) × Lies n w.lower × (0 < w.lower.left) }
+    ensures { result ≡ due_lower table.now w }
 {
-    c.parent = parent;
-    c.lower = run;
-    c.high = high;
-    c
-}
-
-fn due_lower(table: &[u8], n: usize, c: Cursor) -> Spot
-    requires { (length table.now ≡ n * page_size) × Lies n c.lower × (0 < c.lower.left) }
-    ensures { result ≡ due_lower table.now c }
-{
-    let run = c.lower;
-    let mut rest = c;
-    rest.lower = rest_of(run);
     Spot {
         level: 1,
-        parent: c.parent,
-        top: c.root,
-        place: place_in(table, run, c.high),
-        rest,
+        parent: w.parent,
+        top: w.root,
+        place: place_in(table, w.lower, w.high),
+        rest: Way {
+            lower: rest_of(w.lower),
+            ..w
+        },
     }
 }
 
-fn due_upper(table: &[u8], n: usize, c: Cursor) -> Spot
-    requires { (length table.now ≡ n * page_size) × Lies n c.upper × (0 < c.upper.left) }
-    ensures { result ≡ due_upper table.now c }
+fn due_upper(table: &[u8], n: usize, w: Way) -> Spot
+    requires { (length table.now ≡ n * page_size) × Lies n w.upper × (0 < w.upper.left) }
+    ensures { result ≡ due_upper table.now w }
 {
-    let run = c.upper;
-    let mut rest = c;
-    rest.upper = rest_of(run);
     Spot {
         level: 2,
-        parent: c.root,
+        parent: w.root,
         top: 0,
-        place: place_in(table, run, LAST_KEY),
-        rest,
+        place: place_in(table, w.upper, LAST_KEY),
+        rest: Way {
+            upper: rest_of(w.upper),
+            ..w
+        },
     }
 }
 
@@ -315,120 +278,148 @@ fn due_root(table: &[u8]) -> Spot
         parent: 0,
         top: 0,
         place: root_place(table),
-        rest: under_root(0, no_run()),
+        rest: Way::default(),
     }
 }
 
-// The place that is next on a way: of the lowest page that has entries left.
-fn next_spot(table: &[u8], n: usize, c: Cursor) -> Due
+// The place that is next: of the lowest page that has entries left.
+fn next_spot(table: &[u8], n: usize, c: Cursor) -> Option<Spot>
     requires { (length table.now ≡ n * page_size) × Leads n table.now c }
     ensures { result ≡ due_of table.now c }
 {
-    if c.lower.left != 0 {
-        return Due::At(due_lower(table, n, c));
+    let Cursor::Under(w) = c else {
+        return Some(due_root(table));
+    };
+    if w.lower.left != 0 {
+        return Some(due_lower(table, n, w));
     }
-    if c.upper.left != 0 {
-        return Due::At(due_upper(table, n, c));
+    if w.upper.left != 0 {
+        return Some(due_upper(table, n, w));
     }
-    if c.fresh {
-        return Due::At(due_root(table));
-    }
-    Due::None
+    None
 }
 
 // Entries of a page that was entered are the next of the way. No page stands below the third.
-fn under(s: Spot, run: Run) -> Step
+fn under(s: Spot, run: Run) -> Result<Step, Damaged>
     ensures { result ≡ under_of s run }
 {
     if s.level == 3 {
-        return Step::On(under_root(s.place.child, run));
+        return Ok(Step::On(Cursor::Under(under_root(s.place.child, run))));
     }
-    let rest = s.rest;
     if s.level == 2 {
-        return Step::On(under_upper(rest, s.place.child, run, s.place.high));
+        let way = Way {
+            parent: s.place.child,
+            lower: run,
+            high: s.place.high,
+            ..s.rest
+        };
+        return Ok(Step::On(Cursor::Under(way)));
     }
     if run.left == 0 {
-        return Step::On(rest);
+        return Ok(Step::On(Cursor::Under(s.rest)));
     }
-    Step::Damaged
+    Err(Damaged)
 }
 
-fn settle(s: Spot, met: Met) -> Step
+fn settle(s: Spot, met: Met) -> Result<Step, Damaged>
     ensures { result ≡ settle_of s met }
 {
     let place = s.place;
-    let after = s.rest;
+    let after = Cursor::Under(s.rest);
     match met {
-        Met::Passed => Step::On(after),
-        Met::Leaf(page) => Step::Leaf(LeafAt { page, place, after }),
+        Met::Passed => Ok(Step::On(after)),
+        Met::Leaf(page) => Ok(Step::Leaf(LeafAt { page, place, after })),
         Met::Entries(run) => under(s, run),
-        Met::Damaged => Step::Damaged,
     }
 }
 
 // One step: the next place of the way. Where it is known that every place ahead fits, no page is tested again.
-pub fn next(table: &[u8], n: usize, a: Asked, c: Cursor, known: bool, marks: &mut [bool]) -> Step
-    requires { (length table.now ≡ n * page_size) × Leads n table.now c × (known ≡ true → Sure n a table.now c marks.old) }
+fn next<const KNOWN: bool>(
+    table: &[u8],
+    n: usize,
+    a: Asked,
+    c: Cursor,
+    marks: &mut [bool],
+) -> Result<Step, Damaged>
+    requires { (length table.now ≡ n * page_size) × Leads n table.now c × (KNOWN ≡ true → Sure n a table.now c marks.old) }
     ensures { stepping result marks.new ≡ step_of n a table.now c marks.old }
 {
-    let Due::At(s) = next_spot(table, n, c) else {
-        return Step::End;
+    let Some(s) = next_spot(table, n, c) else {
+        return Ok(Step::End);
     };
-    let met = meet(table, n, a, s.parent, s.top, s.place, known, marks);
+    let met = meet::<KNOWN>(table, n, a, s.parent, s.top, s.place, marks)?;
     settle(s, met)
 }
 
-// The whole walk, from the root on.
-pub fn dry_of(table: &[u8], n: usize, a: Asked) -> Dry
-    requires { (length table.now ≡ n * page_size) × (fit0 n table.now ≡ true) }
-    ensures { result ≡ dry_of n a table.now }
+// The leaf that the walk comes to next; none at its end.
+fn leaf_by<const KNOWN: bool>(
+    table: &[u8],
+    n: usize,
+    a: Asked,
+    c: Cursor,
+    marks: &mut [bool],
+) -> Result<Option<LeafAt>, Damaged>
+    requires { (length table.now ≡ n * page_size) × Leads n table.now c × (KNOWN ≡ true → Sure n a table.now c marks.old) }
+    ensures { reaching result marks.new ≡ leaf_of n a table.now c marks.old }
 {
-    let mut c = at_root();
-    let mut count = 0;
-    let mut mended = [false; MOST];
-    while count < a.room {
-        let s = next(table, n, a, c, false, &mut mended);
-        match s {
-            Step::On(way) => {
-                c = way;
+    let mut at = c;
+    loop {
+        match next::<KNOWN>(table, n, a, at, marks)? {
+            Step::On(on) => {
+                at = on;
             }
             Step::Leaf(leaf) => {
-                let i = leaf.page as usize;
-                count = tally_leaf(table, i, head_at(table, i), a, leaf.place, count);
-                c = leaf.after;
+                return Ok(Some(leaf));
             }
             Step::End => {
-                return Dry {
-                    whole: true,
-                    count,
-                    mended,
-                };
-            }
-            Step::Damaged => {
-                return Dry {
-                    whole: false,
-                    count,
-                    mended,
-                };
+                return Ok(None);
             }
         }
     }
-    Dry {
-        whole: true,
-        count,
-        mended,
-    }
 }
 
-// Whether the walk would mend nothing: then it leaves the table as it lies, and every place that it enters fits.
-pub fn mends_nothing(d: Dry) -> bool
-    ensures { result ≡ none_marked d.mended }
+pub fn next_leaf(
+    table: &[u8],
+    n: usize,
+    a: Asked,
+    c: Cursor,
+    marks: &mut [bool],
+) -> Result<Option<LeafAt>, Damaged>
+    requires { (length table.now ≡ n * page_size) × Leads n table.now c }
+    ensures { reaching result marks.new ≡ leaf_of n a table.now c marks.old }
 {
-    let mut none = true;
-    let mut i = 0;
-    while i < MOST {
-        none = none & !d.mended[i];
-        i += 1;
+    leaf_by::<false>(table, n, a, c, marks)
+}
+
+// The same where it is known that every place ahead fits: no page is tested again, and none is damaged.
+pub fn next_known(table: &[u8], n: usize, a: Asked, c: Cursor, marks: &mut [bool]) -> Option<LeafAt>
+    requires { (length table.now ≡ n * page_size) × Leads n table.now c × Sure n a table.now c marks.old }
+    ensures { reaching (Ok result) marks.new ≡ leaf_of n a table.now c marks.old }
+{
+    let Ok(leaf) = leaf_by::<true>(table, n, a, c, marks) else {
+        return None;
+    };
+    leaf
+}
+
+// The whole walk, from the root on; where it meets a damaged place, what it found before that.
+pub fn dry_of(table: &[u8], n: usize, a: Asked) -> Result<Dry, Dry>
+    requires { (length table.now ≡ n * page_size) × (fit0 n table.now ≡ true) }
+    ensures { result ≡ dry_of n a table.now }
+{
+    let mut at = Cursor::AtRoot;
+    let mut count = 0;
+    let mut mended = [false; MOST];
+    while count < a.room {
+        let Ok(next) = next_leaf(table, n, a, at, &mut mended) else {
+            return Err(Dry { count, mended });
+        };
+        let Some(leaf) = next else {
+            return Ok(Dry { count, mended });
+        };
+        let i = leaf.page as usize;
+        count = tally_leaf(table, i, head_at(table, i), a, leaf.place, count);
+        at = leaf.after;
     }
-    none
+    Ok(Dry { count, mended })
 }

@@ -5,6 +5,7 @@ use mathlib.Core.Path.{◌≡◌, refl, sym, ap, ◌∙◌}
 use mathlib.Core.Bool.{Bool, true, false}
 use mathlib.Core.List.{List, [], ◌++◌}
 use lib.ListN.{length, take, replicate}
+use Rattle.std.specs.Prelude.{Option, Some, None, Result, Ok, Err}
 use Rattle.rules.specs.Layout.{page_size, leaf_header, cert_size, leaf_kind, leaf_room, most_pages}
 use Rattle.rules.specs.Entry.{Cert, cut, rising}
 use Rattle.rules.specs.Table.{page_at, read}
@@ -16,12 +17,11 @@ use Rattle.head.proofs.Headers.{head_of, head_in-page}
 use Rattle.entries.specs.Spot.{keys_in}
 use Rattle.seen.proofs.Looks.{head-kind}
 use Rattle.dry.specs.Walk.{marked, Sighted, asks, dry_over}
-use Rattle.dry.specs.Cursor.{at_root, stepping, step_of, Sure}
+use Rattle.dry.specs.Cursor.{at_root, reaching, leaf_of, way_left, Sure}
+use Rattle.dry.specs.declared.Damaged.{Damaged}
 use Rattle.dry.specs.declared.Cursor.{Cursor}
 use Rattle.dry.specs.declared.LeafAt.{LeafAt}
-use Rattle.dry.specs.declared.Step.{Step}
-use Rattle.dry.proofs.Leads.{way_left}
-use Rattle.dry.proofs.Going.{Going, Taken, leaf_view, root-comes, root-leads, full_sees, end_sees, damage_sees, on_less, on_comes, on_leads, leaf_less, leaf-inside, leaf-shown, leaf-comes, leaf-leads}
+use Rattle.dry.proofs.Going.{Going, Taken, leaf_view, root-comes, root-leads, full_sees, end_sees, leaf_less, leaf-inside, leaf-shown, leaf-comes, leaf-leads}
 use Rattle.dry.proofs.Sures.{leaf-fits, leaf-view}
 use Rattle.fill.specs.Fills.{listing, lists_of, Roomy, Calm, certs_from, listed, asked, Sorted}
 use Rattle.fill.proofs.Copies.{lists-none, lists-count, lists-more}
@@ -35,9 +35,9 @@ pub record Filling (n : ℕ) (a : Asked) (t ks xs : List ℕ) (c : Cursor) (fill
   pub size : length m ≡ most_pages
 
 module _ {n : ℕ} {a : Asked} {t ks xs : List ℕ} (calm : Calm n a t) where
-  pub filling-begins : Roomy a ks xs → (c : Cursor) → c ≡ at_root → Filling n a t ks xs c 0 (replicate most_pages false) ks xs
-  filling-begins r c e = record {
-    going = record { found = []; counts = refl; comes = root-comes n t c e a; leads = root-leads n t c e calm.fit };
+  pub filling-begins : Roomy a ks xs → Filling n a t ks xs at_root 0 (replicate most_pages false) ks xs
+  filling-begins r = record {
+    going = record { found = []; counts = refl; comes = root-comes n t a; leads = root-leads n t calm.fit };
     lists = lists-none ks xs;
     roomy = r;
     size = refl;
@@ -63,48 +63,37 @@ module _ {n : ℕ} {a : Asked} {t ks xs : List ℕ} (calm : Calm n a t) where
     pub filling-full : a.room ≤ filled → listing filled us vs ≡ lists_of ks xs (dry_over n a t).found
     filling-full h = f.lists ∙ ap (λ (x : Sighted). lists_of ks xs x.found) (full_sees f.going h)
 
-    module _ (room : filled < a.room) {s : Step} {marks : List Bool} (is : stepping s marks ≡ step_of n a t c m) where
-      abbrev y : Taken n a t c filled m s marks
+    module _ (room : filled < a.room) {s : Option LeafAt} {marks : List Bool} (is : reaching (Ok s) marks ≡ leaf_of n a t c m) where
+      abbrev y : Taken n a t c filled m (Ok s) marks
       y = record { long = calm.long; room = room; going = f.going; is = is }
 
-      pub filling-ends : s ≡ Step.End → listing filled us vs ≡ lists_of ks xs (dry_over n a t).found
-      filling-ends q = f.lists ∙ ap (λ (x : Sighted). lists_of ks xs x.found) (end_sees y q)
+      -- the marks are as many as before
+      pub marks-size : length marks ≡ length m → n ≤ length marks
+      marks-size e = omega (arith, e, marks-room)
 
-      pub filling-breaks : s ≡ Step.Damaged → listing filled us vs ≡ lists_of ks xs (dry_over n a t).found
-      filling-breaks q = absurd (not_both calm.whole (sym (ap (λ (x : Sighted). x.whole) (damage_sees y q))))
-
-      module _ (x : Cursor) (q : s ≡ Step.On x) where
-        pub filling_less : way_left x < way_left c
-        filling_less = on_less y x q
-
-        pub filling_on : length marks ≡ most_pages → Filling n a t ks xs x filled marks us vs
-        filling_on size = record {
-          going = record { found = seen; counts = f.going.counts; comes = on_comes y x q; leads = on_leads y x q };
-          lists = f.lists;
-          roomy = f.roomy;
-          size = size;
-        }
+      pub filling-ends : s ≡ None → listing filled us vs ≡ lists_of ks xs (dry_over n a t).found
+      filling-ends q = f.lists ∙ ap (λ (x : Sighted). lists_of ks xs x.found) (end_sees y (ap Ok q))
 
       -- ── A leaf ──────────────────────────────────────────────────────────────────────────────────────────────────
 
-      module _ (l : LeafAt) (q : s ≡ Step.Leaf l) where
+      module _ (l : LeafAt) (p : s ≡ Some l) where
         pub filling-passes : way_left l.after < way_left c
-        filling-passes = leaf_less y l q
+        filling-passes = leaf_less y l (ap Ok p)
 
         pub filling-inside : (l.page + 1) * page_size ≤ length t
-        filling-inside = leaf-inside y l q
+        filling-inside = leaf-inside y l (ap Ok p)
 
-        module _ (h : Head) (p : h ≡ head_in (page_at t l.page)) where
+        module _ (size : n ≤ length marks) (h : Head) (e : h ≡ head_in (page_at t l.page)) where
           here : h ≡ head_of (read t l.page)
           unfolding read
-          here = p ∙ head_in-page (page_at t l.page)
+          here = e ∙ head_in-page (page_at t l.page)
 
           kind : h.kind ≡ leaf_kind
-          kind = head-kind t l.page h p ∙ (leaf-shown y l q).kind
+          kind = head-kind t l.page h e ∙ (leaf-shown y l (ap Ok p)).kind
 
           sorted : Sorted (read t l.page).view.certs
           sorted =
-              let z = (leaf-fits y marks-room calm.still l q).sound in
+              let z = (leaf-fits y size calm.still l (ap Ok p)).sound in
               record { room = z.certs_room; rise = z.certs_rise }
 
           pub filling-count : h.count ≤ leaf_room
@@ -116,7 +105,7 @@ module _ {n : ℕ} {a : Asked} {t ks xs : List ℕ} (calm : Calm n a t) where
           shown : leaf_view t a l seen ≡ asked a filled (certs_from (page_at t l.page) 0 h.count)
           unfolding asks asked
           shown =
-              leaf-view y marks-room calm.still l q seen
+              leaf-view y size calm.still l (ap Ok p) seen
               ∙ ap (λ (k : ℕ). take (a.room - k) (cut a.low a.high (read t l.page).view.certs)) f.going.counts
               ∙ ap (asked a filled) (leaves.leaf-certs t l.page h here kind)
 
@@ -128,14 +117,14 @@ module _ {n : ℕ} {a : Asked} {t ks xs : List ℕ} (calm : Calm n a t) where
                 ∙ lists-more ks xs filled us vs seen (leaf_view t a l seen) f.lists
 
             pub filling-leaf : Roomy a ms ns → length marks ≡ most_pages → Filling n a t ks xs l.after k marks ms ns
-            filling-leaf roomy size = record {
+            filling-leaf roomy long = record {
               going = record {
                 found = seen ++ leaf_view t a l seen;
                 counts = sym (lists-count ks xs (seen ++ leaf_view t a l seen) k ms ns now);
-                comes = leaf-comes y l q;
-                leads = leaf-leads y l q;
+                comes = leaf-comes y l (ap Ok p);
+                leads = leaf-leads y l (ap Ok p);
               };
               lists = now;
               roomy = roomy;
-              size = size;
+              size = long;
             }

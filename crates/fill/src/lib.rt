@@ -20,7 +20,7 @@ ghost use Rattle.entries.specs.Spot.{keys_in, spot_of, start_of};
 ghost use Rattle.dry.specs.Walk.{dry_over};
 ghost use Rattle.fill.specs.Fills.{listing, lists_of, filling, filled_in, mending, mended_in, Roomy, HasRoom, Calm, certs_from, listed, asked};
 
-use dry::Step;
+use dry::Cursor;
 use leaves::Stepped;
 use rules::{Asked, CERT, LEAF_HEADER, MOST, PAGE, Report};
 
@@ -144,28 +144,17 @@ pub fn fill_known(t: &[u8], n: usize, a: Asked, keys: &mut [u64], records: &mut 
     ensures { listing result keys.new records.new
         ≡ lists_of keys.old records.old (dry_over n a t.now).found }
 {
-    let mut c = dry::at_root();
+    let mut at = Cursor::AtRoot;
     let mut filled = 0;
     let mut mended = [false; MOST];
     while filled < a.room {
-        let s = dry::next(t, n, a, c, true, &mut mended);
-        match s {
-            Step::On(way) => {
-                c = way;
-            }
-            Step::Leaf(leaf) => {
-                let page = leaf.page as usize;
-                let head = head::head_at(t, page);
-                filled = fill_leaf_at(t, page, head.count as usize, a, keys, records, filled);
-                c = leaf.after;
-            }
-            Step::End => {
-                return filled;
-            }
-            Step::Damaged => {
-                return filled;
-            }
-        }
+        let Some(leaf) = dry::next_known(t, n, a, at, &mut mended) else {
+            return filled;
+        };
+        let page = leaf.page as usize;
+        let head = head::head_at(t, page);
+        filled = fill_leaf_at(t, page, head.count as usize, a, keys, records, filled);
+        at = leaf.after;
     }
     filled
 }

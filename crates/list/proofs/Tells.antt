@@ -2,12 +2,11 @@
 use mathlib.Core.Path.{◌≡◌, sym, ap, ◌∙◌}
 use mathlib.Core.Bool.{Bool, true, false}
 use mathlib.Core.List.{List}
-use Prim.Native.Nat.{ℕ, min, ◌*◌, ◌^◌, ◌≤◌, ◌<◌}
-use native.Mathlib.Nat.{min-eq_left, min-eq_right}
-use native.Mathlib.Omega.{arith}
+use Prim.Native.Nat.{ℕ, ◌*◌, ◌^◌, ◌≤◌, ◌<◌}
 use lib.ListN.{length}
 use Rattle.fields.specs.Field.{Bytes}
-use Rattle.rules.specs.Layout.{page_size, most_pages, last_key}
+use Rattle.std.specs.Prelude.{Result, Ok, Err, is_ok}
+use Rattle.rules.specs.Layout.{page_size, most_pages}
 use Rattle.rules.specs.Entry.{Cert, keys}
 use Rattle.rules.specs.Page.{over}
 use Rattle.rules.specs.Table.{fit0}
@@ -28,48 +27,42 @@ same-walk : {t u : List ℕ} {b d : Bool} {xs ys : List Cert} {x y : Report} →
     → ◌≡◌ {A = Walked} (record { table = t; whole = b; found = xs; report = x }) (record { table = u; whole = d; found = ys; report = y })
 same-walk p q r s = cc
 
--- ── The asked range ─────────────────────────────────────────────────────────────────────────────────────────────
-
-module _ (start keys records : ℕ) where
-  abbrev up_to : ℕ → Asked
-  up_to room = record { low = start; high = last_key; room = room }
-
-  pub keys_shorter : keys < records → up_to keys ≡ up_to (min keys records)
-  keys_shorter h = let l : keys ≤ records = omega arith in ap up_to (sym (min-eq_left l))
-
-  pub records_shorter : records ≤ keys → up_to records ≡ up_to (min keys records)
-  records_shorter h = ap up_to (sym (min-eq_right h))
-
 -- ── The walks ───────────────────────────────────────────────────────────────────────────────────────────────────
 
-module _ (n : ℕ) (a : Asked) (t : List ℕ) (fit : fit0 n t ≡ true) (long : length t ≡ n * page_size) (most : n ≤ most_pages) (d : Dry) (e : d ≡ dry_of n a t) where
+module _ (n : ℕ) (a : Asked) (t : List ℕ) (fit : fit0 n t ≡ true) (long : length t ≡ n * page_size) (most : n ≤ most_pages) (r : Result Dry Dry) (e : r ≡ dry_of n a t) where
   -- the dry walk is whole exactly where the walk is
-  pub known_ahead : (c : ℕ) → Bytes t → c < 256 ^ 4 → d.whole ≡ (walk_of n c a t).whole
-  known_ahead c bytes narrow = ap (λ (x : Dry). x.whole) e ∙ dry-whole n t fit long c a most bytes narrow
+  known_ahead : (c : ℕ) → Bytes t → c < 256 ^ 4 → is_ok r ≡ (walk_of n c a t).whole
+  known_ahead c bytes narrow = ap is_ok e ∙ dry-whole n t fit long c a most bytes narrow
+
+  pub ahead_damaged : (c : ℕ) → Bytes t → c < 256 ^ 4 → (d : Dry) → r ≡ Err d → (walk_of n c a t).whole ≡ false
+  ahead_damaged c bytes narrow d q = sym (known_ahead c bytes narrow) ∙ ap is_ok q
+
+  pub ahead_whole : (c : ℕ) → Bytes t → c < 256 ^ 4 → (d : Dry) → r ≡ Ok d → (walk_of n c a t).whole ≡ true
+  ahead_whole c bytes narrow d q = sym (known_ahead c bytes narrow) ∙ ap is_ok q
 
   -- and where it would mend nothing, the table stays and every place ahead fits
-  module _ (h : d.whole ≡ true) (k : none_marked d.mended ≡ true) where
+  module _ (d : Dry) (q : r ≡ Ok d) (k : none_marked d.mended ≡ true) where
     pub calm-ahead : Calm n a t
     calm-ahead = record {
       long = long;
       most = most;
       fit = fit;
-      whole = told-whole n a t d e h;
-      still = told-still n a t d e k;
+      whole = told-whole n a t d (sym q ∙ e);
+      still = told-still n a t d (sym q ∙ e) k;
     }
 
     module _ (c : ℕ) (bytes : Bytes t) (narrow : c < 256 ^ 4) (ks xs : List ℕ) where
       calm_walk : walk_of n c a t ≡ record { table = t; whole = true; found = (dry_over n a t).found; report = nothing }
       calm_walk =
-          same-walk (dry-still n t fit long c a most bytes narrow (told-still n a t d e k)) (sym (known_ahead c bytes narrow) ∙ h)
+          same-walk (dry-still n t fit long c a most bytes narrow (told-still n a t d (sym q ∙ e) k)) (ahead_whole c bytes narrow d q)
           (sym (dry-found n t fit long c a most bytes narrow))
-          (dry-quiet n t fit long c a most bytes narrow (told-still n a t d e k))
+          (dry-quiet n t fit long c a most bytes narrow (told-still n a t d (sym q ∙ e) k))
 
-      pub tell_calm : (r : ℕ) (us vs : List ℕ) → listing r us vs ≡ lists_of ks xs (dry_over n a t).found → (y : Report) → y ≡ nothing
-          → telling t (sought (Listed.Filled r) y) us vs ≡ told ks xs (walk_of n c a t)
+      pub tell_calm : (m : ℕ) (us vs : List ℕ) → listing m us vs ≡ lists_of ks xs (dry_over n a t).found → (y : Report) → y ≡ nothing
+          → telling t (sought (Listed.Filled m) y) us vs ≡ told ks xs (walk_of n c a t)
       unfolding told lists_of
-      tell_calm r us vs q y z =
-          ap (λ (x : Lists). telling t (sought (Listed.Filled x.filled) y) x.keys x.records) q
+      tell_calm m us vs p y z =
+          ap (λ (x : Lists). telling t (sought (Listed.Filled x.filled) y) x.keys x.records) p
           ∙ (ap (λ (x : Report). telling t (sought (Listed.Filled (length (dry_over n a t).found)) x) (over (keys (dry_over n a t).found) ks) (over (records_of (dry_over n a t).found) xs)) z
           ∙ ap (told ks xs) (sym calm_walk))
 

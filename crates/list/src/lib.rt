@@ -23,6 +23,7 @@ ghost use Rattle.fill.specs.Fills.{Roomy};
 ghost use Rattle.list.specs.Lists.{beside, leaving, telling, told};
 
 use rules::{Asked, LAST_KEY, Listed, Listing, Report, Session};
+use std::cmp::min;
 
 // An answer, and what was mended on the way.
 #[derive(Clone, Copy)]
@@ -35,17 +36,10 @@ pub struct Sought {
 fn up_from(start: u64, keys: usize, records: usize) -> Asked
     ensures { result ≡ record { low = start; high = last_key; room = min keys records } }
 {
-    if keys < records {
-        return Asked {
-            low: start,
-            high: LAST_KEY,
-            room: keys,
-        };
-    }
     Asked {
         low: start,
         high: LAST_KEY,
-        room: records,
+        room: min(keys, records),
     }
 }
 
@@ -56,15 +50,14 @@ fn look(t: &mut [u8], n: usize, c: u32, a: Asked, keys: &mut [u64], records: &mu
     ensures { telling t.new result keys.new records.new
         ≡ told keys.old records.old (walk_of n c a t.old) }
 {
-    let ahead = dry::dry_of(t, n, a);
-    if !ahead.whole {
+    let Ok(ahead) = dry::dry_of(t, n, a) else {
         let report = fill::mend(t, n, c, a);
         return Sought {
             answer: Listed::Damaged,
             report,
         };
-    }
-    if dry::mends_nothing(ahead) {
+    };
+    if ahead.mends_nothing() {
         let known = fill::fill_known(t, n, a, keys, records);
         return Sought {
             answer: Listed::Filled(known),

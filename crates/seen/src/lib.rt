@@ -41,7 +41,7 @@ pub struct Tally {
 }
 
 // Entries of a page that are left to walk: so many from the first on, each asking for a child of one kind.
-#[derive(Clone, Copy)]
+#[derive(Clone, Copy, Default)]
 pub struct Run {
     pub page: usize,
     pub first: usize,

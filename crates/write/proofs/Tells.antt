@@ -7,6 +7,7 @@ use native.Mathlib.Omega.{arith}
 use lib.ListN.{length}
 use borrow.Author.Tests.{le-leb, lt-leb}
 use Rattle.fields.specs.Field.{Bytes}
+use Rattle.std.specs.Prelude.{Result, Ok, Err, is_ok}
 use Rattle.rules.specs.Layout.{page_size, most_pages, last_key}
 use Rattle.rules.specs.Table.{fit0}
 use Rattle.rules.specs.Page.{over}
@@ -14,15 +15,14 @@ use Rattle.rules.specs.Report.{Reported}
 use Rattle.rules.specs.Walk.{Walked, walk_of}
 use Rattle.rules.specs.declared.Asked.{Asked}
 use Rattle.rules.specs.declared.Report.{Report}
-use Rattle.dry.specs.Walk.{dry_of, counted}
-use Rattle.dry.proofs.Answers.{dry-whole, dry-found}
+use Rattle.dry.proofs.Answers.{over-whole, dry-found}
 use Rattle.fill.specs.Fills.{mending, mended_in, HasRoom}
 use Rattle.exchange.specs.Written.{file_of}
 use Rattle.exchange.proofs.Sets.{SetFacts, set_facts}
-use Rattle.counts.specs.Tally.{everything, no_tally, counted_all, Few, ahead_by, ahead_of}
-use Rattle.counts.specs.declared.Ahead.{Ahead}
+use Rattle.counts.specs.Tally.{everything, no_tally, counted_all, Few, ahead_of}
 use Rattle.counts.specs.declared.Tally.{Tally}
 use Rattle.counts.proofs.Tallies.{few-none, few-all, certs-found}
+use Rattle.counts.proofs.Counting.{ahead-whole, ahead-tally}
 use Rattle.sections.specs.Puts.{starts_of, put_counts, put_all, Lies}
 use Rattle.write.specs.Calls.{telling, telled, told, Wrote, wrote, wrote_in}
 use Rattle.write.specs.declared.Written.{Written}
@@ -49,26 +49,15 @@ abbrev sought : Written → Report → Sought
 sought answer x = record { answer = answer; report = x }
 
 module _ (n c : ℕ) (t : List ℕ) (long : length t ≡ n * page_size) (most : n ≤ most_pages) (fit : fit0 n t ≡ true) (bytes : Bytes t) (narrow : c < 256 ^ 4)
-    (ahead : Ahead) (is : ahead ≡ ahead_of n t) where
+    (r : Result Tally Tally) (is : r ≡ ahead_of n t) where
   abbrev walked : Walked
   walked = walk_of n c everything t
 
   abbrev file : List ℕ
   file = file_of walked.found
 
-  pub known_whole : ahead.whole ≡ (walk_of n c everything t).whole
-  unfolding ahead_of ahead_by dry_of counted
-  known_whole = ap (λ (x : Ahead). x.whole) is ∙ dry-whole n t fit long c everything most bytes narrow
-
-  pub known_tally : ahead.tally ≡ counted_all no_tally (walk_of n c everything t).found
-  unfolding ahead_of ahead_by
-  known_tally = ap (λ (x : Ahead). x.tally) is ∙ ap (counted_all no_tally) (dry-found n t fit long c everything most bytes narrow)
-
-  pub known_few : Few ahead.tally
-  known_few = subst Few (sym known_tally) (few-all no_tally walked.found few-none)
-
-  pub known_certs : ahead.tally.certs ≤ 4294967295
-  known_certs = omega (arith, ap (λ (x : Tally). x.certs) known_tally, certs-found walked.found, walk-few n c everything t)
+  known_whole : is_ok r ≡ (walk_of n c everything t).whole
+  known_whole = ap is_ok is ∙ ahead-whole n t ∙ over-whole n t fit long c everything most bytes narrow
 
   set : SetFacts walked.found
   set = set_facts walked.found (listing-set (record { long = long; bytes = bytes; fit = fit; counter = narrow }))
@@ -80,61 +69,74 @@ module _ (n c : ℕ) (t : List ℕ) (long : length t ≡ n * page_size) (most : 
     mended = m ∙ ap (λ (b : Asked). mended_in (walk_of n c b t)) all
 
     only : (answer : Written) → telling (sought answer x) u out ≡ telled answer walked out
-    only answer = ap (λ (r : Reported (List ℕ)). telling (sought answer r.report) r.left out) mended
+    only answer = ap (λ (y : Reported (List ℕ)). telling (sought answer y.report) y.left out) mended
 
-    pub tell_damaged : ahead.whole ≡ false → telling (sought Written.Damaged x) u out ≡ told out (walk_of n c everything t)
+    pub tell_damaged : (d : Tally) → r ≡ Err d → telling (sought Written.Damaged x) u out ≡ told out (walk_of n c everything t)
     unfolding told
-    tell_damaged h = only Written.Damaged ∙ sym (rw (told, sym known_whole, h))
+    tell_damaged d q =
+        let h : (walk_of n c everything t).whole ≡ false = sym known_whole ∙ ap is_ok q in
+        only Written.Damaged ∙ sym (rw (told, h))
 
-    module _ (s : Starts) (at : s ≡ starts_of ahead.tally) where
-      end : s.end ≡ length file
-      end =
-          ap (λ (z : Starts). z.end) at
-          ∙ ap (λ (z : Tally). (starts_of z).end) known_tally
-          ∙ file-end walked.found set out
+  -- ── Known to be whole ───────────────────────────────────────────────────────────────────────────────────────────
 
-      pub tell_short : ahead.whole ≡ true → length out < s.end → telling (sought Written.Short x) u out ≡ told out (walk_of n c everything t)
+  module _ (tally : Tally) (q : r ≡ Ok tally) where
+    whole : (walk_of n c everything t).whole ≡ true
+    whole = sym known_whole ∙ ap is_ok q
+
+    pub known_tally : tally ≡ counted_all no_tally (walk_of n c everything t).found
+    known_tally = ahead-tally n t tally (sym q ∙ is) ∙ ap (counted_all no_tally) (dry-found n t fit long c everything most bytes narrow)
+
+    pub known_few : Few tally
+    known_few = subst Few (sym known_tally) (few-all no_tally walked.found few-none)
+
+    pub known_certs : tally.certs ≤ 4294967295
+    known_certs = omega (arith, ap (λ (x : Tally). x.certs) known_tally, certs-found walked.found, walk-few n c everything t)
+
+    module _ (s : Starts) (at : s ≡ starts_of tally) (out : List ℕ) where
+      starts-all : s ≡ starts_of (counted_all no_tally walked.found)
+      starts-all = at ∙ ap starts_of known_tally
+
+      ends : s.end ≡ length file
+      ends = ap (λ (z : Starts). z.end) starts-all ∙ file-end walked.found set out
+
+      pub tell_short : {a : Asked} → a ≡ everything → (u : List ℕ) (x : Report) → mending u x ≡ mended_in (walk_of n c a t)
+          → length out < s.end → telling (sought Written.Short x) u out ≡ told out (walk_of n c everything t)
       unfolding told
-      tell_short h l = only Written.Short ∙ sym (rw (told, sym known_whole, h, lt-leb (length file) (length out) (omega (arith, l, end))))
+      tell_short all u x m l =
+          only all u x m out Written.Short ∙ sym (rw (told, whole, lt-leb (length file) (length out) (omega (arith, l, ends))))
 
-  -- ── Written ─────────────────────────────────────────────────────────────────────────────────────────────────────
+      -- ── Written ─────────────────────────────────────────────────────────────────────────────────────────────────
 
-  module _ (s : Starts) (at : s ≡ starts_of ahead.tally) (out : List ℕ) (room : s.end ≤ length out) where
-    starts-all : s ≡ starts_of (counted_all no_tally walked.found)
-    starts-all = at ∙ ap starts_of known_tally
+      module _ (room : s.end ≤ length out) where
+        holds : length file ≤ length out
+        holds = omega (arith, ends, room)
 
-    ends : s.end ≡ length file
-    ends = ap (λ (z : Starts). z.end) starts-all ∙ file-end walked.found set out
+        pub known_room : (starts_of tally).end ≤ length out
+        known_room = subst (λ (z : Starts). z.end ≤ length out) at room
 
-    holds : length file ≤ length out
-    holds = omega (arith, ends, room)
+        module _ {a : Asked} (all : a ≡ everything) where
+          pub known_lies : Lies s (counted_all no_tally (walk_of n c a t).found) (length out)
+          known_lies =
+              subst (λ (b : Asked). Lies s (counted_all no_tally (walk_of n c b t).found) (length out)) (sym all)
+              (subst (λ (z : Starts). Lies z (counted_all no_tally walked.found) (length out)) (sym starts-all) (file-lies walked.found set out holds))
 
-    pub known_room : (starts_of ahead.tally).end ≤ length out
-    known_room = subst (λ (z : Starts). z.end ≤ length out) at room
+          pub known_all : (walk_of n c a t).whole ≡ true
+          known_all = ap (λ (b : Asked). (walk_of n c b t).whole) all ∙ whole
 
-    module _ {a : Asked} (all : a ≡ everything) where
-      pub known_lies : Lies s (counted_all no_tally (walk_of n c a t).found) (length out)
-      known_lies =
-          subst (λ (b : Asked). Lies s (counted_all no_tally (walk_of n c b t).found) (length out)) (sym all)
-          (subst (λ (z : Starts). Lies z (counted_all no_tally walked.found) (length out)) (sym starts-all) (file-lies walked.found set out holds))
+          module _ (first : List ℕ) (f : first ≡ put_counts tally out) (u next : List ℕ) (x : Report) (g : wrote u next x ≡ wrote_in s first (walk_of n c a t)) where
+            is-file : (put_all s no_tally walked.found first).out ≡ over file out
+            is-file =
+                ap (λ (z : Starts). (put_all z no_tally walked.found first).out) starts-all
+                ∙ ap (λ (l : List ℕ). (put_all (starts_of (counted_all no_tally walked.found)) no_tally walked.found l).out) (f ∙ ap (λ (z : Tally). put_counts z out) known_tally)
+                ∙ file-written walked.found set out holds
 
-      pub known_all : ahead.whole ≡ true → (walk_of n c a t).whole ≡ true
-      known_all h = ap (λ (b : Asked). (walk_of n c b t).whole) all ∙ (sym known_whole ∙ h)
-
-      module _ (first : List ℕ) (f : first ≡ put_counts ahead.tally out) (u next : List ℕ) (x : Report) (g : wrote u next x ≡ wrote_in s first (walk_of n c a t)) where
-        is-file : (put_all s no_tally walked.found first).out ≡ over file out
-        is-file =
-            ap (λ (z : Starts). (put_all z no_tally walked.found first).out) starts-all
-            ∙ ap (λ (l : List ℕ). (put_all (starts_of (counted_all no_tally walked.found)) no_tally walked.found l).out) (f ∙ ap (λ (z : Tally). put_counts z out) known_tally)
-            ∙ file-written walked.found set out holds
-
-        pub tell_written : ahead.whole ≡ true → telling (sought (Written.Done s.end) x) u next ≡ told out (walk_of n c everything t)
-        unfolding told wrote_in
-        tell_written h =
-            ap (λ (r : Wrote). telling (sought (Written.Done s.end) r.report) r.table r.out) (g ∙ ap (λ (b : Asked). wrote_in s first (walk_of n c b t)) all)
-            ∙ ap (λ (l : List ℕ). telled (Written.Done s.end) walked l) is-file
-            ∙ ap (λ (k : ℕ). telled (Written.Done k) walked (over file out)) ends
-            ∙ sym (rw (told, sym known_whole, h, le-leb (length file) (length out) holds))
+            pub tell_written : telling (sought (Written.Done s.end) x) u next ≡ told out (walk_of n c everything t)
+            unfolding told wrote_in
+            tell_written =
+                ap (λ (y : Wrote). telling (sought (Written.Done s.end) y.report) y.table y.out) (g ∙ ap (λ (b : Asked). wrote_in s first (walk_of n c b t)) all)
+                ∙ ap (λ (l : List ℕ). telled (Written.Done s.end) walked l) is-file
+                ∙ ap (λ (k : ℕ). telled (Written.Done k) walked (over file out)) ends
+                ∙ sym (rw (told, whole, le-leb (length file) (length out) holds))
 
 -- an output as long as before
 pub kept-lies : {s : Starts} {d : Tally} {j k : ℕ} → j ≡ k → Lies s d k → Lies s d j

@@ -111,15 +111,14 @@ fn look(t: &mut [u8], n: usize, c: u32, out: &mut [u8]) -> Sought
     requires { (length t.old ≡ n * page_size) × (n ≤ most_pages) × (fit0 n t.old ≡ true) }
     ensures { telling result t.new out.new ≡ told out.old (walk_of n c everything t.old) }
 {
-    let ahead = counts::count_of(t, n);
-    if !ahead.whole {
+    let Ok(tally) = counts::count_of(t, n) else {
         let report = fill::mend(t, n, c, everything());
         return Sought {
             answer: Written::Damaged,
             report,
         };
-    }
-    let starts = starts_of(ahead.tally);
+    };
+    let starts = starts_of(tally);
     if starts.end > out.len() {
         let report = fill::mend(t, n, c, everything());
         return Sought {
@@ -127,7 +126,7 @@ fn look(t: &mut [u8], n: usize, c: u32, out: &mut [u8]) -> Sought
             report,
         };
     }
-    put_counts(out, starts, ahead.tally);
+    put_counts(out, starts, tally);
     let report = fill(t, n, c, everything(), starts, out);
     Sought {
         answer: Written::Done(starts.end),

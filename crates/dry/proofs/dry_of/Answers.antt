@@ -1,90 +1,45 @@
 -- `dry::dry_of`: at each turn, what was seen and what is left to walk come to what the whole walk sees. Assumes nothing.
-use mathlib.Core.Path.{refl}
-use mathlib.Core.Bool.{false≢true}
-use Rattle.dry.proofs.Going.{taken, going-begins, going-full, on_less, going_on, leaf_less, leaf-inside, leaf_there, going-leaf, going-ends, going-breaks}
+use mathlib.Core.Path.{refl, ap, ◌∙◌}
+use Rattle.std.specs.Prelude.{Ok}
+use Rattle.dry.proofs.Going.{taken, going-begins, going-full, leaf_less, leaf-inside, leaf_there, going-leaf, going-ends, going-breaks}
 use native.Mathlib.Omega.{arith}
 use Rattle.dry.proofs.dry_of.Goals as goal
 
 pub loop-count-init : goal.loop-count-init
-loop-count-init c =
-    let args = c.args in
-    let pre = c.requires in
-    (refl, going-begins args.n args.table.now c.at_root-c.result c.at_root-c.ensures args.a pre.1)
+loop-count-init c = (refl, going-begins c.args.n c.args.table.now c.args.a c.requires.1)
 
-pub next-s-requires : goal.next-s-requires
-next-s-requires c =
-    let pre = c.requires in
-    (pre.0, c.loop-count.invariant.1.leads, λ h. absurd (false≢true h))
+pub next_leaf-requires : goal.next_leaf-requires
+next_leaf-requires c = (c.requires.0, c.loop-count.invariant.1.leads)
 
-pub loop-count-smaller-in-On : goal.loop-count-smaller-in-On
-loop-count-smaller-in-On c =
-    let pre = c.requires in
-    let loop = c.loop-count in
-    let if1 = c.loop-count-test in
-    let next = c.next-s in
-    let y = taken pre.0 loop.invariant.1 if1.true next.ensures in
-    on_less y c.in-On.way c.in-On.is
+pub returns-in_default : goal.returns-in_default
+returns-in_default c =
+    let y = taken c.requires.0 c.loop-count.invariant.1 c.loop-count-test.true c.next_leaf.ensures in
+    going-breaks y c.in_default.field-0 c.in_default.is
 
-pub loop-count-preserved-in-On : goal.loop-count-preserved-in-On
-loop-count-preserved-in-On c =
-    let pre = c.requires in
-    let loop = c.loop-count in
-    let if1 = c.loop-count-test in
-    let next = c.next-s in
-    let y = taken pre.0 loop.invariant.1 if1.true next.ensures in
-    (omega arith, going_on y c.in-On.way c.in-On.is)
+pub returns-in_default-next : goal.returns-in_default-next
+returns-in_default-next c =
+    let y = taken c.requires.0 c.loop-count.invariant.1 c.loop-count-test.true c.next_leaf.ensures in
+    going-ends y (c.in-Ok.is ∙ ap Ok c.in_default-next.is)
 
 pub head_at-requires : goal.head_at-requires
 head_at-requires c =
-    let pre = c.requires in
-    let loop = c.loop-count in
-    let if1 = c.loop-count-test in
-    let next = c.next-s in
-    let y = taken pre.0 loop.invariant.1 if1.true next.ensures in
-    leaf-inside y c.in-Leaf.leaf c.in-Leaf.is
+    let y = taken c.requires.0 c.loop-count.invariant.1 c.loop-count-test.true c.next_leaf.ensures in
+    leaf-inside y c.in-Some.leaf (c.in-Ok.is ∙ ap Ok c.in-Some.is)
 
 pub tally_leaf-count-requires : goal.tally_leaf-count-requires
 tally_leaf-count-requires c =
-    let pre = c.requires in
-    let loop = c.loop-count in
-    let if1 = c.loop-count-test in
-    let next = c.next-s in
-    let y = taken pre.0 loop.invariant.1 if1.true next.ensures in
-    leaf_there y c.in-Leaf.leaf c.in-Leaf.is c.head_at.result c.head_at.ensures
+    let y = taken c.requires.0 c.loop-count.invariant.1 c.loop-count-test.true c.next_leaf.ensures in
+    leaf_there y c.in-Some.leaf (c.in-Ok.is ∙ ap Ok c.in-Some.is) c.head_at.result c.head_at.ensures
 
 pub loop-count-smaller : goal.loop-count-smaller
 loop-count-smaller c =
-    let pre = c.requires in
-    let loop = c.loop-count in
-    let if1 = c.loop-count-test in
-    let next = c.next-s in
-    let y = taken pre.0 loop.invariant.1 if1.true next.ensures in
-    leaf_less y c.in-Leaf.leaf c.in-Leaf.is
+    let y = taken c.requires.0 c.loop-count.invariant.1 c.loop-count-test.true c.next_leaf.ensures in
+    leaf_less y c.in-Some.leaf (c.in-Ok.is ∙ ap Ok c.in-Some.is)
 
 pub loop-count-preserved : goal.loop-count-preserved
 loop-count-preserved c =
-    let pre = c.requires in
-    let loop = c.loop-count in
-    let if1 = c.loop-count-test in
-    let next = c.next-s in
-    let y = taken pre.0 loop.invariant.1 if1.true next.ensures in
-    (omega arith, going-leaf y c.in-Leaf.leaf c.in-Leaf.is c.tally_leaf-count.result c.tally_leaf-count.ensures)
-
-pub returns-in-End : goal.returns-in-End
-returns-in-End c =
-    let pre = c.requires in
-    let loop = c.loop-count in
-    let if1 = c.loop-count-test in
-    let y = taken pre.0 loop.invariant.1 if1.true c.next-s.ensures in
-    going-ends y c.in-End.is
-
-pub returns-in-Damaged : goal.returns-in-Damaged
-returns-in-Damaged c =
-    let pre = c.requires in
-    let loop = c.loop-count in
-    let if1 = c.loop-count-test in
-    let y = taken pre.0 loop.invariant.1 if1.true c.next-s.ensures in
-    going-breaks y c.in-Damaged.is
+    let y = taken c.requires.0 c.loop-count.invariant.1 c.loop-count-test.true c.next_leaf.ensures in
+    (omega arith, going-leaf y c.in-Some.leaf (c.in-Ok.is ∙ ap Ok c.in-Some.is) c.tally_leaf-count.result c.tally_leaf-count.ensures)
 
 pub returns : goal.returns
 returns c = going-full c.loop-count.invariant.1 (omega (arith, c.loop-count-test.false))

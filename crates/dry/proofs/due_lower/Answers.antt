@@ -4,4 +4,4 @@ use Rattle.dry.proofs.due_lower.Goals as goal
 
 pub returns : goal.returns
 unfolding due_lower
-returns c = cc (c.place_in.ensures, c.rest_of-rest.ensures)
+returns c = cc (c.place_in.ensures, c.rest_of.ensures)

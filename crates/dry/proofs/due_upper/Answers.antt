@@ -4,4 +4,4 @@ use Rattle.dry.proofs.due_upper.Goals as goal
 
 pub returns : goal.returns
 unfolding due_upper
-returns c = cc (c.place_in.ensures, c.rest_of-rest.ensures)
+returns c = cc (c.place_in.ensures, c.rest_of.ensures)

@@ -5,24 +5,12 @@ use Rattle.dry.proofs.settle.Goals as goal
 
 pub returns-in-Passed : goal.returns-in-Passed
 unfolding settle_of
-returns-in-Passed c =
-    let args = c.args in
-    sym (ap (settle_of args.s) c.in-Passed.is)
+returns-in-Passed c = sym (ap (settle_of c.args.s) c.in-Passed.is)
 
 pub returns-in-Leaf : goal.returns-in-Leaf
 unfolding settle_of
-returns-in-Leaf c =
-    let args = c.args in
-    sym (ap (settle_of args.s) c.in-Leaf.is)
+returns-in-Leaf c = sym (ap (settle_of c.args.s) c.in-Leaf.is)
 
 pub returns-in-Entries : goal.returns-in-Entries
 unfolding settle_of
-returns-in-Entries c =
-    let args = c.args in
-    c.under.ensures ∙ sym (ap (settle_of args.s) c.in-Entries.is)
-
-pub returns-in-Damaged : goal.returns-in-Damaged
-unfolding settle_of
-returns-in-Damaged c =
-    let args = c.args in
-    sym (ap (settle_of args.s) c.in-Damaged.is)
+returns-in-Entries c = c.under.ensures ∙ sym (ap (settle_of c.args.s) c.in-Entries.is)

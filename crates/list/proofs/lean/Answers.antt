@@ -1,7 +1,6 @@
 -- `list::lean`: the rules' tests, one after the other, and then the walks, for every session with these numbers.
 -- Assumes nothing.
 use mathlib.Core.Path.{sym, ap, ◌∙◌}
-use borrow.Author.Tests.{not-true, not-false}
 use Rattle.rules.specs.declared.Asked.{Asked}
 use Rattle.tables.proofs.Sizes.{sized}
 use Rattle.list.proofs.Calls.{roomy, bad_length_lem, bad_zero, answers}

@@ -1,5 +1,4 @@
 -- `write::fill`: at each turn, what was put and what is left to climb to come to what the rules' walk finds. Assumes nothing.
-use Prim.Native.Nat.{◌-◌}
 use mathlib.Core.Path.{refl, ap, sym, subst, ◌∙◌}
 use Rattle.leaves.specs.Cursors.{nexting}
 use Rattle.fill.proofs.Fills.{reached-inside, reached-count}

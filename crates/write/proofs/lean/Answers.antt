@@ -1,7 +1,6 @@
 -- `write::lean`: the rule's tests, one after the other, and then the walks, for every session with these numbers.
 -- Assumes nothing.
 use mathlib.Core.Path.{sym, ◌∙◌}
-use borrow.Author.Tests.{not-true, not-false}
 use Rattle.tables.proofs.Sizes.{sized}
 use Rattle.write.proofs.Calls.{bad_length_lem, bad_zero, answers}
 use native.Mathlib.Omega.{arith}

@@ -1,0 +1,18 @@
+-- `dry::leaf_by`: at each turn the next leaf is the same. Assumes nothing.
+use mathlib.Core.Path.{◌≡◌}
+use mathlib.Core.Bool.{true, not}
+use lib.Dec.{eqb}
+use lib.ListN.{length}
+use Rattle.dry.specs.Cursor.{way_left, leaf_of, Leads, Sure}
+use Rattle.dry.proofs.leaf_by.Given as goal
+
+abbrev pub invariant-loop-on : goal.invariant-loop-on
+invariant-loop-on g l = record {
+  size : length l.marks ≡ length l.initial.marks;
+  leads : Leads l.n l.table l.at;
+  sure : not (eqb g.row.KNOWN 0) ≡ true → Sure l.n l.a l.table l.at l.marks;
+  same : leaf_of l.n l.a l.table l.at l.marks ≡ leaf_of l.n l.a l.table l.initial.at l.initial.marks;
+}
+
+abbrev pub decreases-loop-on : goal.decreases-loop-on
+decreases-loop-on g l = way_left l.at
