@@ -1,4 +1,5 @@
 -- An accepted file is the file of the set that it tells of. Assumes nothing.
+use Rattle.std.specs.Prelude.{Ok, Err}
 use mathlib.Core.Path.{◌≡◌, refl, sym, ap, ◌∙◌}
 use mathlib.Core.Bool.{Bool, true, false, ◌&&◌}
 use mathlib.Core.List.{List, [], ◌∷◌, ◌++◌, append-nil}
@@ -16,10 +17,9 @@ use Rattle.rules.proofs.Entries.Tests.{and_left, and_right, every_of, all_imp}
 use Rattle.rules.proofs.Entries.Rises.{rises-nil, rising-of-rises, length-keys}
 use Rattle.exchange.specs.Item.{Item, value_width, span, count_width, section_bytes}
 use Rattle.exchange.specs.Written.{is_set, meters_of, models_of, bare, section_of, roof, file_of}
-use Rattle.exchange.specs.Judged.{section_judged, meters_at, certs_at, end_at, and_then, end_judged, certs_judged, meters_judged, judged}
+use Rattle.exchange.specs.Judged.{Judged, section_judged, meters_at, certs_at, end_at, and_then, end_judged, certs_judged, meters_judged, judged}
 use Rattle.exchange.specs.Told.{items_in, told_by, models_in, meters_in, certs_in}
 use Rattle.exchange.specs.declared.Section.{Section}
-use Rattle.exchange.specs.declared.Judged.{Judged}
 use Rattle.exchange.proofs.Parts.{bad_not_fine, fine_after}
 use Rattle.exchange.proofs.Runs.{length_from, section_lies}
 use Rattle.exchange.proofs.Overs.{Placed, placed_rising, placed_roof}
@@ -29,18 +29,18 @@ use Rattle.exchange.proofs.Sets.{key_test, meter_test, model_test, key_of_lem, m
 
 -- ── Every part of the judgement is fine ─────────────────────────────────────────────────────────────────────────
 
-both_fine : (j k : Judged) → and_then j k ≡ Judged.Fine → (j ≡ Judged.Fine) × (k ≡ Judged.Fine)
+both_fine : (j k : Judged) → and_then j k ≡ Ok tt → (j ≡ Ok tt) × (k ≡ Ok tt)
 unfolding and_then
-both_fine Judged.Fine k h = (refl, h)
-both_fine (Judged.Bad at) k h = absurd (bad_not_fine h)
+both_fine (Ok tt) k h = (refl, h)
+both_fine (Err at) k h = absurd (bad_not_fine h)
 
 pub record AllFine (f : List ℕ) : Type 0 where
-  pub models : section_judged Section.Models f 1 1 0 ≡ Judged.Fine
-  pub meters : section_judged Section.Meters f (le_at f 0 count_width) 0 (meters_at f) ≡ Judged.Fine
-  pub certs : section_judged Section.Certificates f (le_at f (meters_at f) count_width) 0 (certs_at f) ≡ Judged.Fine
+  pub models : section_judged Section.Models f 1 1 0 ≡ Ok tt
+  pub meters : section_judged Section.Meters f (le_at f 0 count_width) 0 (meters_at f) ≡ Ok tt
+  pub certs : section_judged Section.Certificates f (le_at f (meters_at f) count_width) 0 (certs_at f) ≡ Ok tt
   pub ends : end_at f ≡ length f
 
-pub all_fine : (f : List ℕ) → judged f ≡ Judged.Fine → AllFine f
+pub all_fine : (f : List ℕ) → judged f ≡ Ok tt → AllFine f
 unfolding judged meters_judged certs_judged end_judged
 all_fine f h =
     let a = both_fine (section_judged Section.Models f 1 1 0) (meters_judged f) h in
@@ -48,7 +48,7 @@ all_fine f h =
     let c = both_fine (section_judged Section.Certificates f (le_at f (meters_at f) count_width) 0 (certs_at f)) (end_judged f) b.1 in
     record { models = a.0; meters = b.0; certs = c.0; ends = go (eqb (end_at f) (length f)) refl c.1 }
   where
-    go : (t : Bool) → eqb (end_at f) (length f) ≡ t → end_judged f ≡ Judged.Fine → end_at f ≡ length f
+    go : (t : Bool) → eqb (end_at f) (length f) ≡ t → end_judged f ≡ Ok tt → end_at f ≡ length f
     go true e j = eqb-true (end_at f) (length f) e
     go false e j = absurd (bad_not_fine (rw (end_judged, e) at j))
 
@@ -60,7 +60,7 @@ length-told f s ps at =
     length-entries_of (span s) ps (items_in s f at) ∙ length_from s f (le_at f at count_width) (at + count_width)
 
 module _ (f : List ℕ) (b : Bytes f) where
-  module _ (s : Section) (ps : List ℕ) (placed : Placed ps) (used at : ℕ) (r : rises_from (top ps used) (drop used ps) ≡ true) (j : section_judged s f (length ps) used at ≡ Judged.Fine) where
+  module _ (s : Section) (ps : List ℕ) (placed : Placed ps) (used at : ℕ) (r : rises_from (top ps used) (drop used ps) ≡ true) (j : section_judged s f (length ps) used at ≡ Ok tt) where
     numbers : all (λ (i : Item). ltb i.number (span s)) (items_in s f at) ≡ true
     unfolding items_in
     numbers = numbers_fit s f b (le_at f at count_width) (at + count_width)
@@ -85,7 +85,7 @@ module _ (f : List ℕ) (b : Bytes f) (fine : AllFine f) where
   unfolding top roof
   roof-left = rises-nil 0
 
-  models_fine : section_judged Section.Models f (length roof) 1 0 ≡ Judged.Fine
+  models_fine : section_judged Section.Models f (length roof) 1 0 ≡ Ok tt
   unfolding roof
   models_fine = fine.models
 
@@ -126,7 +126,7 @@ module _ (f : List ℕ) (b : Bytes f) (fine : AllFine f) where
   models-left : rises_from (top (models_in f) 0) (drop 0 (models_in f)) ≡ true
   models-left = rw (top_start (models_in f)) models_rise
 
-  meters_fine : section_judged Section.Meters f (length (models_in f)) 0 (meters_at f) ≡ Judged.Fine
+  meters_fine : section_judged Section.Meters f (length (models_in f)) 0 (meters_at f) ≡ Ok tt
   meters_fine = rw models-count fine.meters
 
   meters_tell : Telling (span Section.Meters) (models_in f) 0 0 (items_in Section.Meters f (meters_at f))
@@ -167,7 +167,7 @@ module _ (f : List ℕ) (b : Bytes f) (fine : AllFine f) where
   meters-left : rises_from (top (meters_in f) 0) (drop 0 (meters_in f)) ≡ true
   meters-left = rw (top_start (meters_in f)) meters_rise
 
-  certs_fine : section_judged Section.Certificates f (length (meters_in f)) 0 (certs_at f) ≡ Judged.Fine
+  certs_fine : section_judged Section.Certificates f (length (meters_in f)) 0 (certs_at f) ≡ Ok tt
   certs_fine = rw meters-count fine.certs
 
   certs_tell : Telling (span Section.Certificates) (meters_in f) 0 0 (items_in Section.Certificates f (certs_at f))

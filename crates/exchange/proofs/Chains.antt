@@ -1,4 +1,5 @@
 -- Items that follow each other to a section's end, which is what the judgement asks of them. Assumes nothing.
+use Rattle.std.specs.Prelude.{Ok}
 use mathlib.Core.Path.{◌≡◌, refl, ◌∙◌}
 use mathlib.Core.Logic.{◌⊎◌, inl, inr}
 use mathlib.Core.Bool.{true}
@@ -12,7 +13,6 @@ use Rattle.exchange.specs.Item.{Item, size, item_at}
 use Rattle.exchange.specs.Judged.{follows, items_judged}
 use Rattle.exchange.specs.Told.{items_from}
 use Rattle.exchange.specs.declared.Section.{Section}
-use Rattle.exchange.specs.declared.Judged.{Judged}
 use Rattle.exchange.proofs.Steps.{Followed, followed, follows_next, follows_same, items-end, items_on}
 use Rattle.exchange.proofs.Parts.{fine_first, fine_last}
 
@@ -31,7 +31,7 @@ followed_follows over used last place number h = go h.next
     go (inr e) = follows_same over used last place number h.real h.inside e.0 ∙ lt-ltb last number e.1
 
 module _ (s : Section) (f : List ℕ) (over : ℕ) where
-  pub fine_chain : (n at used last : ℕ) → items_judged s f over n at used last ≡ Judged.Fine → Chain over used last (items_from s f n at)
+  pub fine_chain : (n at used last : ℕ) → items_judged s f over n at used last ≡ Ok tt → Chain over used last (items_from s f n at)
   unfolding Chain items_from
   fine_chain zero at used last h = fine_last s f over at used last h
   fine_chain (suc n) at used last h =
@@ -39,7 +39,7 @@ module _ (s : Section) (f : List ℕ) (over : ℕ) where
       let i = item_at s f at in
       (followed over used last i.place i.number r.1, fine_chain n (at + size s) (i.place + 1) i.number r.2)
 
-  pub chain_fine : (n at used last : ℕ) → at + size s * n ≤ length f → Chain over used last (items_from s f n at) → items_judged s f over n at used last ≡ Judged.Fine
+  pub chain_fine : (n at used last : ℕ) → at + size s * n ≤ length f → Chain over used last (items_from s f n at) → items_judged s f over n at used last ≡ Ok tt
   unfolding Chain items_from
   chain_fine zero at used last p h = items-end s f over zero at used last refl h
   chain_fine (suc n) at used last p h =

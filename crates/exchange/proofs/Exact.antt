@@ -1,4 +1,5 @@
 -- A file is accepted exactly if it is the file of some set of certificates. Assumes nothing.
+use Rattle.std.specs.Prelude.{Ok, Err}
 use mathlib.Core.Path.{◌≡◌, refl, sym, ap, subst, ◌∙◌}
 use mathlib.Core.Bool.{true}
 use mathlib.Core.List.{List, [], ◌∷◌, ◌++◌}
@@ -11,12 +12,10 @@ use Rattle.fields.proofs.Number.{length-le}
 use Rattle.rules.specs.Entry.{Cert}
 use Rattle.exchange.specs.Item.{Item, place_width, number_width, value_width, size, span, count_width, item_bytes, items_bytes, section_bytes}
 use Rattle.exchange.specs.Written.{is_set, meters_of, models_of, items_of, bare, section_of, roof, file_of}
-use Rattle.exchange.specs.Judged.{certs_at, judged, counted, checked}
+use Rattle.exchange.specs.Judged.{Judged, Checked, certs_at, judged, counted, checked}
 use Rattle.exchange.specs.Told.{meters_in, certs_in}
 use Rattle.exchange.specs.Exact.{Exact}
 use Rattle.exchange.specs.declared.Section.{Section}
-use Rattle.exchange.specs.declared.Judged.{Judged}
-use Rattle.exchange.specs.declared.Checked.{Checked}
 use Rattle.exchange.proofs.Sizes.{size-models, size-meters, size-certs}
 use Rattle.exchange.proofs.Parts.{counted_bad, counted_fine}
 use Rattle.exchange.proofs.Runs.{length-items}
@@ -58,21 +57,21 @@ bytes-file cs =
 
 -- ── The check's count ───────────────────────────────────────────────────────────────────────────────────────────
 
-same_good : (m n : ℕ) → Checked.Good m ≡ Checked.Good n → m ≡ n
+same_good : (m n : ℕ) → ◌≡◌ {A = Checked} (Ok m) (Ok n) → m ≡ n
 same_good m n h = cc
 
-never-good : (at n : ℕ) → Checked.Bad at ≡ Checked.Good n → ⊥
+never-good : (at n : ℕ) → ◌≡◌ {A = Checked} (Err at) (Ok n) → ⊥
 never-good at n h = let z : ◌≡◌ {A = ℕ} 0 1 = cc in omega arith
 
-good_fine : (f : List ℕ) (n : ℕ) → checked f ≡ Checked.Good n → (judged f ≡ Judged.Fine) × (n ≡ le_at f (certs_at f) count_width)
+good_fine : (f : List ℕ) (n : ℕ) → checked f ≡ Ok n → (judged f ≡ Ok tt) × (n ≡ le_at f (certs_at f) count_width)
 unfolding checked
 good_fine f n h = go (judged f) refl
   where
-    go : (j : Judged) → judged f ≡ j → (judged f ≡ Judged.Fine) × (n ≡ le_at f (certs_at f) count_width)
-    go Judged.Fine e = (e, sym (same_good (le_at f (certs_at f) count_width) n (sym (ap (counted f) e ∙ counted_fine f) ∙ h)))
-    go (Judged.Bad at) e = absurd (never-good at n (sym (ap (counted f) e ∙ counted_bad f at) ∙ h))
+    go : (j : Judged) → judged f ≡ j → (judged f ≡ Ok tt) × (n ≡ le_at f (certs_at f) count_width)
+    go (Ok tt) e = (e, sym (same_good (le_at f (certs_at f) count_width) n (sym (ap (counted f) e ∙ counted_fine f) ∙ h)))
+    go (Err at) e = absurd (never-good at n (sym (ap (counted f) e ∙ counted_bad f at) ∙ h))
 
-count-told : (f : List ℕ) (n : ℕ) → checked f ≡ Checked.Good n → n ≡ length (certs_in f)
+count-told : (f : List ℕ) (n : ℕ) → checked f ≡ Ok n → n ≡ length (certs_in f)
 unfolding certs_in
 count-told f n h = (good_fine f n h).1 ∙ sym (length-told f Section.Certificates (meters_in f) (certs_at f))
 
@@ -110,8 +109,8 @@ exact = record {
 }
 
 -- so no other bytes are accepted, and those of the set that is told are
-pub accepted-of : (f : List ℕ) → is_set (certs_in f) ≡ true → f ≡ file_of (certs_in f) → judged f ≡ Judged.Fine
-accepted-of f h e = subst (λ (g : List ℕ). judged g ≡ Judged.Fine) (sym e) (exact.written (certs_in f) h)
+pub accepted-of : (f : List ℕ) → is_set (certs_in f) ≡ true → f ≡ file_of (certs_in f) → judged f ≡ Ok tt
+accepted-of f h e = subst (λ (g : List ℕ). judged g ≡ Ok tt) (sym e) (exact.written (certs_in f) h)
 
 -- no two sets share a file
 pub same_set : (cs ds : List Cert) → is_set cs ≡ true → is_set ds ≡ true → file_of cs ≡ file_of ds → cs ≡ ds

@@ -1,4 +1,5 @@
 -- One item of an accepted file, found by its place: where it lies, what it names, and which entry it is. Assumes nothing.
+use Rattle.std.specs.Prelude.{Ok}
 use mathlib.Core.Path.{◌≡◌, refl, sym, ap, subst, ◌∙◌}
 use mathlib.Core.List.{List, [], ◌∷◌}
 use Prim.Native.Nat.{ℕ, zero, suc, ◌+◌, ◌*◌, ◌/◌, ◌%◌, ◌^◌, ◌≤◌, ◌<◌}
@@ -12,10 +13,8 @@ use Rattle.rules.proofs.Entries.Rises.{get_d_keys}
 use Rattle.exchange.specs.Item.{Item, size, span, count_width, item_at}
 use Rattle.exchange.specs.Written.{roof}
 use Rattle.exchange.specs.Judged.{section_judged, after, meters_at, certs_at, judged}
-use Rattle.exchange.specs.Told.{items_from, items_in, entry_of, entries_of, told_by, models_in, meters_in, certs_in, meter_parts, cert_parts, cert_in}
+use Rattle.exchange.specs.Told.{items_from, items_in, entry_of, entries_of, told_by, models_in, meters_in, certs_in, cert_parts, cert_in}
 use Rattle.exchange.specs.declared.Section.{Section}
-use Rattle.exchange.specs.declared.Judged.{Judged}
-use Rattle.exchange.specs.declared.Meter.{Meter}
 use Rattle.exchange.specs.declared.Certificate.{Certificate}
 use Rattle.exchange.proofs.Sizes.{size-models, size-meters, size-certs, place-models, place-meters, place-certs, number-models, number-meters, number-certs, value-certs}
 use Rattle.exchange.proofs.Steps.{after_is}
@@ -71,7 +70,7 @@ module _ (s : Section) (f : List ℕ) (at i : ℕ) (h : i < le_at f at count_wid
   told_at ps e = entries_at (span s) ps (items_in s f at) i here e inside ∙ ap (entry_of (span s) ps) item-is
 
   -- what it names is there, and it lies within the file
-  module _ (over used : ℕ) (j : section_judged s f over used at ≡ Judged.Fine) where
+  module _ (over used : ℕ) (j : section_judged s f over used at ≡ Ok tt) where
     pub names_at : (item_at s f (at + count_width + size s * i)).place < over
     unfolding here
     names_at =
@@ -113,32 +112,27 @@ cert_told f i h =
 
 -- ── Their parts ─────────────────────────────────────────────────────────────────────────────────────────────────
 
-pub meter_parts_lem : (model serial m : ℕ) → m ≡ model * 2 ^ 32 + serial → serial < 2 ^ 32 → ◌≡◌ {A = Meter} (record { model = model; serial = serial }) (meter_parts m)
-unfolding meter_parts
-meter_parts_lem model serial m e h =
-    let x : model ≡ m / 2 ^ 32 = omega arith in
-    let y : serial ≡ m % 2 ^ 32 = omega arith in
-    λ j. record { model = x j; serial = y j }
-
-pub cert_parts_lem : (meter : Meter) (m issue value : ℕ) → meter ≡ meter_parts m → issue < 2 ^ 16
-    → ◌≡◌ {A = Certificate} (record { model = meter.model; serial = meter.serial; issue = issue; «record» = value }) (cert_parts (record { key = m * 2 ^ 16 + issue; value = value }))
-unfolding meter_parts cert_parts model_of serial_of issue_of
-cert_parts_lem meter m issue value e h =
-    let x : meter.model ≡ (m * 2 ^ 16 + issue) / 2 ^ 48 = ap (λ (r : Meter). r.model) e ∙ omega arith in
-    let y : meter.serial ≡ (m * 2 ^ 16 + issue) / 2 ^ 16 % 2 ^ 32 = ap (λ (r : Meter). r.serial) e ∙ omega arith in
-    let z : issue ≡ (m * 2 ^ 16 + issue) % 2 ^ 16 = omega arith in
+pub cert_parts_lem : (model serial issue value meter : ℕ) → meter ≡ model * 2 ^ 32 + serial → serial < 2 ^ 32 → issue < 2 ^ 16
+    → ◌≡◌ {A = Certificate} (record { model = model; serial = serial; issue = issue; «record» = value }) (cert_parts (record { key = meter * 2 ^ 16 + issue; value = value }))
+unfolding cert_parts model_of serial_of issue_of
+cert_parts_lem model serial issue value meter e h k =
+    let a : model ≡ meter / 2 ^ 32 = omega arith in
+    let b : serial ≡ meter % 2 ^ 32 = omega arith in
+    let x : model ≡ (meter * 2 ^ 16 + issue) / 2 ^ 48 = a ∙ omega arith in
+    let y : serial ≡ (meter * 2 ^ 16 + issue) / 2 ^ 16 % 2 ^ 32 = b ∙ omega arith in
+    let z : issue ≡ (meter * 2 ^ 16 + issue) % 2 ^ 16 = omega arith in
     λ j. record { model = x j; serial = y j; issue = z j; «record» = value }
 
--- read at its byte
+-- read at its byte, its meter at the meter's and its model at the model's
 pub cert_made : (f : List ℕ) (i at : ℕ) → i < le_at f (certs_at f) count_width → at ≡ certs_at f + count_width + size Section.Certificates * i
-    → (meter : Meter) (issue value : ℕ) → meter ≡ meter_parts (get_or (meters_in f) (le_at f at 4) 0) → issue ≡ le_at f (at + 4) 2 → value ≡ le_at f (at + 6) 4 → issue < 2 ^ 16
-    → ◌≡◌ {A = Certificate} (record { model = meter.model; serial = meter.serial; issue = issue; «record» = value }) (cert_in f i)
-cert_made f i at h e meter issue value em ei ev l =
-    cert_parts_lem meter (get_or (meters_in f) (le_at f at 4) 0) issue value em l ∙ sym (cert_told f i h ∙ rw (sym e, sym ei, sym ev))
+    → (model serial issue value : ℕ) → get_or (meters_in f) (le_at f at 4) 0 ≡ model * 2 ^ 32 + serial → issue ≡ le_at f (at + 4) 2 → value ≡ le_at f (at + 6) 4
+    → serial < 2 ^ 32 → issue < 2 ^ 16 → ◌≡◌ {A = Certificate} (record { model = model; serial = serial; issue = issue; «record» = value }) (cert_in f i)
+cert_made f i at h e model serial issue value em ei ev k l =
+    cert_parts_lem model serial issue value (get_or (meters_in f) (le_at f at 4) 0) em k l ∙ sym (cert_told f i h ∙ rw (sym e, sym ei, sym ev))
 
 -- ── In an accepted file ─────────────────────────────────────────────────────────────────────────────────────────
 
-module _ (f : List ℕ) (fine : judged f ≡ Judged.Fine) where
+module _ (f : List ℕ) (fine : judged f ≡ Ok tt) where
   pub models-end : after Section.Models f 0 ≤ length f
   models-end = fine_after Section.Models f 1 1 0 (all_fine f fine).models
 
@@ -173,3 +167,35 @@ module _ (f : List ℕ) (fine : judged f ≡ Judged.Fine) where
 
     pub cert_room : at + 10 ≤ length f
     cert_room = omega (arith, cert_spot, cert_lies i h)
+
+    -- its meter, by the place that is read there
+    module _ (j : ℕ) (ej : j ≡ le_at f at 4) where
+      meter_there : j < le_at f (meters_at f) count_width
+      meter_there = omega (arith, ej, ap (λ (k : ℕ). le_at f k 4) cert_spot, cert_names i h)
+
+      module _ (by : ℕ) (eb : by ≡ m + count_width + size Section.Meters * j) where
+        meter_spot : by ≡ meters_at f + count_width + size Section.Meters * j
+        meter_spot = eb ∙ ap (λ (k : ℕ). k + count_width + size Section.Meters * j) (meters_at_by f em)
+
+        pub meter_room : by + 6 ≤ length f
+        meter_room = omega (arith, meter_spot, meter-lies j meter_there)
+
+        -- and the meter's model
+        module _ (k : ℕ) (ek : k ≡ le_at f by 2) where
+          model_there : k < le_at f 0 count_width
+          model_there = omega (arith, ek, ap (λ (x : ℕ). le_at f x 2) meter_spot, meter-names j meter_there)
+
+          pub model_room : count_width + size Section.Models * k + 2 ≤ length f
+          model_room = model-lies k model_there
+
+          pub meter_made : (model serial : ℕ) → model ≡ le_at f (count_width + size Section.Models * k) 2 → serial ≡ le_at f (by + 2) 4
+              → get_or (meters_in f) (le_at f at 4) 0 ≡ model * 2 ^ 32 + serial
+          meter_made model serial e1 e2 =
+              let spot = meters_at f + count_width + size Section.Meters * j in
+              let x : le_at f spot 2 ≡ k = sym (ek ∙ ap (λ (x : ℕ). le_at f x 2) meter_spot) in
+              let y : get_or (models_in f) (le_at f spot 2) 0 ≡ model = ap (λ (x : ℕ). get_or (models_in f) x 0) x ∙ model-told f k model_there ∙ sym e1 in
+              let z : le_at f (spot + 2) 4 ≡ serial = ap (λ (x : ℕ). le_at f (x + 2) 4) (sym meter_spot) ∙ sym e2 in
+              ap (λ (x : ℕ). get_or (meters_in f) x 0) (sym ej)
+              ∙ meter-told f j meter_there
+              ∙ ap (λ (x : ℕ). x * 2 ^ 32 + le_at f (spot + 2) 4) y
+              ∙ ap (λ (x : ℕ). model * 2 ^ 32 + x) z

@@ -1,4 +1,6 @@
 -- The rule of a file that is read into a store, case by case. Assumes nothing.
+use Rattle.std.specs.Prelude.{Ok, Err}
+use Rattle.exchange.specs.declared.ReadError.{ReadError}
 use Prim.Native.Nat.{ℕ, zero, suc, ◌<◌}
 use native.Mathlib.Omega.{arith}
 use mathlib.Core.Path.{◌≡◌, refl, sym, ap, ◌∙◌}
@@ -14,55 +16,52 @@ use Rattle.rules.specs.declared.Batched.{Batched}
 use Rattle.rules.specs.History.{State, run}
 use Rattle.rules.proofs.Demand1.Batches.{batch_refused, batch-done}
 use Rattle.rules.proofs.Demand3.Histories.Batches.{row_of, Leaves, batch-is_row}
-use Rattle.exchange.specs.Judged.{judged, counted, checked}
+use Rattle.exchange.specs.Judged.{Judged, Checked, judged, counted, checked}
 use Rattle.exchange.specs.Told.{cert_parts, certs_in}
 use Rattle.exchange.specs.ReadFile.{as_item, as_items, read_refused, read_done, read_by, read_file}
-use Rattle.exchange.specs.declared.Judged.{Judged}
-use Rattle.exchange.specs.declared.Checked.{Checked}
-use Rattle.exchange.specs.declared.Read.{Read}
 use Rattle.exchange.proofs.Parts.{counted_bad, counted_fine}
 
 -- ── What the check says of a file that is refused ───────────────────────────────────────────────────────────────
 
-pub bad_judged : (f : List ℕ) (at : ℕ) → checked f ≡ Checked.Bad at → judged f ≡ Judged.Bad at
+pub bad_judged : (f : List ℕ) (at : ℕ) → checked f ≡ Err at → judged f ≡ Err at
 unfolding checked
 bad_judged f at h = go (judged f) refl
   where
-    good_or_bad : (n : ℕ) → Checked.Good n ≡ Checked.Bad at → ⊥
+    good_or_bad : (n : ℕ) → ◌≡◌ {A = Checked} (Ok n) (Err at) → ⊥
     good_or_bad n e = let z : ◌≡◌ {A = ℕ} 0 1 = cc in omega arith
 
-    same_place : (place : ℕ) → Checked.Bad place ≡ Checked.Bad at → place ≡ at
+    same_place : (place : ℕ) → ◌≡◌ {A = Checked} (Err place) (Err at) → place ≡ at
     same_place place e = cc
 
-    go : (j : Judged) → judged f ≡ j → judged f ≡ Judged.Bad at
-    go Judged.Fine e = absurd (good_or_bad _ (sym (ap (counted f) e ∙ counted_fine f) ∙ h))
-    go (Judged.Bad place) e = e ∙ ap Judged.Bad (same_place place (sym (ap (counted f) e ∙ counted_bad f place) ∙ h))
+    go : (j : Judged) → judged f ≡ j → judged f ≡ Err at
+    go (Ok tt) e = absurd (good_or_bad _ (sym (ap (counted f) e ∙ counted_fine f) ∙ h))
+    go (Err place) e = e ∙ ap Err (same_place place (sym (ap (counted f) e ∙ counted_bad f place) ∙ h))
 
 -- ── The call ────────────────────────────────────────────────────────────────────────────────────────────────────
 
 module _ (w t : List ℕ) (s : Session) (f : List ℕ) where
-  pub read_length : lengths_for s w t ≡ false → read_file w t s f ≡ read_refused Read.Length w t s
+  pub read_length : lengths_for s w t ≡ false → read_file w t s f ≡ read_refused (Err ReadError.Length) w t s
   unfolding read_file
   read_length h = rw (read_file, h)
 
   -- a refused file leaves everything as it was, and reports nothing
-  pub read_bad : lengths_for s w t ≡ true → (at : ℕ) → judged f ≡ Judged.Bad at → read_file w t s f ≡ read_refused (Read.File at) w t s
+  pub read_bad : lengths_for s w t ≡ true → (at : ℕ) → judged f ≡ Err at → read_file w t s f ≡ read_refused (Err (ReadError.File at)) w t s
   unfolding read_file read_by
   read_bad h at e = rw (read_file, h, e, read_by)
 
   -- an accepted one goes in as a batch of its certificates
-  pub read-batch : lengths_for s w t ≡ true → judged f ≡ Judged.Fine → read_file w t s f ≡ read_done (batch w t s (as_items (certs_in f)))
+  pub read-batch : lengths_for s w t ≡ true → judged f ≡ Ok tt → read_file w t s f ≡ read_done (batch w t s (as_items (certs_in f)))
   unfolding read_file read_by
   read-batch h e = rw (read_file, h, e, read_by)
 
-  pub read_fine : lengths_for s w t ≡ true → judged f ≡ Judged.Fine
+  pub read_fine : lengths_for s w t ≡ true → judged f ≡ Ok tt
       → let m = between w s nothing in
       let xs = as_items (certs_in f) in
       read_file w t s f ≡ read_done (batch_left Batched.Done t (after_items t m xs) (items_answered t m xs))
   read_fine h e = read-batch h e ∙ ap read_done (batch-done w t s (as_items (certs_in f)) h)
 
 -- in a history it is a row of inserts, the refused ones included
-pub read-is_row : (m : State) (f : List ℕ) → judged f ≡ Judged.Fine
+pub read-is_row : (m : State) (f : List ℕ) → judged f ≡ Ok tt
     → let r = (read_file m.working m.stable m.session f).left in
     Leaves r.working r.stable r.session (run (row_of (as_items (certs_in f))) m)
 read-is_row m f e = go (lengths_for m.session m.working m.stable) refl

@@ -1,4 +1,5 @@
 -- A section that was written is judged fine; one that is judged fine tells of entries in order. Assumes nothing.
+use Rattle.std.specs.Prelude.{Ok}
 use mathlib.Core.Path.{◌≡◌, refl, sym, ap, subst, ◌∙◌}
 use mathlib.Core.Bool.{true}
 use mathlib.Core.List.{List, [], ◌∷◌}
@@ -18,7 +19,6 @@ use Rattle.exchange.specs.Written.{item_of, items_of, bare}
 use Rattle.exchange.specs.Judged.{section_judged}
 use Rattle.exchange.specs.Told.{items_from, items_in, entry_of, entries_of}
 use Rattle.exchange.specs.declared.Section.{Section}
-use Rattle.exchange.specs.declared.Judged.{Judged}
 use Rattle.exchange.proofs.Sizes.{span_width}
 use Rattle.exchange.proofs.Steps.{after_is, section_on}
 use Rattle.exchange.proofs.Parts.{fine_count}
@@ -87,7 +87,7 @@ chain_fits s over ps m (e ∷ es) used last v c =
     (chain_fits s over ps m es ((item_of (span s) ps e).place + 1) (e.key % span s) (all_tail (λ (e : Cert). ltb e.value (256 ^ value_width s)) e es v) c.1)
 
 pub section_fine : (s : Section) (f : List ℕ) (over used at : ℕ) (is : List Item) (rest : List ℕ) → Stands s f at is rest → Chain over used 0 is
-    → section_judged s f over used at ≡ Judged.Fine
+    → section_judged s f over used at ≡ Ok tt
 unfolding items_in
 section_fine s f over used at is rest st c =
     let e = after_is s f at in
@@ -113,7 +113,7 @@ module _ (s : Section) (f : List ℕ) (h : Bytes f) where
       (lt-ltb (item_at s f at).value (256 ^ value_width s) (le_at-bound f (at + place_width s + number_width s) (value_width s) h))
       (values-fit n (at + size s))
 
-pub section_chain : (s : Section) (f : List ℕ) (over used at : ℕ) → section_judged s f over used at ≡ Judged.Fine → Chain over used 0 (items_in s f at)
+pub section_chain : (s : Section) (f : List ℕ) (over used at : ℕ) → section_judged s f over used at ≡ Ok tt → Chain over used 0 (items_in s f at)
 unfolding items_in
 section_chain s f over used at j =
     fine_chain s f over (le_at f at count_width) (at + count_width) used 0 (fine_count s f over used at j).1

@@ -1,11 +1,12 @@
 -- The judgement of a section, step by step: the item that ends it, the next one, and what it leaves. Assumes nothing.
+use Rattle.std.specs.Prelude.{Ok, Err}
 use mathlib.Core.Path.{◌≡◌, refl, sym}
 use mathlib.Core.Logic.{◌⊎◌, inl, inr}
 use mathlib.Core.Bool.{Bool, true, false, ◌&&◌}
 use mathlib.Core.List.{List, [], ◌∷◌}
 use Prim.Native.Nat.{ℕ, zero, suc, ◌+◌, ◌-◌, ◌*◌, ◌≤◌, ◌<◌}
 use native.Mathlib.Omega.{arith}
-use borrow.Author.Tests.{ltb-true, lt-ltb, le-ltb, leb-true, le-leb, lt-leb, eqb-true, eq-eqb, ne_eqb}
+use borrow.Author.Tests.{ltb-true, lt-ltb, le-ltb, leb-true, leb-false, le-leb, lt-leb, eqb-true, eq-eqb, ne_eqb}
 use lib.Dec.{leb, ltb, eqb}
 use lib.ListN.{length}
 use Rattle.fields.specs.Field.{le_at}
@@ -14,7 +15,6 @@ use Rattle.rules.proofs.Entries.Tests.{and_left, and_right, or_cases, every_true
 use Rattle.exchange.specs.Item.{size, count_width, item_at}
 use Rattle.exchange.specs.Judged.{within, is_above, follows, items_judged, section_judged, after}
 use Rattle.exchange.specs.declared.Section.{Section}
-use Rattle.exchange.specs.declared.Judged.{Judged}
 
 -- ── One item ────────────────────────────────────────────────────────────────────────────────────────────────────
 
@@ -27,6 +27,10 @@ module _ (over used last place number : ℕ) where
   unfolding follows every
   follows_beyond a b = rw (lt-ltb 0 number a, le-ltb place over b)
 
+  pub follows-outside : (number ≡ 0) ⊎ ((number ≡ 0 → ⊥) × (over ≤ place)) → follows over used last place number ≡ false
+  follows-outside (inl e) = follows-zero e
+  follows-outside (inr h) = follows_beyond (omega (arith, h.0)) h.1
+
   pub follows-passes : 0 < number → place < over → used < place → follows over used last place number ≡ false
   unfolding follows every is_above
   follows-passes a b c = rw (lt-ltb 0 number a, lt-ltb place over b, le-leb used place (omega arith), lt-leb place used c)
@@ -38,6 +42,14 @@ module _ (over used last place number : ℕ) where
   pub follows-below : 0 < number → place < over → place + 1 < used → follows over used last place number ≡ false
   unfolding follows every is_above
   follows-below a b c = rw (lt-ltb 0 number a, lt-ltb place over b, lt-leb used place (omega arith), ne_eqb used (place + 1) (λ e. omega arith))
+
+  -- its place is neither the one before's nor the next
+  pub follows-apart : 0 < number → place < over → (place ≡ used → ⊥) → (place + 1 ≡ used → ⊥) → follows over used last place number ≡ false
+  follows-apart a b c d = go (leb used place) refl
+    where
+      go : (t : Bool) → leb used place ≡ t → follows over used last place number ≡ false
+      go true e = follows-passes a b (omega (arith, leb-true used place e))
+      go false e = follows-below a b (omega (arith, leb-false used place e))
 
   pub follows_same : 0 < number → place < over → place + 1 ≡ used → follows over used last place number ≡ ltb last number
   unfolding follows every is_above
@@ -72,28 +84,28 @@ followed over used last place number h =
 -- ── The items of a section ──────────────────────────────────────────────────────────────────────────────────────
 
 module _ (s : Section) (f : List ℕ) (over left at used last : ℕ) where
-  pub items-end : left ≡ 0 → used ≡ over → items_judged s f over left at used last ≡ Judged.Fine
+  pub items-end : left ≡ 0 → used ≡ over → items_judged s f over left at used last ≡ Ok tt
   unfolding items_judged
   items-end e h = rw (e, items_judged, eq-eqb used over h)
 
-  pub items-bare : left ≡ 0 → (used ≡ over → ⊥) → items_judged s f over left at used last ≡ Judged.Bad at
+  pub items-bare : left ≡ 0 → (used ≡ over → ⊥) → items_judged s f over left at used last ≡ Err at
   unfolding items_judged
   items-bare e h = rw (e, items_judged, ne_eqb used over h)
 
-  pub items-cut : 0 < left → length f < at + size s → items_judged s f over left at used last ≡ Judged.Bad at
+  pub items-cut : 0 < left → length f < at + size s → items_judged s f over left at used last ≡ Err at
   unfolding items_judged within
   items-cut p h = go left p
     where
-      go : (n : ℕ) → 0 < n → items_judged s f over n at used last ≡ Judged.Bad at
+      go : (n : ℕ) → 0 < n → items_judged s f over n at used last ≡ Err at
       go zero q = absurd (omega arith)
       go (suc n) q = rw (items_judged, lt-leb (at + size s) (length f) h)
 
   module _ (h : at + size s ≤ length f) (p : 0 < left) where
-    bad_item : follows over used last (item_at s f at).place (item_at s f at).number ≡ false → items_judged s f over left at used last ≡ Judged.Bad at
+    bad_item : follows over used last (item_at s f at).place (item_at s f at).number ≡ false → items_judged s f over left at used last ≡ Err at
     unfolding items_judged within
     bad_item t = go left p
       where
-        go : (n : ℕ) → 0 < n → items_judged s f over n at used last ≡ Judged.Bad at
+        go : (n : ℕ) → 0 < n → items_judged s f over n at used last ≡ Err at
         go zero q = absurd (omega arith)
         go (suc n) q = rw (items_judged, le-leb (at + size s) (length f) h, t)
 
@@ -110,7 +122,7 @@ module _ (s : Section) (f : List ℕ) (over left at used last : ℕ) where
 
   -- the item at `at`, as it was read
   module _ (w place number : ℕ) (ew : w ≡ size s) (ep : place ≡ (item_at s f at).place) (en : number ≡ (item_at s f at).number) (h : at + w ≤ length f) (p : 0 < left) where
-    pub items_bad : follows over used last place number ≡ false → items_judged s f over left at used last ≡ Judged.Bad at
+    pub items_bad : follows over used last place number ≡ false → items_judged s f over left at used last ≡ Err at
     items_bad t = bad_item (omega (arith, ew)) p (rw (sym ep, sym en) t)
 
     pub items_on : follows over used last place number ≡ true → items_judged s f over left at used last ≡ items_judged s f over (left - 1) (at + w) (place + 1) number
@@ -123,7 +135,7 @@ unfolding after
 after_is s f at = refl
 
 module _ (s : Section) (f : List ℕ) (over used at : ℕ) where
-  pub section_cut : length f < at + count_width → section_judged s f over used at ≡ Judged.Bad at
+  pub section_cut : length f < at + count_width → section_judged s f over used at ≡ Err at
   unfolding section_judged within
   section_cut h = rw (section_judged, lt-leb (at + count_width) (length f) h)
 

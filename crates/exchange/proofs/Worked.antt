@@ -1,4 +1,5 @@
 -- Worked cases: a file byte by byte, and where files that are not one are bad. Assumes nothing.
+use Rattle.std.specs.Prelude.{Ok, Err}
 use mathlib.Core.Path.{◌≡◌, refl}
 use mathlib.Core.List.{List, [], ◌∷◌, ◌++◌}
 use Prim.Native.Nat.{ℕ}
@@ -8,8 +9,6 @@ use Rattle.rules.specs.Entry.{Cert}
 use Rattle.exchange.specs.Written.{file_of}
 use Rattle.exchange.specs.Judged.{judged, checked}
 use Rattle.exchange.specs.Told.{certs_in}
-use Rattle.exchange.specs.declared.Judged.{Judged}
-use Rattle.exchange.specs.declared.Checked.{Checked}
 use Rattle.exchange.proofs.Computing.{exchange}
 
 -- an empty store gives twelve zero bytes
@@ -17,7 +16,7 @@ no_certs : file_of [] ≡ replicate 12 0
 unfolding exchange
 no_certs = refl
 
-no_certs-told : checked (replicate 12 0) ≡ Checked.Good 0
+no_certs-told : checked (replicate 12 0) ≡ Ok 0
 unfolding exchange
 no_certs-told = refl
 
@@ -51,7 +50,7 @@ written : file_of four ≡ file
 unfolding exchange cert four models meters certs file
 written = refl
 
-read : checked file ≡ Checked.Good 4
+read : checked file ≡ Ok 4
 unfolding exchange models meters certs file
 read = refl
 
@@ -62,49 +61,49 @@ told = refl
 -- ── Bad files ───────────────────────────────────────────────────────────────────────────────────────────────────
 
 -- no byte at all: the first count is cut off
-nothing_there : judged [] ≡ Judged.Bad 0
+nothing_there : judged [] ≡ Err 0
 unfolding exchange
 nothing_there = refl
 
 -- a count larger than the file is not bad itself: the first model that is missing is
-count_too_large : judged (255 ∷ 255 ∷ 255 ∷ 255 ∷ 7 ∷ 0 ∷ 44 ∷ []) ≡ Judged.Bad 6
+count_too_large : judged (255 ∷ 255 ∷ 255 ∷ 255 ∷ 7 ∷ 0 ∷ 44 ∷ []) ≡ Err 6
 unfolding exchange
 count_too_large = refl
 
 -- the count of the meters is cut off; it would begin behind the file
-meters-missing : judged models ≡ Judged.Bad 8
+meters-missing : judged models ≡ Err 8
 unfolding exchange models
 meters-missing = refl
 
 -- a model that is zero, and one that is not above the one before it
-model-zero : judged (1 ∷ 0 ∷ 0 ∷ 0 ∷ 0 ∷ 0 ∷ []) ≡ Judged.Bad 4
+model-zero : judged (1 ∷ 0 ∷ 0 ∷ 0 ∷ 0 ∷ 0 ∷ []) ≡ Err 4
 unfolding exchange
 model-zero = refl
 
-model-again : judged (2 ∷ 0 ∷ 0 ∷ 0 ∷ 7 ∷ 0 ∷ 7 ∷ 0 ∷ []) ≡ Judged.Bad 6
+model-again : judged (2 ∷ 0 ∷ 0 ∷ 0 ∷ 7 ∷ 0 ∷ 7 ∷ 0 ∷ []) ≡ Err 6
 unfolding exchange
 model-again = refl
 
 -- a certificate that names a place beyond the meters
-cert_beyond : judged (1 ∷ 0 ∷ 0 ∷ 0 ∷ 7 ∷ 0 ∷ 1 ∷ 0 ∷ 0 ∷ 0 ∷ 0 ∷ 0 ∷ 1 ∷ 0 ∷ 0 ∷ 0 ∷ 1 ∷ 0 ∷ 0 ∷ 0 ∷ 1 ∷ 0 ∷ 0 ∷ 0 ∷ 1 ∷ 0 ∷ 5 ∷ 0 ∷ 0 ∷ 0 ∷ []) ≡ Judged.Bad 20
+cert_beyond : judged (1 ∷ 0 ∷ 0 ∷ 0 ∷ 7 ∷ 0 ∷ 1 ∷ 0 ∷ 0 ∷ 0 ∷ 0 ∷ 0 ∷ 1 ∷ 0 ∷ 0 ∷ 0 ∷ 1 ∷ 0 ∷ 0 ∷ 0 ∷ 1 ∷ 0 ∷ 0 ∷ 0 ∷ 1 ∷ 0 ∷ 5 ∷ 0 ∷ 0 ∷ 0 ∷ []) ≡ Err 20
 unfolding exchange
 cert_beyond = refl
 
 -- a model without a meter, when the meters end
-model-bare : judged (models ++ (1 ∷ 0 ∷ 0 ∷ 0 ∷ 0 ∷ 0 ∷ 1 ∷ 0 ∷ 0 ∷ 0 ∷ [])) ≡ Judged.Bad 18
+model-bare : judged (models ++ (1 ∷ 0 ∷ 0 ∷ 0 ∷ 0 ∷ 0 ∷ 1 ∷ 0 ∷ 0 ∷ 0 ∷ [])) ≡ Err 18
 unfolding exchange models
 model-bare = refl
 
 -- meters under the models 0, 2 and 1: the one under 2 passes over 1, whatever follows it
-meter-passes : judged (3 ∷ 0 ∷ 0 ∷ 0 ∷ 7 ∷ 0 ∷ 8 ∷ 0 ∷ 9 ∷ 0 ∷ 3 ∷ 0 ∷ 0 ∷ 0 ∷ 0 ∷ 0 ∷ 1 ∷ 0 ∷ 0 ∷ 0 ∷ 2 ∷ 0 ∷ 1 ∷ 0 ∷ 0 ∷ 0 ∷ 1 ∷ 0 ∷ 1 ∷ 0 ∷ 0 ∷ 0 ∷ []) ≡ Judged.Bad 20
+meter-passes : judged (3 ∷ 0 ∷ 0 ∷ 0 ∷ 7 ∷ 0 ∷ 8 ∷ 0 ∷ 9 ∷ 0 ∷ 3 ∷ 0 ∷ 0 ∷ 0 ∷ 0 ∷ 0 ∷ 1 ∷ 0 ∷ 0 ∷ 0 ∷ 2 ∷ 0 ∷ 1 ∷ 0 ∷ 0 ∷ 0 ∷ 1 ∷ 0 ∷ 1 ∷ 0 ∷ 0 ∷ 0 ∷ []) ≡ Err 20
 unfolding exchange
 meter-passes = refl
 
 -- a meter without a certificate, when the certificates end, is told at the same byte as a surplus one
-meter-bare : judged (models ++ (meters ++ (0 ∷ 0 ∷ 0 ∷ 0 ∷ []))) ≡ Judged.Bad 34
+meter-bare : judged (models ++ (meters ++ (0 ∷ 0 ∷ 0 ∷ 0 ∷ []))) ≡ Err 34
 unfolding exchange models meters
 meter-bare = refl
 
-surplus : judged (file ++ (0 ∷ [])) ≡ Judged.Bad 74
+surplus : judged (file ++ (0 ∷ [])) ≡ Err 74
 unfolding exchange models meters certs file
 surplus = refl

@@ -1,4 +1,5 @@
 -- The file of a set is accepted, and tells of that set. Assumes nothing.
+use Rattle.std.specs.Prelude.{Ok}
 use mathlib.Core.Path.{◌≡◌, refl, sym, ap, ◌∙◌}
 use mathlib.Core.Bool.{true}
 use mathlib.Core.List.{List, [], ◌∷◌, ◌++◌, append-nil}
@@ -16,7 +17,6 @@ use Rattle.exchange.specs.Written.{meters_of, models_of, items_of, bare, section
 use Rattle.exchange.specs.Judged.{meters_at, certs_at, end_at, meters_judged, certs_judged, end_judged, judged}
 use Rattle.exchange.specs.Told.{entries_of, told_by, models_in, meters_in, certs_in}
 use Rattle.exchange.specs.declared.Section.{Section}
-use Rattle.exchange.specs.declared.Judged.{Judged}
 use Rattle.exchange.proofs.Parts.{then_fine, models_by, meters_by, certs_by, end_fine}
 use Rattle.exchange.proofs.Runs.{AllFit, Stands, section_stands}
 use Rattle.exchange.proofs.Overs.{placed_rising, placed_roof, over_none}
@@ -142,7 +142,7 @@ module _ (cs : List Cert) (h : SetFacts cs) where
       let e = ap (λ (l : List ℕ). length l) third-stands.behind in
       omega (arith, e, length-drop (end_at f) f, third-stands.ends)
 
-  pub accepted : judged (file_of cs) ≡ Judged.Fine
+  pub accepted : judged (file_of cs) ≡ Ok tt
   unfolding f first second third roof
   accepted =
       models_by f (sym (section_fine Section.Models f 1 1 0 first rest1 first-stands models_write.chain))

@@ -1,17 +1,20 @@
 -- A file is read into a store (K9): judged first, before anything is entered; then the certificates of an accepted one go in as
 -- the items of a batch do, in the file's order, and the call says how many answered 0.
-use Rattle.std.specs.Prelude.{ℕ, suc, true, false, List, [], ◌∷◌, eqb}
+use Rattle.std.specs.Prelude.{ℕ, suc, true, false, List, [], ◌∷◌, eqb, Result, Ok, Err}
 use Rattle.rules.specs.Entry.{Cert}
 use Rattle.rules.specs.Report.{Reported, nothing}
 use Rattle.rules.specs.Call.{Left, lengths_for}
 use Rattle.rules.specs.Batch.{BatchLeft, batch}
 use Rattle.rules.specs.declared.Session.{Session}
 use Rattle.rules.specs.declared.Item.{Item}
-use Rattle.exchange.specs.Judged.{judged}
+use Rattle.exchange.specs.Judged.{Judged, judged}
 use Rattle.exchange.specs.Told.{cert_parts, certs_in}
 use Rattle.exchange.specs.declared.Certificate.{Certificate}
-use Rattle.exchange.specs.declared.Judged.{Judged}
-use Rattle.exchange.specs.declared.Read.{Read}
+use Rattle.exchange.specs.declared.ReadError.{ReadError}
+
+-- what the call answers: how many were done, or why it was refused
+abbrev pub Read : Type 0
+Read = Result ℕ ReadError
 
 -- a certificate as an item of a batch
 unfoldable pub as_item : Certificate → Item
@@ -37,7 +40,7 @@ read_refused answer w t s = record {
 abbrev pub read_done : Reported BatchLeft → Reported (Left Read)
 read_done b = record {
   left = record {
-    answer = Read.Done (done_in b.left.items);
+    answer = Ok (done_in b.left.items);
     session = b.left.session;
     working = b.left.working;
     stable = b.left.stable;
@@ -47,25 +50,25 @@ read_done b = record {
 
 -- by the judgement of the file
 unfoldable pub read_by : Judged → List ℕ → List ℕ → Session → List ℕ → Reported (Left Read)
-read_by (Judged.Bad at) w t s f = read_refused (Read.File at) w t s
-read_by Judged.Fine w t s f = read_done (batch w t s (as_items (certs_in f)))
+read_by (Err at) w t s f = read_refused (Err (ReadError.File at)) w t s
+read_by (Ok tt) w t s f = read_done (batch w t s (as_items (certs_in f)))
 
 unfoldable pub read_file : List ℕ → List ℕ → Session → List ℕ → Reported (Left Read)
 read_file w t s f =
-    elim (lengths_for s w t) [ false ↦ read_refused Read.Length w t s | true ↦ read_by (judged f) w t s f ]
+    elim (lengths_for s w t) [ false ↦ read_refused (Err ReadError.Length) w t s | true ↦ read_by (judged f) w t s f ]
 
 -- the paper's numbers: the answer, how many were done, and the byte place, which are 0 beside any other answer
 unfoldable pub read_no : Read → ℕ
-read_no (Read.Done k) = 0
-read_no Read.Length = 1
-read_no (Read.File at) = 11
+read_no (Ok k) = 0
+read_no (Err ReadError.Length) = 1
+read_no (Err (ReadError.File at)) = 11
 
 unfoldable pub read_count : Read → ℕ
-read_count (Read.Done k) = k
-read_count Read.Length = 0
-read_count (Read.File at) = 0
+read_count (Ok k) = k
+read_count (Err ReadError.Length) = 0
+read_count (Err (ReadError.File at)) = 0
 
 unfoldable pub read_place : Read → ℕ
-read_place (Read.Done k) = 0
-read_place Read.Length = 0
-read_place (Read.File at) = at
+read_place (Ok k) = 0
+read_place (Err ReadError.Length) = 0
+read_place (Err (ReadError.File at)) = at

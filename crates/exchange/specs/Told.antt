@@ -1,5 +1,5 @@
 -- Which certificates a file tells of, as its counts and places have it. It is asked of accepted files only.
-use Rattle.std.specs.Prelude.{ℕ, zero, suc, ◌+◌, ◌*◌, ◌/◌, ◌%◌, ◌^◌, List, [], ◌∷◌, get_or}
+use Rattle.std.specs.Prelude.{ℕ, zero, suc, ◌+◌, ◌*◌, List, [], ◌∷◌, get_or}
 use Rattle.fields.specs.Field.{le_at}
 use Rattle.rules.specs.Key.{model_of, serial_of, issue_of}
 use Rattle.rules.specs.Entry.{Cert, keys}
@@ -7,7 +7,6 @@ use Rattle.exchange.specs.Item.{Item, size, span, count_width, item_at}
 use Rattle.exchange.specs.Written.{roof}
 use Rattle.exchange.specs.Judged.{meters_at, certs_at}
 use Rattle.exchange.specs.declared.Section.{Section}
-use Rattle.exchange.specs.declared.Meter.{Meter}
 use Rattle.exchange.specs.declared.Certificate.{Certificate}
 
 -- so many items from a byte on
@@ -40,9 +39,6 @@ unfoldable pub certs_in : List ℕ → List Cert
 certs_in f = told_by Section.Certificates (meters_in f) f (certs_at f)
 
 -- ── One certificate ─────────────────────────────────────────────────────────────────────────────────────────────
-
-unfoldable pub meter_parts : ℕ → Meter
-meter_parts m = record { model = m / 2 ^ 32; serial = m % 2 ^ 32 }
 
 unfoldable pub cert_parts : Cert → Certificate
 cert_parts e = record { model = model_of e.key; serial = serial_of e.key; issue = issue_of e.key; «record» = e.value }

@@ -10,47 +10,24 @@
 
 #![tactic(auto)]
 
-ghost use Rattle.std.specs.Prelude.{◌≡◌, ◌+◌, ◌*◌, ◌^◌, ◌≤◌, ◌<◌, length, get_or};
+ghost use Rattle.std.specs.Prelude.{◌≡◌, ◌+◌, ◌*◌, ◌^◌, ◌≤◌, ◌<◌, length, Ok};
 ghost use Rattle.fields.specs.Field.{le_at};
 ghost use Rattle.exchange.specs.Item.{item_for, item_at, size, count_width, put_item};
-ghost use Rattle.exchange.specs.Judged.{follows, items_judged, section_judged, after, meters_at, certs_at, end_at, end_judged, certs_judged, meters_judged, judged, counted, checked};
-ghost use Rattle.exchange.specs.Told.{models_in, meters_in, meter_parts, cert_in};
+ghost use Rattle.exchange.specs.Judged.{follows, items_judged, section_judged, after, certs_at, judged, checked};
+ghost use Rattle.exchange.specs.Told.{cert_in};
 ghost use Rattle.exchange.specs.declared.Section.{Section};
-ghost use Rattle.exchange.specs.declared.Judged.{Judged};
 
 use fields::{get16, get32, put16, put32};
 use rules::{Report, Session};
 
-// The file's sections, in its order.
-#[derive(Clone, Copy)]
-pub enum Section {
-    Models,
-    Meters,
-    Certificates,
-}
-
 // Nothing bad, or the byte where the first bad item begins.
-#[derive(Clone, Copy)]
-pub enum Judged {
-    Fine,
-    Bad(usize),
-}
+pub type Judged = Result<(), usize>;
 
-// How many certificates an accepted file tells of, or the byte where the first bad item begins.
-#[derive(Clone, Copy)]
-pub enum Checked {
-    Good(u32),
-    Bad(usize),
-}
+// How many certificates an accepted file tells of, or that byte.
+pub type Checked = Result<u32, usize>;
 
-// A meter, and a certificate, as an accepted file tells of them.
-#[derive(Clone, Copy)]
-pub struct Meter {
-    pub model: u16,
-    pub serial: u32,
-}
-
-#[derive(Clone, Copy)]
+// A certificate, as an accepted file tells of it.
+#[derive(Clone, Copy, PartialEq, Eq, Debug)]
 pub struct Certificate {
     pub model: u16,
     pub serial: u32,
@@ -58,14 +35,15 @@ pub struct Certificate {
     pub record: u32,
 }
 
-// The answers of the call that reads a file into a store: how many certificates were done, or the byte where the first
-// bad item begins.
-#[derive(Clone, Copy)]
-pub enum Read {
-    Done(u32),
+// Why a file isn't read into a store: a lent slice of a wrong length, or the byte where the first bad item begins.
+#[derive(Clone, Copy, PartialEq, Eq, Debug)]
+pub enum ReadError {
     Length,
     File(usize),
 }
+
+// What the call that reads it answers: how many certificates were done.
+pub type Read = Result<u32, ReadError>;
 
 // What that call hands back.
 #[derive(Clone, Copy)]
@@ -75,65 +53,92 @@ pub struct Reading {
     pub session: Session,
 }
 
-// A section's count, in bytes.
+// A section's count, and an item of each section, in bytes.
 const COUNT: usize = 4;
 
-// An item's bytes.
-fn size_of(s: Section) -> usize
-    ensures { result ≡ size s }
-{
-    match s {
-        Section::Models => 2,
-        Section::Meters => 6,
-        Section::Certificates => 10,
+const MODEL: usize = 2;
+
+const METER: usize = 6;
+
+const CERT: usize = 10;
+
+// What puts an item in order: the place it names, and its model, serial or issue under that.
+#[derive(Clone, Copy)]
+struct Rank {
+    place: u32,
+    number: u32,
+}
+
+impl Rank {
+    // An item that is not cut off is not bad, by the one before it: `used` is one more than that one's place, `last` its
+    // number. Its own place is the next, or the one before's, with a larger number.
+    fn follows(self, over: u32, used: u32, last: u32) -> bool
+        ensures { result ≡ follows over used last self.place self.number }
+    {
+        if self.number == 0 || self.place >= over {
+            return false;
+        }
+        self.place == used || self.place + 1 == used && self.number > last
     }
 }
 
-// The place that an item names. All models stand under one roof, at place 0.
-fn place_at(f: &[u8], s: Section, at: usize) -> u32
-    requires { at + size s ≤ length f.now }
-    ensures { result ≡ (item_at s f.now at).place }
-{
-    match s {
-        Section::Models => 0,
-        Section::Meters => get16(f, at) as u32,
-        Section::Certificates => get32(f, at),
-    }
+// The file's sections, in its order.
+#[derive(Clone, Copy, PartialEq, Eq, Debug)]
+pub enum Section {
+    Models,
+    Meters,
+    Certificates,
 }
 
-// An item's model, serial or issue.
-fn number_at(f: &[u8], s: Section, at: usize) -> u32
-    requires { at + size s ≤ length f.now }
-    ensures { result ≡ (item_at s f.now at).number }
-{
-    match s {
-        Section::Models => get16(f, at) as u32,
-        Section::Meters => get32(f, at + 2),
-        Section::Certificates => get16(f, at + 4) as u32,
+impl Section {
+    // An item's bytes.
+    fn size(self) -> usize
+        ensures { result ≡ size self }
+    {
+        match self {
+            Section::Models => MODEL,
+            Section::Meters => METER,
+            Section::Certificates => CERT,
+        }
     }
-}
 
-// An item that is not cut off is not bad, by the one before it: `used` is one more than that one's place, `last` its
-// number. Its own place is the one before's, with a larger number, or the next.
-fn follows(over: u32, used: u32, last: u32, place: u32, number: u32) -> bool
-    ensures { result ≡ follows over used last place number }
-{
-    if number == 0 {
-        return false;
+    // The rank of the item that begins at a byte. All models stand under one roof, at place 0.
+    fn rank_at(self, f: &[u8], at: usize) -> Rank
+        requires { at + size self ≤ length f.now }
+        ensures place { result.place ≡ (item_at self f.now at).place }
+        ensures number { result.number ≡ (item_at self f.now at).number }
+    {
+        match self {
+            Section::Models => Rank {
+                place: 0,
+                number: u32::from(get16(f, at)),
+            },
+            Section::Meters => Rank {
+                place: u32::from(get16(f, at)),
+                number: get32(f, at + 2),
+            },
+            Section::Certificates => Rank {
+                place: get32(f, at),
+                number: u32::from(get16(f, at + 4)),
+            },
+        }
     }
-    if place >= over {
-        return false;
+
+    // The first byte after a section, whose count begins at a byte.
+    fn after(self, f: &[u8], at: usize) -> usize
+        requires { after self f.now at ≤ length f.now }
+        ensures { result ≡ after self f.now at }
+    {
+        self.item_from(at, get32(f, at))
     }
-    if place > used {
-        return false;
+
+    // The first byte of an item, by its place in the section whose count begins there.
+    fn item_from(self, at: usize, place: u32) -> usize
+        requires { at + count_width + size self * place < 2 ^ 64 }
+        ensures { result ≡ at + count_width + size self * place }
+    {
+        at + COUNT + self.size() * place as usize
     }
-    if place == used {
-        return true;
-    }
-    if place + 1 < used {
-        return false;
-    }
-    number > last
 }
 
 // The items of a section, from the first one's byte on. A turn takes bytes of the file or ends, whatever the count says.
@@ -141,29 +146,26 @@ fn items_judged(f: &[u8], s: Section, over: u32, begun: u32, count: u32, from: u
     requires { from ≤ length f.now }
     ensures { result ≡ items_judged s f.now over count from begun 0 }
 {
-    let width = size_of(s);
-    let mut left = count;
+    let width = s.size();
     let mut at = from;
     let mut used = begun;
     let mut last = 0;
-    while left > 0 {
+    for _ in 0..count {
         if f.len() - at < width {
-            return Judged::Bad(at);
+            return Err(at);
         }
-        let place = place_at(f, s, at);
-        let number = number_at(f, s, at);
-        if !follows(over, used, last, place, number) {
-            return Judged::Bad(at);
+        let item = s.rank_at(f, at);
+        if !item.follows(over, used, last) {
+            return Err(at);
         }
-        used = place + 1;
-        last = number;
+        used = item.place + 1;
+        last = item.number;
         at += width;
-        left -= 1;
     }
     if used != over {
-        return Judged::Bad(at);
+        return Err(at);
     }
-    Judged::Fine
+    Ok(())
 }
 
 // A section, from its count on.
@@ -172,117 +174,44 @@ fn section_judged(f: &[u8], s: Section, over: u32, used: u32, at: usize) -> Judg
     ensures { result ≡ section_judged s f.now over used at }
 {
     if f.len() - at < COUNT {
-        return Judged::Bad(at);
+        return Err(at);
     }
     items_judged(f, s, over, used, get32(f, at), at + COUNT)
-}
-
-// The first byte after a section.
-fn after(f: &[u8], s: Section, at: usize) -> usize
-    requires { after s f.now at ≤ length f.now }
-    ensures { result ≡ after s f.now at }
-{
-    let width = size_of(s);
-    let count = get32(f, at) as usize;
-    at + COUNT + width * count
-}
-
-// What is left to test after the certificates: that the file ends there.
-fn end_checked(f: &[u8], at: usize) -> Checked
-    requires { (at ≡ certs_at f.now) × (end_at f.now ≤ length f.now) }
-    ensures { result ≡ counted f.now (end_judged f.now) }
-{
-    let end = after(f, Section::Certificates, at);
-    if end != f.len() {
-        return Checked::Bad(end);
-    }
-    Checked::Good(get32(f, at))
-}
-
-// What is left to test after the meters.
-fn certs_checked(f: &[u8], before: usize) -> Checked
-    requires { (before ≡ meters_at f.now) × (certs_at f.now ≤ length f.now) }
-    ensures { result ≡ counted f.now (certs_judged f.now) }
-{
-    let at = after(f, Section::Meters, before);
-    let meters = get32(f, before);
-    let judged = section_judged(f, Section::Certificates, meters, 0, at);
-    match judged {
-        Judged::Fine => end_checked(f, at),
-        Judged::Bad(place) => Checked::Bad(place),
-    }
-}
-
-// What is left to test after the models.
-fn meters_checked(f: &[u8]) -> Checked
-    requires { meters_at f.now ≤ length f.now }
-    ensures { result ≡ counted f.now (meters_judged f.now) }
-{
-    let at = after(f, Section::Models, 0);
-    let models = get32(f, 0);
-    let judged = section_judged(f, Section::Meters, models, 0, at);
-    match judged {
-        Judged::Fine => certs_checked(f, at),
-        Judged::Bad(place) => Checked::Bad(place),
-    }
 }
 
 // Whether a file of any bytes is the file of a set of certificates, and of how many; or where its first bad item begins.
 pub fn check(f: &[u8]) -> Checked
     ensures { result ≡ checked f.now }
 {
-    let judged = section_judged(f, Section::Models, 1, 1, 0);
-    match judged {
-        Judged::Fine => meters_checked(f),
-        Judged::Bad(place) => Checked::Bad(place),
+    section_judged(f, Section::Models, 1, 1, 0)?;
+    let models = get32(f, 0);
+    let before = Section::Models.after(f, 0);
+    section_judged(f, Section::Meters, models, 0, before)?;
+    let meters = get32(f, before);
+    let at = Section::Meters.after(f, before);
+    section_judged(f, Section::Certificates, meters, 0, at)?;
+    let end = Section::Certificates.after(f, at);
+    if end != f.len() {
+        return Err(end);
     }
-}
-
-// The first byte of an item, by its place in the section whose count begins there.
-fn item_from(s: Section, at: usize, place: u32) -> usize
-    requires { at + count_width + size s * place < 2 ^ 64 }
-    ensures { result ≡ at + count_width + size s * place }
-{
-    let width = size_of(s);
-    at + COUNT + width * (place as usize)
-}
-
-// The model at a place of an accepted file.
-fn model_at(f: &[u8], place: u32) -> u16
-    requires { (judged f.now ≡ Judged.Fine) × (place < le_at f.now 0 count_width) }
-    ensures { result ≡ get_or (models_in f.now) place 0 }
-{
-    let at = item_from(Section::Models, 0, place);
-    get16(f, at)
-}
-
-// The meter at a place of an accepted file; `from` is where its section begins.
-fn meter_at(f: &[u8], from: usize, place: u32) -> Meter
-    requires { (judged f.now ≡ Judged.Fine) × (from ≡ meters_at f.now) × (place < le_at f.now (meters_at f.now) count_width) }
-    ensures { result ≡ meter_parts (get_or (meters_in f.now) place 0) }
-{
-    let at = item_from(Section::Meters, from, place);
-    let serial = get32(f, at + 2);
-    let model = model_at(f, get16(f, at) as u32);
-    Meter { model, serial }
+    Ok(get32(f, at))
 }
 
 // The certificate at a place of an accepted file. It is found by its place alone, without a walk.
 pub fn cert_at(f: &[u8], place: u32) -> Certificate
-    requires { (judged f.now ≡ Judged.Fine) × (place < le_at f.now (certs_at f.now) count_width) }
+    requires { (judged f.now ≡ Ok tt) × (place < le_at f.now (certs_at f.now) count_width) }
     ensures { result ≡ cert_in f.now place }
 {
-    let meters = after(f, Section::Models, 0);
-    let certs = after(f, Section::Meters, meters);
-    let at = item_from(Section::Certificates, certs, place);
-    let meter = meter_at(f, meters, get32(f, at));
-    let issue = get16(f, at + 4);
-    let record = get32(f, at + 6);
+    let meters = Section::Models.after(f, 0);
+    let certs = Section::Meters.after(f, meters);
+    let cert = Section::Certificates.item_from(certs, place);
+    let meter = Section::Meters.item_from(meters, get32(f, cert));
+    let model = Section::Models.item_from(0, u32::from(get16(f, meter)));
     Certificate {
-        model: meter.model,
-        serial: meter.serial,
-        issue,
-        record,
+        model: get16(f, model),
+        serial: get32(f, meter + 2),
+        issue: get16(f, cert + 4),
+        record: get32(f, cert + 6),
     }
 }
 

@@ -1,13 +1,10 @@
 -- `exchange::items_judged`: before each turn the judgement is that of the items left.
 -- Assumes nothing.
-use Prim.Native.Nat.{◌≤◌}
+use Prim.Native.Nat.{◌-◌, ◌≤◌}
 use mathlib.Core.Path.{◌≡◌}
 use lib.ListN.{length}
 use Rattle.exchange.specs.Judged.{items_judged}
 use Rattle.exchange.proofs.items_judged.Given as goal
 
-abbrev pub invariant-loop-left : goal.invariant-loop-left
-invariant-loop-left l = (l.at ≤ length l.f) × (items_judged l.s l.f l.over l.count l.from l.begun 0 ≡ items_judged l.s l.f l.over l.left l.at l.used l.last)
-
-abbrev pub decreases-loop-left : goal.decreases-loop-left
-decreases-loop-left l = l.left
+abbrev pub invariant-loop : goal.invariant-loop
+invariant-loop l = (l.at ≤ length l.f) × (items_judged l.s l.f l.over l.count l.from l.begun 0 ≡ items_judged l.s l.f l.over (l.count - l.counter) l.at l.used l.last)

@@ -1,9 +1,9 @@
--- `exchange::size_of`: section by section.
+-- `exchange::Section::size`: section by section.
 -- Assumes nothing.
 use mathlib.Core.Path.{ap, sym, ◌∙◌}
 use Rattle.exchange.specs.Item.{size}
 use Rattle.exchange.proofs.Sizes.{size-models, size-meters, size-certs}
-use Rattle.exchange.proofs.size_of.Goals as goal
+use Rattle.exchange.proofs.Section.size.Goals as goal
 
 pub returns-in-Models : goal.returns-in-Models
 returns-in-Models c = sym (ap size c.in-Models.is ∙ size-models)
