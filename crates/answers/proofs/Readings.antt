@@ -1,4 +1,5 @@
 -- A file that is read into a store: each number exactly when the table says, and what is left. Assumes nothing.
+use Rattle.std.specs.Prelude.{Ok, Err}
 use Prim.Native.Nat.{ℕ}
 use mathlib.Core.Path.{◌≡◌, refl, sym, ap, ◌∙◌, subst}
 use mathlib.Core.Logic.{inl, inr}
@@ -9,11 +10,10 @@ use Rattle.rules.specs.Report.{Reported}
 use Rattle.rules.specs.Call.{Left, lengths_for, Unchanged}
 use Rattle.rules.specs.declared.Session.{Session}
 use Rattle.rules.proofs.Demand1.Batches.{batch_stable}
-use Rattle.exchange.specs.Judged.{judged}
+use Rattle.exchange.specs.Judged.{Judged, judged}
 use Rattle.exchange.specs.Told.{certs_in}
-use Rattle.exchange.specs.ReadFile.{as_items, read_refused, read_no, read_count, read_place, read_file}
-use Rattle.exchange.specs.declared.Read.{Read}
-use Rattle.exchange.specs.declared.Judged.{Judged}
+use Rattle.exchange.specs.ReadFile.{Read, as_items, read_refused, read_no, read_count, read_place, read_file}
+use Rattle.exchange.specs.declared.ReadError.{ReadError}
 use Rattle.exchange.proofs.Parts.{bad_not_fine}
 use Rattle.exchange.proofs.Exact.{exact}
 use Rattle.exchange.proofs.ReadBy.{read_length, read_bad, read-batch}
@@ -32,15 +32,15 @@ module _ (w t : List ℕ) (s : Session) (f : List ℕ) where
     where
       go : (a : Bool) → lengths_for s w t ≡ a → (j : Judged) → judged f ≡ j → Given (read_causes w t s f) (number (read_file w t s f))
       go false p j e = inl (ap number (read_length w t s f p), bad_lengths w t s p)
-      go true p (Judged.Bad at) e =
+      go true p (Err at) e =
           inr (
             good_lengths_lem w t s p,
             inl (
               ap number (read_bad w t s f p at e),
-              λ cs h q. bad_not_fine (sym e ∙ subst (λ (g : List ℕ). judged g ≡ Judged.Fine) (sym q) (exact.written cs h)),
+              λ cs h q. bad_not_fine (sym e ∙ subst (λ (g : List ℕ). judged g ≡ Ok tt) (sym q) (exact.written cs h)),
             ),
           )
-      go true p Judged.Fine e =
+      go true p (Ok tt) e =
           inr (
             good_lengths_lem w t s p,
             inr ((λ bad. bad (certs_in f) (exact.set f b e) (exact.file f b e)), ap number (read-batch w t s f p e)),
@@ -58,29 +58,29 @@ module _ (w t : List ℕ) (s : Session) (f : List ℕ) where
   read-unchanged h = go (lengths_for s w t) refl (judged f) refl
     where
       go : (a : Bool) → lengths_for s w t ≡ a → (j : Judged) → judged f ≡ j → Unchanged w t s (read_file w t s f).left
-      go false p j e = refused-unchanged Read.Length (read_length w t s f p)
-      go true p (Judged.Bad at) e = refused-unchanged (Read.File at) (read_bad w t s f p at e)
-      go true p Judged.Fine e = absurd (h (ap number (read-batch w t s f p e)))
+      go false p j e = refused-unchanged (Err ReadError.Length) (read_length w t s f p)
+      go true p (Err at) e = refused-unchanged (Err (ReadError.File at)) (read_bad w t s f p at e)
+      go true p (Ok tt) e = absurd (h (ap number (read-batch w t s f p e)))
 
   pub read_stable : (read_file w t s f).left.stable ≡ t
   read_stable = go (lengths_for s w t) refl (judged f) refl
     where
       go : (a : Bool) → lengths_for s w t ≡ a → (j : Judged) → judged f ≡ j → (read_file w t s f).left.stable ≡ t
-      go false p j e = (refused-unchanged Read.Length (read_length w t s f p)).stable
-      go true p (Judged.Bad at) e = (refused-unchanged (Read.File at) (read_bad w t s f p at e)).stable
-      go true p Judged.Fine e =
+      go false p j e = (refused-unchanged (Err ReadError.Length) (read_length w t s f p)).stable
+      go true p (Err at) e = (refused-unchanged (Err (ReadError.File at)) (read_bad w t s f p at e)).stable
+      go true p (Ok tt) e =
           ap (λ (r : Reported (Left Read)). r.left.stable) (read-batch w t s f p e) ∙ batch_stable w t s (as_items (certs_in f))
 
 -- ── The numbers beside ──────────────────────────────────────────────────────────────────────────────────────────
 
 pub done-zero : (a : Read) → Refused (read_no a) → read_count a ≡ 0
 unfolding read_no read_count
-done-zero (Read.Done k) h = absurd (h refl)
-done-zero Read.Length h = refl
-done-zero (Read.File at) h = refl
+done-zero (Ok k) h = absurd (h refl)
+done-zero (Err ReadError.Length) h = refl
+done-zero (Err (ReadError.File at)) h = refl
 
 pub place-zero : (a : Read) → (read_no a ≡ 11 → ⊥) → read_place a ≡ 0
 unfolding read_no read_place
-place-zero (Read.Done k) h = refl
-place-zero Read.Length h = refl
-place-zero (Read.File at) h = absurd (h refl)
+place-zero (Ok k) h = refl
+place-zero (Err ReadError.Length) h = refl
+place-zero (Err (ReadError.File at)) h = absurd (h refl)

@@ -18,8 +18,7 @@ use Rattle.rules.specs.HasAny.{has_any, first_of}
 use Rattle.rules.specs.List.{list, up_from}
 use Rattle.rules.specs.Sync.{sync}
 use Rattle.rules.specs.declared.Session.{Session}
-use Rattle.exchange.specs.ReadFile.{read_no, read_count, read_place, read_file}
-use Rattle.exchange.specs.declared.Read.{Read}
+use Rattle.exchange.specs.ReadFile.{Read, read_no, read_count, read_place, read_file}
 use Rattle.rules.specs.declared.Item.{Item}
 use Rattle.rules.specs.declared.Asked.{Asked}
 use Rattle.rules.specs.declared.Looked.{Looked}

@@ -1,4 +1,5 @@
 -- What stands before a bad item could begin a good file: items of number 1 under what is left make one of it. Assumes nothing.
+use Rattle.std.specs.Prelude.{Ok}
 use Prim.Native.Nat.{ℕ, zero, suc, ◌+◌, ◌*◌, ◌-◌, ◌^◌, ◌≤◌, ◌<◌}
 use native.Mathlib.Omega.{arith}
 use mathlib.Core.Path.{◌≡◌, sym, ap, ◌∙◌, subst}
@@ -12,7 +13,6 @@ use Rattle.exchange.specs.Item.{Item, place_width, number_width, value_width, si
 use Rattle.exchange.specs.Judged.{section_judged, meters_at, certs_at}
 use Rattle.exchange.specs.Told.{items_from, items_in}
 use Rattle.exchange.specs.declared.Section.{Section}
-use Rattle.exchange.specs.declared.Judged.{Judged}
 use Rattle.exchange.proofs.Sizes.{size-meters, size-certs}
 use Rattle.exchange.proofs.Steps.{after_is}
 use Rattle.exchange.proofs.Runs.{AllFit, fit_none, fit_more, length_from}
@@ -139,7 +139,7 @@ module _ (f : List ℕ) (b : Bytes f) (small : length f < 2 ^ 32) where
     }
 
   -- meters, under models of which none is bad
-  module _ (fine : section_judged Section.Models f 1 1 0 ≡ Judged.Fine) where
+  module _ (fine : section_judged Section.Models f 1 1 0 ≡ Ok tt) where
     abbrev a₂ : List Item
     a₂ = all_of Section.Models f
 
@@ -200,7 +200,7 @@ module _ (f : List ℕ) (b : Bytes f) (small : length f < 2 ^ 32) where
       }
 
     -- certificates, under meters of which none is bad
-    module _ (fine' : section_judged Section.Meters f (le_at f 0 count_width) 0 (meters_at f) ≡ Judged.Fine) where
+    module _ (fine' : section_judged Section.Meters f (le_at f 0 count_width) 0 (meters_at f) ≡ Ok tt) where
       abbrev b₃ : List Item
       b₃ = all_of Section.Meters f
 

@@ -1,4 +1,5 @@
 -- The place of the first bad item: everything before it could still begin a good file, with it nothing could. Assumes nothing.
+use Rattle.std.specs.Prelude.{Ok, Err}
 use Prim.Native.Nat.{ℕ, suc, ◌+◌, ◌*◌, ◌^◌, ◌≤◌, ◌<◌}
 use native.Mathlib.Omega.{arith}
 use mathlib.Core.Path.{◌≡◌, refl, sym, ap, ◌∙◌, subst}
@@ -13,10 +14,9 @@ use Rattle.fields.specs.Field.{le_at, Bytes}
 use Rattle.fields.proofs.Field.{le_at-bound}
 use Rattle.rules.proofs.Entries.Tests.{not_both}
 use Rattle.exchange.specs.Item.{Item, size, count_width, item_at, section_bytes}
-use Rattle.exchange.specs.Judged.{follows, after, section_judged, meters_at, certs_at, end_at, and_then, end_judged, certs_judged, meters_judged, judged}
+use Rattle.exchange.specs.Judged.{Judged, follows, after, section_judged, meters_at, certs_at, end_at, and_then, end_judged, certs_judged, meters_judged, judged}
 use Rattle.exchange.specs.Told.{items_in, items_from}
 use Rattle.exchange.specs.declared.Section.{Section}
-use Rattle.exchange.specs.declared.Judged.{Judged}
 use Rattle.exchange.proofs.Parts.{fine_after}
 use Rattle.exchange.proofs.Runs.{length_from, section_lies}
 use Rattle.exchange.proofs.Chains.{Chain, followed_follows}
@@ -61,7 +61,7 @@ module _ (s : Section) (f : List ℕ) (over used : ℕ) (starts : start_of s f �
   unfolding Prefix items_from
   none_yet = (refl, refl)
 
-  pub first_in : (at : ℕ) → section_judged s f over used (start_of s f) ≡ Judged.Bad at → First f at
+  pub first_in : (at : ℕ) → section_judged s f over used (start_of s f) ≡ Err at → First f at
   first_in at b = go (section_stops s f over used (start_of s f) at b)
     where
       go : ((at ≡ start_of s f) × (length f < start_of s f + count_width)) ⊎ Stops s f over (count_of s f) (start_of s f + count_width) used 0 at → First f at
@@ -98,30 +98,30 @@ module _ (f : List ℕ) where
 -- ── The file ────────────────────────────────────────────────────────────────────────────────────────────────────
 
 -- two judgements one after the other, the first of them fine or bad
-then_cases : (j k : Judged) (at : ℕ) → and_then j k ≡ Judged.Bad at → (j ≡ Judged.Bad at) ⊎ ((j ≡ Judged.Fine) × (k ≡ Judged.Bad at))
+then_cases : (j k : Judged) (at : ℕ) → and_then j k ≡ Err at → (j ≡ Err at) ⊎ ((j ≡ Ok tt) × (k ≡ Err at))
 unfolding and_then
-then_cases Judged.Fine k at h = inr (refl, h)
-then_cases (Judged.Bad x) k at h = inl h
+then_cases (Ok tt) k at h = inr (refl, h)
+then_cases (Err x) k at h = inl h
 
 made-append : (a b c : List Item) (more : List ℕ) → made a b c [] ++ more ≡ made a b c more
 unfolding made
 made-append a b c more = rw (append_assoc, append_assoc, append_assoc)
 
 module _ (f : List ℕ) (y : Bytes f) (small : length f < 2 ^ 32) where
-  first-models : (at : ℕ) → section_judged Section.Models f 1 1 0 ≡ Judged.Bad at → First f at
+  first-models : (at : ℕ) → section_judged Section.Models f 1 1 0 ≡ Err at → First f at
   unfolding start_of
   first-models at h =
       first_in Section.Models f 1 1 (omega arith) (λ j u l lies p. could_models f y small j u l p) (chain_models f) at h
 
-  module _ (fine : section_judged Section.Models f 1 1 0 ≡ Judged.Fine) where
-    first-meters : (at : ℕ) → section_judged Section.Meters f (le_at f 0 count_width) 0 (meters_at f) ≡ Judged.Bad at → First f at
+  module _ (fine : section_judged Section.Models f 1 1 0 ≡ Ok tt) where
+    first-meters : (at : ℕ) → section_judged Section.Meters f (le_at f 0 count_width) 0 (meters_at f) ≡ Err at → First f at
     unfolding start_of meters_at
     first-meters at h =
         first_in Section.Meters f (length (all_of Section.Models f)) 0 (fine_after Section.Models f 1 1 0 fine) (could_meters f y small fine) (chain_meters f) at
         (ap (λ (k : ℕ). section_judged Section.Meters f k 0 (meters_at f)) (sym (same-models f)) ∙ h)
 
-    module _ (fine' : section_judged Section.Meters f (le_at f 0 count_width) 0 (meters_at f) ≡ Judged.Fine) where
-      first-certs : (at : ℕ) → section_judged Section.Certificates f (le_at f (meters_at f) count_width) 0 (certs_at f) ≡ Judged.Bad at → First f at
+    module _ (fine' : section_judged Section.Meters f (le_at f 0 count_width) 0 (meters_at f) ≡ Ok tt) where
+      first-certs : (at : ℕ) → section_judged Section.Certificates f (le_at f (meters_at f) count_width) 0 (certs_at f) ≡ Err at → First f at
       unfolding start_of certs_at
       first-certs at h =
           first_in Section.Certificates f (length (all_of Section.Meters f)) 0 (fine_after Section.Meters f (le_at f 0 count_width) 0 (meters_at f) fine')
@@ -130,7 +130,7 @@ module _ (f : List ℕ) (y : Bytes f) (small : length f < 2 ^ 32) where
 
       -- ── A surplus byte ──────────────────────────────────────────────────────────────────────────────────────────────
 
-      module _ (fine'' : section_judged Section.Certificates f (le_at f (meters_at f) count_width) 0 (certs_at f) ≡ Judged.Fine) where
+      module _ (fine'' : section_judged Section.Certificates f (le_at f (meters_at f) count_width) 0 (certs_at f) ≡ Ok tt) where
         abbrev a : List Item
         a = all_of Section.Models f
 
@@ -176,14 +176,14 @@ module _ (f : List ℕ) (y : Bytes f) (small : length f < 2 ^ 32) where
             ∙ ap (λ (l : List ℕ). section_bytes Section.Meters b ++ l)
             (section_lies Section.Certificates f y (certs_at f) (fine_after Section.Certificates f (le_at f (meters_at f) count_width) 0 (certs_at f) fine'')))
 
-        first-surplus : (at : ℕ) → end_judged f ≡ Judged.Bad at → First f at
+        first-surplus : (at : ℕ) → end_judged f ≡ Err at → First f at
         unfolding end_judged end_at
         first-surplus at h = go (eqb (end_at f) (length f)) refl
           where
-            bad-fine : Judged.Fine ≡ Judged.Bad at → ⊥
+            bad-fine : ◌≡◌ {A = Judged} (Ok tt) (Err at) → ⊥
             bad-fine e = let z : ◌≡◌ {A = ℕ} 0 1 = cc in omega arith
 
-            same : (x : ℕ) → Judged.Bad x ≡ Judged.Bad at → x ≡ at
+            same : (x : ℕ) → ◌≡◌ {A = Judged} (Err x) (Err at) → x ≡ at
             same x e = cc
 
             go : (t : Bool) → eqb (end_at f) (length f) ≡ t → First f at
@@ -204,20 +204,20 @@ pub first_bad : FirstBad
 unfolding FirstBad judged meters_judged certs_judged
 first_bad f y small at h = models (then_cases (section_judged Section.Models f 1 1 0) (meters_judged f) at h)
   where
-    certs : (fine : section_judged Section.Models f 1 1 0 ≡ Judged.Fine) (fine' : section_judged Section.Meters f (le_at f 0 count_width) 0 (meters_at f) ≡ Judged.Fine)
-        → (section_judged Section.Certificates f (le_at f (meters_at f) count_width) 0 (certs_at f) ≡ Judged.Bad at)
-        ⊎ ((section_judged Section.Certificates f (le_at f (meters_at f) count_width) 0 (certs_at f) ≡ Judged.Fine) × (end_judged f ≡ Judged.Bad at)) → First f at
+    certs : (fine : section_judged Section.Models f 1 1 0 ≡ Ok tt) (fine' : section_judged Section.Meters f (le_at f 0 count_width) 0 (meters_at f) ≡ Ok tt)
+        → (section_judged Section.Certificates f (le_at f (meters_at f) count_width) 0 (certs_at f) ≡ Err at)
+        ⊎ ((section_judged Section.Certificates f (le_at f (meters_at f) count_width) 0 (certs_at f) ≡ Ok tt) × (end_judged f ≡ Err at)) → First f at
     certs fine fine' (inl e) = first-certs f y small fine fine' at e
     certs fine fine' (inr e) = first-surplus f y small fine fine' e.0 at e.1
 
-    meters : (fine : section_judged Section.Models f 1 1 0 ≡ Judged.Fine)
-        → (section_judged Section.Meters f (le_at f 0 count_width) 0 (meters_at f) ≡ Judged.Bad at)
-        ⊎ ((section_judged Section.Meters f (le_at f 0 count_width) 0 (meters_at f) ≡ Judged.Fine) × (certs_judged f ≡ Judged.Bad at)) → First f at
+    meters : (fine : section_judged Section.Models f 1 1 0 ≡ Ok tt)
+        → (section_judged Section.Meters f (le_at f 0 count_width) 0 (meters_at f) ≡ Err at)
+        ⊎ ((section_judged Section.Meters f (le_at f 0 count_width) 0 (meters_at f) ≡ Ok tt) × (certs_judged f ≡ Err at)) → First f at
     meters fine (inl e) = first-meters f y small fine at e
     meters fine (inr e) =
         certs fine e.0 (then_cases (section_judged Section.Certificates f (le_at f (meters_at f) count_width) 0 (certs_at f)) (end_judged f) at e.1)
 
-    models : (section_judged Section.Models f 1 1 0 ≡ Judged.Bad at) ⊎ ((section_judged Section.Models f 1 1 0 ≡ Judged.Fine) × (meters_judged f ≡ Judged.Bad at))
+    models : (section_judged Section.Models f 1 1 0 ≡ Err at) ⊎ ((section_judged Section.Models f 1 1 0 ≡ Ok tt) × (meters_judged f ≡ Err at))
         → First f at
     models (inl e) = first-models f y small at e
     models (inr e) =

@@ -1,4 +1,5 @@
 -- Good files, made of items: three lists that follow, written one after another. Assumes nothing.
+use Rattle.std.specs.Prelude.{Ok}
 use Prim.Native.Nat.{ℕ, ◌^◌, ◌<◌}
 use native.Mathlib.Omega.{arith}
 use mathlib.Core.Path.{◌≡◌, refl, sym, ap, ◌∙◌, subst}
@@ -11,7 +12,6 @@ use Rattle.exchange.specs.Item.{Item, count_width, section_bytes}
 use Rattle.exchange.specs.Judged.{meters_at, certs_at, end_at, meters_judged, certs_judged, end_judged, judged}
 use Rattle.exchange.specs.Told.{certs_in}
 use Rattle.exchange.specs.declared.Section.{Section}
-use Rattle.exchange.specs.declared.Judged.{Judged}
 use Rattle.exchange.proofs.Parts.{then_fine, models_by, meters_by, certs_by, end_fine}
 use Rattle.exchange.proofs.Runs.{AllFit, Stands, section_stands}
 use Rattle.exchange.proofs.Chains.{Chain}
@@ -66,7 +66,7 @@ module _ (a b c : List Item) (more : List ℕ) (fit : Fit a b c) where
   -- ── It is good alone ────────────────────────────────────────────────────────────────────────────────────────────
 
   -- what stands behind it is nothing, if all is good
-  pub nothing-more : judged g ≡ Judged.Fine → more ≡ []
+  pub nothing-more : judged g ≡ Ok tt → more ≡ []
   unfolding end_at
   nothing-more fine =
       sym certs-stand.behind ∙ (ap (λ (k : ℕ). drop k g) (all_fine g fine).ends ∙ drop-length g)
@@ -77,7 +77,7 @@ module _ (a b c : List Item) (more : List ℕ) (fit : Fit a b c) where
       let h = ap (λ (l : List ℕ). length l) (certs-stand.behind ∙ e) in
       omega (arith, h, length-drop (end_at g) g, certs-stand.ends)
 
-  pub made_fine : Follow a b c → more ≡ [] → judged g ≡ Judged.Fine
+  pub made_fine : Follow a b c → more ≡ [] → judged g ≡ Ok tt
   made_fine f e =
       models_by g (sym (section_fine Section.Models g 1 1 0 a _ models-stand f.models))
       ∙ then_fine (meters_judged g) refl
@@ -108,5 +108,5 @@ made-good a b c fit f =
     let fine = made_fine a b c [] fit f refl in
     record { certs = certs_in g; set = exact.set g (bytes-made a b c) fine; is = exact.file g (bytes-made a b c) fine }
 
-pub good_fine : (g : List ℕ) → GoodFile g → judged g ≡ Judged.Fine
-good_fine g h = subst (λ (x : List ℕ). judged x ≡ Judged.Fine) (sym h.is) (exact.written h.certs h.set)
+pub good_fine : (g : List ℕ) → GoodFile g → judged g ≡ Ok tt
+good_fine g h = subst (λ (x : List ℕ). judged x ≡ Ok tt) (sym h.is) (exact.written h.certs h.set)

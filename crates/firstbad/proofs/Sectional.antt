@@ -1,4 +1,5 @@
 -- The first bad item of a section: what stands before it follows item by item. Assumes nothing.
+use Rattle.std.specs.Prelude.{Ok, Err}
 use Prim.Native.Nat.{ℕ, zero, suc, ◌+◌, ◌*◌, ◌≤◌, ◌<◌}
 use native.Mathlib.Nat.{mul-zero, mul-suc, add-zero}
 use native.Mathlib.Omega.{arith}
@@ -11,17 +12,16 @@ use lib.Dec.{leb, eqb}
 use lib.ListN.{length}
 use Rattle.fields.specs.Field.{le_at}
 use Rattle.exchange.specs.Item.{size, count_width, item_at}
-use Rattle.exchange.specs.Judged.{within, follows, items_judged, section_judged}
+use Rattle.exchange.specs.Judged.{Judged, within, follows, items_judged, section_judged}
 use Rattle.exchange.specs.Told.{items_from}
 use Rattle.exchange.specs.declared.Section.{Section}
-use Rattle.exchange.specs.declared.Judged.{Judged}
 use Rattle.exchange.proofs.Steps.{Followed, followed}
 use Rattle.firstbad.proofs.Prefixes.{Prefix}
 
-same_place : (x y : ℕ) → Judged.Bad x ≡ Judged.Bad y → x ≡ y
+same_place : (x y : ℕ) → ◌≡◌ {A = Judged} (Err x) (Err y) → x ≡ y
 same_place x y h = cc
 
-fine_not_bad : (x : ℕ) → Judged.Fine ≡ Judged.Bad x → ⊥
+fine_not_bad : (x : ℕ) → ◌≡◌ {A = Judged} (Ok tt) (Err x) → ⊥
 fine_not_bad x h = let z : ◌≡◌ {A = ℕ} 0 1 = cc in omega arith
 
 -- what is wrong behind j items: the next one, or that the section ends
@@ -70,7 +70,7 @@ module _ (s : Section) (f : List ℕ) (over : ℕ) where
     wrong = later-wrong n place r.j r.u r.l r.wrong;
   }
 
-  pub stops : (n at used last place : ℕ) → at ≤ length f → items_judged s f over n at used last ≡ Judged.Bad place → Stops s f over n at used last place
+  pub stops : (n at used last place : ℕ) → at ≤ length f → items_judged s f over n at used last ≡ Err place → Stops s f over n at used last place
   unfolding items_judged within
   stops zero at used last place h b = go (eqb used over) refl
     where
@@ -82,7 +82,7 @@ module _ (s : Section) (f : List ℕ) (over : ℕ) where
       (stops n (at + size s) ((item_at s f at).place + 1) (item_at s f at).number place)
     where
       go : (x : Bool) → leb (at + size s) (length f) ≡ x → (y : Bool) → follows over used last (item_at s f at).place (item_at s f at).number ≡ y
-          → (at + size s ≤ length f → items_judged s f over n (at + size s) ((item_at s f at).place + 1) (item_at s f at).number ≡ Judged.Bad place
+          → (at + size s ≤ length f → items_judged s f over n (at + size s) ((item_at s f at).place + 1) (item_at s f at).number ≡ Err place
           → Stops s f over n (at + size s) ((item_at s f at).place + 1) (item_at s f at).number place)
           → Stops s f over (suc n) at used last place
       go true e true t ih =
@@ -97,7 +97,7 @@ module _ (s : Section) (f : List ℕ) (over : ℕ) where
           at_once (suc n) at used last place h q (cut (omega arith) (omega (arith, q, leb-false (at + size s) (length f) e)))
 
   -- a section: its count is cut off, or it stops behind some of its items
-  pub section_stops : (used at place : ℕ) → section_judged s f over used at ≡ Judged.Bad place
+  pub section_stops : (used at place : ℕ) → section_judged s f over used at ≡ Err place
       → ((place ≡ at) × (length f < at + count_width)) ⊎ Stops s f over (le_at f at count_width) (at + count_width) used 0 place
   unfolding section_judged within
   section_stops used at place b = go (leb (at + count_width) (length f)) refl

@@ -1,6 +1,6 @@
 -- What the place of the first bad item says (K9). A count is bad only if it is cut off, so a file begins as a good one does if its
 -- items do, whatever the count of the section says in which they stand.
-use Rattle.std.specs.Prelude.{ℕ, suc, ◌+◌, ◌*◌, ◌^◌, ◌<◌, ◌≡◌, ◌⊎◌, true, List, [], ◌++◌, length, take}
+use Rattle.std.specs.Prelude.{ℕ, suc, ◌+◌, ◌*◌, ◌^◌, ◌<◌, ◌≡◌, ◌⊎◌, true, List, [], ◌++◌, length, take, Err}
 use Rattle.fields.specs.Field.{le_at, Bytes}
 use Rattle.rules.specs.Entry.{Cert}
 use Rattle.exchange.specs.Item.{Item, size, count_width}
@@ -8,7 +8,6 @@ use Rattle.exchange.specs.Written.{is_set, file_of}
 use Rattle.exchange.specs.Judged.{meters_at, certs_at, judged}
 use Rattle.exchange.specs.Told.{items_in, items_from}
 use Rattle.exchange.specs.declared.Section.{Section}
-use Rattle.exchange.specs.declared.Judged.{Judged}
 
 -- the file of a set of certificates
 pub record GoodFile (g : List ℕ) : Type 0 where
@@ -72,4 +71,4 @@ pub data First (f : List ℕ) (at : ℕ) : Type 0 where
 
 -- of files whose places can be said in 32 bits: what could follow then fits its counts
 unfoldable pub FirstBad : Type 0
-FirstBad = (f : List ℕ) → Bytes f → length f < 2 ^ 32 → (at : ℕ) → judged f ≡ Judged.Bad at → First f at
+FirstBad = (f : List ℕ) → Bytes f → length f < 2 ^ 32 → (at : ℕ) → judged f ≡ Err at → First f at

@@ -1,4 +1,5 @@
 -- The turns over a file's certificates, one after another, make the rule `read_file`. Assumes nothing.
+use Rattle.std.specs.Prelude.{Ok, Err}
 use Prim.Native.Nat.{ℕ, suc, ◌+◌, ◌≤◌, ◌<◌}
 use native.Mathlib.Omega.{arith}
 use mathlib.Core.Path.{◌≡◌, refl, sym, ap, ◌∙◌}
@@ -20,12 +21,10 @@ use Rattle.insert.specs.Inserts.{leaving as inserted}
 use Rattle.exchange.specs.Item.{count_width}
 use Rattle.exchange.specs.Judged.{certs_at, judged, checked}
 use Rattle.exchange.specs.Told.{certs_in, cert_in, meters_in}
-use Rattle.exchange.specs.ReadFile.{as_item, as_items, done_in, read_file}
+use Rattle.exchange.specs.ReadFile.{Read, as_item, as_items, done_in, read_file}
+use Rattle.exchange.specs.declared.ReadError.{ReadError}
 use Rattle.exchange.specs.declared.Section.{Section}
 use Rattle.exchange.specs.declared.Certificate.{Certificate}
-use Rattle.exchange.specs.declared.Judged.{Judged}
-use Rattle.exchange.specs.declared.Checked.{Checked}
-use Rattle.exchange.specs.declared.Read.{Read}
 use Rattle.exchange.proofs.Exact.{exact}
 use Rattle.exchange.proofs.Accepts.{length-told}
 use Rattle.exchange.proofs.ReadBy.{bad_judged, read_length, read_bad, read_fine, length-as_items, as_items-at}
@@ -57,13 +56,13 @@ one_at_most t m x = go (eqb (item_no t m.stands x) 0) refl
 
 -- ── All turns ───────────────────────────────────────────────────────────────────────────────────────────────────
 
-module _ (f : List ℕ) (n : ℕ) (good : checked f ≡ Checked.Good n) where
+module _ (f : List ℕ) (n : ℕ) (good : checked f ≡ Ok n) where
   -- as many certificates as the check counted
   count-is : n ≡ length (as_items (certs_in f))
   count-is = exact.counts f n good ∙ sym (length-as_items (certs_in f))
 
   -- each of them lies within the file
-  pub there : (i : ℕ) → i < n → (judged f ≡ Judged.Fine) × (i < le_at f (certs_at f) count_width)
+  pub there : (i : ℕ) → i < n → (judged f ≡ Ok tt) × (i < le_at f (certs_at f) count_width)
   unfolding certs_in
   there i h = (
     exact.accepts f n good,
@@ -110,7 +109,7 @@ goes_after t m (x ∷ xs) = goes_after t (one_more t m x) xs ∙ (λ i. record {
     go true h = rw (one_done, done_in, h) (omega arith)
     go false h = rw (one_done, done_in, h)
 
-pub turns-read : (w t : List ℕ) (s : Session) (f : List ℕ) (n : ℕ) → checked f ≡ Checked.Good n → lengths_for s w t ≡ true
+pub turns-read : (w t : List ℕ) (s : Session) (f : List ℕ) (n : ℕ) → checked f ≡ Ok n → lengths_for s w t ≡ true
     → (m : Made) (l : List ℕ) → running m l ≡ goes t (beginning w s) (as_items (certs_in f))
     → leaving (entered_of m) l t ≡ read_file w t s f
 turns-read w t s f n good h m l e =
@@ -125,16 +124,16 @@ turns-read w t s f n good h m l e =
 
     told : ℕ → Between → Reported (Left Read)
     told k b = record {
-      left = record { answer = Read.Done k; session = b.session; working = b.working; stable = t };
+      left = record { answer = Ok k; session = b.session; working = b.working; stable = t };
       report = b.report;
     }
 
 -- what is refused leaves all as it was
 pub refused-length : (w t : List ℕ) (s : Session) (f : List ℕ) (r : Report) → r ≡ nothing → lengths_for s w t ≡ false
-    → leaving (record { answer = Read.Length; report = r; session = s }) w t ≡ read_file w t s f
-refused-length w t s f r e h = (λ i. leaving (record { answer = Read.Length; report = e i; session = s }) w t) ∙ sym (read_length w t s f h)
+    → leaving (record { answer = Err ReadError.Length; report = r; session = s }) w t ≡ read_file w t s f
+refused-length w t s f r e h = (λ i. leaving (record { answer = Err ReadError.Length; report = e i; session = s }) w t) ∙ sym (read_length w t s f h)
 
 pub refused-file : (w t : List ℕ) (s : Session) (f : List ℕ) (at : ℕ) (r : Report) → r ≡ nothing → lengths_for s w t ≡ true
-    → checked f ≡ Checked.Bad at → leaving (record { answer = Read.File at; report = r; session = s }) w t ≡ read_file w t s f
+    → checked f ≡ Err at → leaving (record { answer = Err (ReadError.File at); report = r; session = s }) w t ≡ read_file w t s f
 refused-file w t s f at r e h b =
-    (λ i. leaving (record { answer = Read.File at; report = e i; session = s }) w t) ∙ sym (read_bad w t s f h at (bad_judged f at b))
+    (λ i. leaving (record { answer = Err (ReadError.File at); report = e i; session = s }) w t) ∙ sym (read_bad w t s f h at (bad_judged f at b))

@@ -1,11 +1,11 @@
 -- A file's certificates as the loop goes through them: what stands between two turns, and what one turn makes of it.
-use Rattle.std.specs.Prelude.{ℕ, ◌+◌, true, false, List, [], ◌∷◌, eqb}
+use Rattle.std.specs.Prelude.{ℕ, ◌+◌, true, false, List, [], ◌∷◌, eqb, Ok}
 use Rattle.rules.specs.Report.{Reported, nothing}
 use Rattle.rules.specs.Call.{Left}
 use Rattle.rules.specs.Batch.{Between, between, item_no, after_item}
 use Rattle.rules.specs.declared.Session.{Session}
 use Rattle.rules.specs.declared.Item.{Item}
-use Rattle.exchange.specs.declared.Read.{Read}
+use Rattle.exchange.specs.ReadFile.{Read}
 use Rattle.exchange.specs.declared.Reading.{Reading}
 use Rattle.read.specs.declared.Made.{Made}
 
@@ -41,4 +41,4 @@ goes t m (x ∷ xs) = goes t (one_more t m x) xs
 
 -- what is handed back after all of them
 abbrev pub entered_of : Made → Reading
-entered_of m = record { answer = Read.Done m.done; report = m.report; session = m.session }
+entered_of m = record { answer = Ok m.done; report = m.report; session = m.session }

@@ -11,14 +11,13 @@
 
 #![tactic(auto)]
 
-ghost use Rattle.std.specs.Prelude.{◌≡◌, ◌+◌, ◌<◌};
+ghost use Rattle.std.specs.Prelude.{◌≡◌, ◌+◌, ◌<◌, Ok};
 ghost use Rattle.exchange.specs.Judged.{checked};
 ghost use Rattle.exchange.specs.Told.{certs_in};
 ghost use Rattle.exchange.specs.ReadFile.{as_item, as_items, read_file, read_no, read_count, read_place};
-ghost use Rattle.exchange.specs.declared.Checked.{Checked};
 ghost use Rattle.read.specs.Readings.{leaving, running, beginning, one_done, one_more, goes, entered_of};
 
-use exchange::{Certificate, Checked, Read, Reading};
+use exchange::{Certificate, Read, ReadError, Reading};
 use rules::{Report, Session};
 
 // What stands between two certificates, beside the working table: how many were done, the report so far, and the session.
@@ -46,30 +45,25 @@ fn enter(working: &mut [u8], stable: &[u8], made: Made, certificate: Certificate
     ensures { running result working.new
         ≡ one_more stable.now (running made working.old) (as_item certificate) }
 {
-    let session = made.session;
-    let before = made.report;
     let inserted = insert::insert(
         working,
         stable,
-        session,
+        made.session,
         certificate.model,
         certificate.serial,
         certificate.issue,
         certificate.record,
     );
-    let answer = inserted.answer;
-    let next = inserted.report;
-    let left = inserted.session;
     Made {
-        done: counted(made.done, numbers::inserted(answer)),
-        report: before.join(next),
-        session: left,
+        done: counted(made.done, numbers::inserted(inserted.answer)),
+        report: made.report.join(inserted.report),
+        session: inserted.session,
     }
 }
 
 // All certificates of an accepted file, in its order.
 fn enter_all(working: &mut [u8], stable: &[u8], session: Session, file: &[u8], count: u32) -> Made
-    requires { checked file.now ≡ Checked.Good count }
+    requires { checked file.now ≡ Ok count }
     ensures { running result working.new
         ≡ goes stable.now (beginning working.old session) (as_items (certs_in file.now)) }
 {
@@ -78,11 +72,8 @@ fn enter_all(working: &mut [u8], stable: &[u8], session: Session, file: &[u8], c
         report: Report::nothing(),
         session,
     };
-    let mut place = 0;
-    while place < count {
-        let certificate = exchange::cert_at(file, place);
-        made = enter(working, stable, made, certificate);
-        place += 1;
+    for place in 0..count {
+        made = enter(working, stable, made, exchange::cert_at(file, place));
     }
     made
 }
@@ -91,12 +82,10 @@ fn enter_all(working: &mut [u8], stable: &[u8], session: Session, file: &[u8], c
 fn entered(made: Made) -> Reading
     ensures { result ≡ entered_of made }
 {
-    let report = made.report;
-    let session = made.session;
     Reading {
-        answer: Read::Done(made.done),
-        report,
-        session,
+        answer: Ok(made.done),
+        report: made.report,
+        session: made.session,
     }
 }
 
@@ -106,50 +95,48 @@ pub fn read_file(working: &mut [u8], stable: &[u8], session: Session, file: &[u8
 {
     if !tables::lengths_for(session.n, working, stable) {
         return Reading {
-            answer: Read::Length,
+            answer: Err(ReadError::Length),
             report: Report::nothing(),
             session,
         };
     }
     match exchange::check(file) {
-        Checked::Bad(place) => Reading {
-            answer: Read::File(place),
+        Err(place) => Reading {
+            answer: Err(ReadError::File(place)),
             report: Report::nothing(),
             session,
         },
-        Checked::Good(count) => entered(enter_all(working, stable, session, file, count)),
+        Ok(count) => entered(enter_all(working, stable, session, file, count)),
     }
 }
 
 // The numbers that C is given: the answer's, how many were done, and the byte place; the last two are 0 beside any
 // other answer.
 
+#[tactic(auto, unfolding(exchange::specs::ReadFile::read_no))]
 pub fn number(answer: Read) -> u32
     ensures { result ≡ read_no answer }
 {
     match answer {
-        Read::Done(_) => 0,
-        Read::Length => 1,
-        Read::File(_) => 11,
+        Ok(_) => 0,
+        Err(ReadError::Length) => 1,
+        Err(ReadError::File(_)) => 11,
     }
 }
 
+#[tactic(auto, unfolding(exchange::specs::ReadFile::read_count))]
 pub fn done(answer: Read) -> u32
     ensures { result ≡ read_count answer }
 {
-    match answer {
-        Read::Done(count) => count,
-        Read::Length => 0,
-        Read::File(_) => 0,
-    }
+    answer.unwrap_or(0)
 }
 
+#[tactic(auto, unfolding(exchange::specs::ReadFile::read_place))]
 pub fn place(answer: Read) -> u64
     ensures { result ≡ read_place answer }
 {
     match answer {
-        Read::Done(_) => 0,
-        Read::Length => 0,
-        Read::File(at) => at as u64,
+        Err(ReadError::File(at)) => at as u64,
+        _ => 0,
     }
 }

@@ -14,11 +14,9 @@ use Rattle.rules.specs.Call.{Left}
 use Rattle.rules.specs.History.{run, start}
 use Rattle.rules.specs.declared.Session.{Session}
 use Rattle.exchange.specs.Written.{file_of}
-use Rattle.exchange.specs.ReadFile.{read_file}
-use Rattle.exchange.specs.declared.Read.{Read}
+use Rattle.exchange.specs.ReadFile.{Read, read_file}
 use Rattle.counts.specs.Tally.{everything}
 use Rattle.write.specs.WriteFile.{WriteLeft, write_done, write_whole, write_walked, written_length, write_file}
-use Rattle.write.specs.declared.Written.{Written}
 use Rattle.reading.specs.Agreeing.{held, Passes, HistoriesAgree}
 use Rattle.reading.proofs.HistoriesAgree.{histories_agree}
 use Rattle.roundtrip.specs.RoundTrip.{file_in, FindsAll, ListingFinds, RoundTrip}

@@ -1,4 +1,5 @@
 -- A store's file, read into a fresh store, gives the same listing and the same file again. Assumes nothing.
+use Rattle.std.specs.Prelude.{Ok, Err}
 use Prim.Native.Nat.{ℕ}
 use mathlib.Core.Path.{◌≡◌, refl, sym, ap, ◌∙◌, subst}
 use mathlib.Core.Bool.{true}
@@ -13,8 +14,8 @@ use Rattle.rules.specs.History.{State, run, start, AllProper}
 use Rattle.rules.specs.Demand.{Lent, SameListing}
 use Rattle.rules.proofs.Entries.Tests.{every_true}
 use Rattle.exchange.specs.Written.{is_set, file_of}
-use Rattle.exchange.specs.ReadFile.{as_items, done_in, read_file}
-use Rattle.exchange.specs.declared.Read.{Read}
+use Rattle.exchange.specs.ReadFile.{Read, as_items, done_in, read_file}
+use Rattle.exchange.specs.declared.ReadError.{ReadError}
 use Rattle.exchange.proofs.Exact.{exact}
 use Rattle.exchange.proofs.ReadBy.{read_fine}
 use Rattle.reading.specs.Agreeing.{held, Passes, Fills, ReadersAgree, HistoriesAgree}
@@ -31,7 +32,7 @@ same_lists a b cs ds from ks xs e f g =
     let h = subst (λ (zs : List Cert). Fills zs from ks xs a) e f in
     record { answer = h.answer ∙ sym g.answer; keys = h.keys ∙ sym g.keys; records = h.records ∙ sym g.records }
 
-same_count : (m n : ℕ) → Read.Done m ≡ Read.Done n → m ≡ n
+same_count : (m n : ℕ) → ◌≡◌ {A = Read} (Ok m) (Ok n) → m ≡ n
 same_count m n h = cc
 
 -- ── A set's file, read into a fresh store ───────────────────────────────────────────────────────────────────────
@@ -55,7 +56,7 @@ module _ (n : ℕ) (w s : List ℕ) (l : Lent n w s) (cs : List Cert) (set : is_
 
   read_is : read_file m.working m.stable m.session (file_of cs)
       ≡ record {
-        left = record { answer = Read.Done (done_in (items_answered m.stable from (as_items cs))); session = to.session; working = to.working; stable = m.stable };
+        left = record { answer = Ok (done_in (items_answered m.stable from (as_items cs))); session = to.session; working = to.working; stable = m.stable };
         report = to.report;
       }
   read_is =
@@ -65,7 +66,7 @@ module _ (n : ℕ) (w s : List ℕ) (l : Lent n w s) (cs : List Cert) (set : is_
       after : List Cert → Reported (Left Read)
       after ds = record {
         left = record {
-          answer = Read.Done (done_in (items_answered m.stable from (as_items ds)));
+          answer = Ok (done_in (items_answered m.stable from (as_items ds)));
           session = (after_items m.stable from (as_items ds)).session;
           working = (after_items m.stable from (as_items ds)).working;
           stable = m.stable;
@@ -73,7 +74,7 @@ module _ (n : ℕ) (w s : List ℕ) (l : Lent n w s) (cs : List Cert) (set : is_
         report = (after_items m.stable from (as_items ds)).report;
       }
 
-  module _ (done : r.answer ≡ Read.Done (length cs)) where
+  module _ (done : r.answer ≡ Ok (length cs)) where
     row : Row n w s l m.stable [] from cs
     unfolding is_set run AllProper
     row = record {
@@ -100,7 +101,7 @@ module _ (n : ℕ) (w s : List ℕ) (l : Lent n w s) (cs : List Cert) (set : is_
         let x = (histories_agree n w s l e.history e.proper e.pages).passes in
         let y : Passes to.working m.stable to.session
         = subst (λ (z : Left Read). Passes z.working z.stable z.session)
-        (λ i. record { answer = Read.Length; session = e.stands.session i; working = e.stands.working i; stable = e.stands.stable i }) x in
+        (λ i. record { answer = Err ReadError.Length; session = e.stands.session i; working = e.stands.working i; stable = e.stands.stable i }) x in
         subst (λ (z : Reported (Left Read)). Passes z.left.working z.left.stable z.left.session) (sym read_is) y
 
 -- ── The round trip ──────────────────────────────────────────────────────────────────────────────────────────────

@@ -1,13 +1,11 @@
 -- The round trip as the two calls make it: one writes a store's file into a lent output, the other reads it.
-use Rattle.std.specs.Prelude.{ℕ, ◌≤◌, ◌≡◌, List, length, take}
+use Rattle.std.specs.Prelude.{ℕ, ◌≤◌, ◌≡◌, List, length, take, Ok}
 use Rattle.rules.specs.Call.{Left}
 use Rattle.rules.specs.History.{Event, State, run, start, AllProper}
 use Rattle.rules.specs.Demand.{Lent}
 use Rattle.rules.specs.declared.Session.{Session}
-use Rattle.exchange.specs.ReadFile.{read_file}
-use Rattle.exchange.specs.declared.Read.{Read}
+use Rattle.exchange.specs.ReadFile.{Read, read_file}
 use Rattle.write.specs.WriteFile.{WriteLeft, written_length, write_file}
-use Rattle.write.specs.declared.Written.{Written}
 use Rattle.reading.specs.Agreeing.{held, Passes}
 use Rattle.roundtrip.specs.RoundTrip.{file_in, SameStore}
 
@@ -21,7 +19,7 @@ written m out = write_file m.working m.stable m.session out
 
 -- it writes the file of what is held
 pub record WritesHeld (s : Session) (w : List ℕ) (r : WriteLeft) : Type 0 where
-  pub answer : r.answer ≡ Written.Done (length (file_in s w))
+  pub answer : r.answer ≡ Ok (length (file_in s w))
   pub file : file_from r ≡ file_in s w
 
 -- the store that was read into is the same, and writes the same file into any output that can hold it
@@ -47,4 +45,4 @@ CallsCarry =
     → let m = run h (start w s) in
     let f = file_from (written m out) in
     let r = (read_file (start w' s').working (start w' s').stable (start w' s').session f).left in
-    r.answer ≡ Read.Done (length (held m.session m.working)) → CarriedOver m f r
+    r.answer ≡ Ok (length (held m.session m.working)) → CarriedOver m f r

@@ -1,5 +1,5 @@
 -- A store's file, read into a fresh store.
-use Rattle.std.specs.Prelude.{ℕ, ◌≤◌, ◌≡◌, true, List, length}
+use Rattle.std.specs.Prelude.{ℕ, ◌≤◌, ◌≡◌, true, List, length, Ok}
 use Rattle.rules.specs.Layout.{last_key}
 use Rattle.rules.specs.Walk.{Walked, walk_of}
 use Rattle.rules.specs.Report.{Reported}
@@ -8,8 +8,7 @@ use Rattle.rules.specs.List.{list}
 use Rattle.rules.specs.History.{Event, State, run, start, AllProper}
 use Rattle.rules.specs.Demand.{Lent, SameListing, list_now}
 use Rattle.exchange.specs.Written.{is_set, file_of}
-use Rattle.exchange.specs.ReadFile.{read_file}
-use Rattle.exchange.specs.declared.Read.{Read}
+use Rattle.exchange.specs.ReadFile.{Read, read_file}
 use Rattle.rules.specs.declared.Session.{Session}
 use Rattle.rules.specs.declared.Asked.{Asked}
 use Rattle.reading.specs.Agreeing.{held, Passes}
@@ -54,5 +53,5 @@ unfoldable pub RoundTrip : Type 0
 RoundTrip =
     (n : ℕ) (w s : List ℕ) → Lent n w s → (h : List Event) → AllProper n h → (run h (start w s)).session.n ≡ n
     → (p : ℕ) (w' s' : List ℕ) → Lent p w' s'
-    → (carried (run h (start w s)) (start w' s')).left.answer ≡ Read.Done (length (held (run h (start w s)).session (run h (start w s)).working))
+    → (carried (run h (start w s)) (start w' s')).left.answer ≡ Ok (length (held (run h (start w s)).session (run h (start w s)).working))
     → SameStore (run h (start w s)) (carried (run h (start w s)) (start w' s')).left

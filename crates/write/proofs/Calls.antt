@@ -1,4 +1,5 @@
 -- The call, by the tests it passed. Assumes nothing.
+use Rattle.std.specs.Prelude.{Err}
 use mathlib.Core.Path.{◌≡◌, refl, sym, ap, ◌∙◌}
 use mathlib.Core.Bool.{Bool, true, false}
 use mathlib.Core.List.{List}
@@ -15,9 +16,9 @@ use Rattle.rules.specs.declared.Report.{Report}
 use Rattle.rules.proofs.Demand1.Tested.{tested-length, tested-zero, tested-done}
 use Rattle.exchange.specs.Written.{file_of}
 use Rattle.counts.specs.Tally.{everything}
-use Rattle.write.specs.WriteFile.{WriteLeft, write_refused, write_done, write_whole, write_walked, write_file, write_reported}
+use Rattle.write.specs.WriteFile.{Written, WriteLeft, write_refused, write_done, write_whole, write_walked, write_file, write_reported}
+use Rattle.write.specs.declared.WriteError.{WriteError}
 use Rattle.write.specs.Calls.{Told, telling, told}
-use Rattle.write.specs.declared.Written.{Written}
 use Rattle.write.specs.declared.Sought.{Sought}
 
 -- an answer with the session and the stable table as they came
@@ -46,19 +47,19 @@ module _ (w t : List ℕ) (s : Session) {n c : ℕ} (same-n : s.n ≡ n) (same-c
   unfolding write_reported along
   hands x p q = cc
 
-  pub bad_length_lem : (y : Report) → y ≡ nothing → lengths_for s w t ≡ false → handed s t (refused Written.Length y w out) ≡ write_reported w t s out
+  pub bad_length_lem : (y : Report) → y ≡ nothing → lengths_for s w t ≡ false → handed s t (refused (Err WriteError.Length) y w out) ≡ write_reported w t s out
   unfolding write_file write_refused
-  bad_length_lem y q h = hands (refused Written.Length y w out) (rw (write_file, h)) (q ∙ sym (tested-length s w t true along h))
+  bad_length_lem y q h = hands (refused (Err WriteError.Length) y w out) (rw (write_file, h)) (q ∙ sym (tested-length s w t true along h))
 
   module _ (h : lengths_for s w t ≡ true) where
     fit0-same : {b : Bool} → fit0 n w ≡ b → fit0 s.n w ≡ b
     fit0-same z = ap (λ (m : ℕ). fit0 m w) same-n ∙ z
 
-    pub bad_zero : (y : Report) → y ≡ nothing → fit0 n w ≡ false → handed s t (refused Written.Damaged y w out) ≡ write_reported w t s out
+    pub bad_zero : (y : Report) → y ≡ nothing → fit0 n w ≡ false → handed s t (refused (Err WriteError.Damaged) y w out) ≡ write_reported w t s out
     unfolding write_file write_refused
     bad_zero y q z' =
         let z = fit0-same z' in
-        hands (refused Written.Damaged y w out) (rw (write_file, h, z)) (q ∙ sym (tested-zero s w t true along h refl z))
+        hands (refused (Err WriteError.Damaged) y w out) (rw (write_file, h, z)) (q ∙ sym (tested-zero s w t true along h refl z))
 
     module _ (z' : fit0 n w ≡ true) where
       z : fit0 s.n w ≡ true

@@ -1,4 +1,5 @@
 -- What the rule comes to, for every table. Assumes nothing.
+use Rattle.std.specs.Prelude.{Ok, Err}
 use Prim.Native.Nat.{ℕ, min, ◌^◌, ◌<◌}
 use native.Mathlib.Omega.{arith}
 use mathlib.Core.Path.{◌≡◌, refl, sym, ap, ◌∙◌}
@@ -20,12 +21,11 @@ use Rattle.rules.specs.declared.Session.{Session}
 use Rattle.rules.proofs.Bytes.Lengths.{lengths_for_true}
 use Rattle.exchange.specs.Written.{file_of}
 use Rattle.exchange.specs.Judged.{judged}
-use Rattle.exchange.specs.declared.Judged.{Judged}
 use Rattle.exchange.proofs.Exact.{exact}
 use Rattle.counts.specs.Tally.{everything}
-use Rattle.write.specs.WriteFile.{write_done, write_refused, write_whole, write_walked, write_file, write_reported, written_no, written_length}
+use Rattle.write.specs.WriteFile.{Written, write_done, write_refused, write_whole, write_walked, write_file, write_reported, written_no, written_length}
+use Rattle.write.specs.declared.WriteError.{WriteError}
 use Rattle.write.specs.Promises.{AsListed, Answers, Promises}
-use Rattle.write.specs.declared.Written.{Written}
 use Rattle.write.proofs.Rooms.{room-same}
 use Rattle.write.proofs.Listing.{listing-set}
 
@@ -92,7 +92,7 @@ module _ (w t : List ℕ) (s : Session) (out ks xs : List ℕ) (f : 37240 < leng
 
 -- ── Accepted ────────────────────────────────────────────────────────────────────────────────────────────────────
 
-refused_not : {a : Written} {k : ℕ} → (written_length a ≡ 0) → (written_no a ≡ 0 → ⊥) → a ≡ Written.Done k → ⊥
+refused_not : {a : Written} {k : ℕ} → (written_length a ≡ 0) → (written_no a ≡ 0 → ⊥) → a ≡ Ok k → ⊥
 unfolding written_no
 refused_not l n e = n (ap written_no e)
 
@@ -107,7 +107,7 @@ module _ (w t : List ℕ) (s : Session) (out : List ℕ) where
     long : length found ≡ k
     out-is : (write_file w t s out).out ≡ over found out
 
-  done : (k : ℕ) → (write_file w t s out).answer ≡ Written.Done k → Done k
+  done : (k : ℕ) → (write_file w t s out).answer ≡ Ok k → Done k
   unfolding write_file write_refused write_walked write_whole write_done written_no written_length
   done k h = go (lengths_for s w t) refl (fit0 s.n w) refl (walk_of s.n s.c everything w).whole refl (leb (length found) (length out)) refl
     where
@@ -124,7 +124,7 @@ module _ (w t : List ℕ) (s : Session) (out : List ℕ) where
         out-is = rw (write_file, p, q, write_walked, r, write_whole, u);
       }
 
-  accepts : (k : ℕ) → Bytes w → s.c < 256 ^ 4 → (write_file w t s out).answer ≡ Written.Done k → judged (take k (write_file w t s out).out) ≡ Judged.Fine
+  accepts : (k : ℕ) → Bytes w → s.c < 256 ^ 4 → (write_file w t s out).answer ≡ Ok k → judged (take k (write_file w t s out).out) ≡ Ok tt
   unfolding over
   accepts k bytes narrow h =
       let d = done k h in
@@ -158,10 +158,10 @@ write_session w t s out = go (lengths_for s w t) refl (fit0 s.n w) refl
 
 no_length : (a : Written) → (written_no a ≡ 0 → ⊥) → written_length a ≡ 0
 unfolding written_no written_length
-no_length (Written.Done k) h = absurd (h refl)
-no_length Written.Length h = refl
-no_length Written.Damaged h = refl
-no_length Written.Short h = refl
+no_length (Ok k) h = absurd (h refl)
+no_length (Err WriteError.Length) h = refl
+no_length (Err WriteError.Damaged) h = refl
+no_length (Err WriteError.Short) h = refl
 
 answers-are : (w t : List ℕ) (s : Session) (out : List ℕ) → Answers w t s out
 unfolding write_file write_refused write_walked write_whole write_done

@@ -25,7 +25,8 @@ use Rattle.counts.proofs.Tallies.{few-none, few-all, certs-found}
 use Rattle.counts.proofs.Counting.{ahead-whole, ahead-tally}
 use Rattle.sections.specs.Puts.{starts_of, put_counts, put_all, Lies}
 use Rattle.write.specs.Calls.{telling, telled, told, Wrote, wrote, wrote_in}
-use Rattle.write.specs.declared.Written.{Written}
+use Rattle.write.specs.WriteFile.{Written}
+use Rattle.write.specs.declared.WriteError.{WriteError}
 use Rattle.write.specs.declared.Sought.{Sought}
 use Rattle.sections.specs.declared.Starts.{Starts}
 use Rattle.write.proofs.Extends.{walk-few}
@@ -71,11 +72,11 @@ module _ (n c : ℕ) (t : List ℕ) (long : length t ≡ n * page_size) (most : 
     only : (answer : Written) → telling (sought answer x) u out ≡ telled answer walked out
     only answer = ap (λ (y : Reported (List ℕ)). telling (sought answer y.report) y.left out) mended
 
-    pub tell_damaged : (d : Tally) → r ≡ Err d → telling (sought Written.Damaged x) u out ≡ told out (walk_of n c everything t)
+    pub tell_damaged : (d : Tally) → r ≡ Err d → telling (sought (Err WriteError.Damaged) x) u out ≡ told out (walk_of n c everything t)
     unfolding told
     tell_damaged d q =
         let h : (walk_of n c everything t).whole ≡ false = sym known_whole ∙ ap is_ok q in
-        only Written.Damaged ∙ sym (rw (told, h))
+        only (Err WriteError.Damaged) ∙ sym (rw (told, h))
 
   -- ── Known to be whole ───────────────────────────────────────────────────────────────────────────────────────────
 
@@ -100,10 +101,10 @@ module _ (n c : ℕ) (t : List ℕ) (long : length t ≡ n * page_size) (most : 
       ends = ap (λ (z : Starts). z.end) starts-all ∙ file-end walked.found set out
 
       pub tell_short : {a : Asked} → a ≡ everything → (u : List ℕ) (x : Report) → mending u x ≡ mended_in (walk_of n c a t)
-          → length out < s.end → telling (sought Written.Short x) u out ≡ told out (walk_of n c everything t)
+          → length out < s.end → telling (sought (Err WriteError.Short) x) u out ≡ told out (walk_of n c everything t)
       unfolding told
       tell_short all u x m l =
-          only all u x m out Written.Short ∙ sym (rw (told, whole, lt-leb (length file) (length out) (omega (arith, l, ends))))
+          only all u x m out (Err WriteError.Short) ∙ sym (rw (told, whole, lt-leb (length file) (length out) (omega (arith, l, ends))))
 
       -- ── Written ─────────────────────────────────────────────────────────────────────────────────────────────────
 
@@ -130,12 +131,12 @@ module _ (n c : ℕ) (t : List ℕ) (long : length t ≡ n * page_size) (most : 
                 ∙ ap (λ (l : List ℕ). (put_all (starts_of (counted_all no_tally walked.found)) no_tally walked.found l).out) (f ∙ ap (λ (z : Tally). put_counts z out) known_tally)
                 ∙ file-written walked.found set out holds
 
-            pub tell_written : telling (sought (Written.Done s.end) x) u next ≡ told out (walk_of n c everything t)
+            pub tell_written : telling (sought (Ok s.end) x) u next ≡ told out (walk_of n c everything t)
             unfolding told wrote_in
             tell_written =
-                ap (λ (y : Wrote). telling (sought (Written.Done s.end) y.report) y.table y.out) (g ∙ ap (λ (b : Asked). wrote_in s first (walk_of n c b t)) all)
-                ∙ ap (λ (l : List ℕ). telled (Written.Done s.end) walked l) is-file
-                ∙ ap (λ (k : ℕ). telled (Written.Done k) walked (over file out)) ends
+                ap (λ (y : Wrote). telling (sought (Ok s.end) y.report) y.table y.out) (g ∙ ap (λ (b : Asked). wrote_in s first (walk_of n c b t)) all)
+                ∙ ap (λ (l : List ℕ). telled (Ok s.end) walked l) is-file
+                ∙ ap (λ (k : ℕ). telled (Ok k) walked (over file out)) ends
                 ∙ sym (rw (told, whole, le-leb (length file) (length out) holds))
 
 -- an output as long as before

@@ -1,5 +1,5 @@
 -- What the call hands back, piece by piece, as the rule says it.
-use Rattle.std.specs.Prelude.{ℕ, true, false, List, leb, length}
+use Rattle.std.specs.Prelude.{ℕ, true, false, List, leb, length, Ok, Err}
 use Rattle.rules.specs.Page.{over}
 use Rattle.rules.specs.Report.{Reported}
 use Rattle.rules.specs.Walk.{Walked}
@@ -9,8 +9,8 @@ use Rattle.exchange.specs.Written.{file_of}
 use Rattle.counts.specs.Tally.{no_tally}
 use Rattle.sections.specs.Puts.{put_all}
 use Rattle.sections.specs.declared.Starts.{Starts}
-use Rattle.write.specs.WriteFile.{WriteLeft}
-use Rattle.write.specs.declared.Written.{Written}
+use Rattle.write.specs.WriteFile.{Written, WriteLeft}
+use Rattle.write.specs.declared.WriteError.{WriteError}
 use Rattle.write.specs.declared.Writing.{Writing}
 use Rattle.write.specs.declared.Sought.{Sought}
 
@@ -47,10 +47,10 @@ telled answer w out = record { answer = answer; table = w.table; out = out; repo
 unfoldable pub told : List ℕ → Walked → Told
 told out w =
     elim w.whole [
-      | false ↦ telled Written.Damaged w out
+      | false ↦ telled (Err WriteError.Damaged) w out
       | true ↦ elim (leb (length (file_of w.found)) (length out)) [
-        | true ↦ telled (Written.Done (length (file_of w.found))) w (over (file_of w.found) out)
-        | false ↦ telled Written.Short w out
+        | true ↦ telled (Ok (length (file_of w.found))) w (over (file_of w.found) out)
+        | false ↦ telled (Err WriteError.Short) w out
       ]
     ]
 

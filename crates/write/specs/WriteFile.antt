@@ -1,5 +1,5 @@
 -- The exchange file, written (K4): the file of what a listing from key 0 with room for all finds.
-use Rattle.std.specs.Prelude.{ℕ, true, false, List, leb, length}
+use Rattle.std.specs.Prelude.{ℕ, true, false, List, leb, length, Result, Ok, Err}
 use Rattle.rules.specs.Page.{over}
 use Rattle.rules.specs.Table.{fit0}
 use Rattle.rules.specs.Report.{Reported}
@@ -9,7 +9,11 @@ use Rattle.rules.specs.Reports.{once_tested}
 use Rattle.rules.specs.declared.Session.{Session}
 use Rattle.exchange.specs.Written.{file_of}
 use Rattle.counts.specs.Tally.{everything}
-use Rattle.write.specs.declared.Written.{Written}
+use Rattle.write.specs.declared.WriteError.{WriteError}
+
+-- what the call answers: the file's length, or why there is none
+abbrev pub Written : Type 0
+Written = Result ℕ WriteError
 
 -- the call leaves the lent output too
 pub record WriteLeft : Type 0 where
@@ -22,7 +26,7 @@ pub record WriteLeft : Type 0 where
 -- the file stands over the start of the output, and its length is told; output beyond it stays
 unfoldable pub write_done : Session → List ℕ → List ℕ → List ℕ → List ℕ → WriteLeft
 write_done s w t file out = record {
-  answer = Written.Done (length file);
+  answer = Ok (length file);
   session = s;
   working = w;
   stable = t;
@@ -43,22 +47,22 @@ write_refused answer s w t out = record {
 unfoldable pub write_whole : Session → List ℕ → List ℕ → List ℕ → List ℕ → WriteLeft
 write_whole s w t file out =
     elim (leb (length file) (length out))
-    [ true ↦ write_done s w t file out | false ↦ write_refused Written.Short s w t out ]
+    [ true ↦ write_done s w t file out | false ↦ write_refused (Err WriteError.Short) s w t out ]
 
 -- what was mended stands with every answer
 unfoldable pub write_walked : Session → List ℕ → Walked → List ℕ → WriteLeft
 write_walked s t walked out =
     elim walked.whole [
-      | false ↦ write_refused Written.Damaged s walked.table t out
+      | false ↦ write_refused (Err WriteError.Damaged) s walked.table t out
       | true ↦ write_whole s walked.table t (file_of walked.found) out
     ]
 
 unfoldable pub write_file : List ℕ → List ℕ → Session → List ℕ → WriteLeft
 write_file w t s out =
     elim (lengths_for s w t) [
-      | false ↦ write_refused Written.Length s w t out
+      | false ↦ write_refused (Err WriteError.Length) s w t out
       | true ↦ elim (fit0 s.n w) [
-        | false ↦ write_refused Written.Damaged s w t out
+        | false ↦ write_refused (Err WriteError.Damaged) s w t out
         | true ↦ write_walked s t (walk_of s.n s.c everything w) out
       ]
     ]
@@ -73,13 +77,13 @@ write_reported w t s out = record {
 -- ── The paper's numbers ─────────────────────────────────────────────────────────────────────────────────────────
 
 unfoldable pub written_no : Written → ℕ
-written_no (Written.Done k) = 0
-written_no Written.Length = 1
-written_no Written.Damaged = 3
-written_no Written.Short = 9
+written_no (Ok k) = 0
+written_no (Err WriteError.Length) = 1
+written_no (Err WriteError.Damaged) = 3
+written_no (Err WriteError.Short) = 9
 
 unfoldable pub written_length : Written → ℕ
-written_length (Written.Done k) = k
-written_length Written.Length = 0
-written_length Written.Damaged = 0
-written_length Written.Short = 0
+written_length (Ok k) = k
+written_length (Err WriteError.Length) = 0
+written_length (Err WriteError.Damaged) = 0
+written_length (Err WriteError.Short) = 0

@@ -31,14 +31,16 @@ use leaves::Stepped;
 use rules::{Asked, Report, Session};
 use sections::{Starts, put_counts, put_leaf, starts_of};
 
-// The file's length, or why there is none.
-#[derive(Clone, Copy)]
-pub enum Written {
-    Done(usize),
+// Why a file isn't written.
+#[derive(Clone, Copy, PartialEq, Eq, Debug)]
+pub enum WriteError {
     Length,
     Damaged,
     Short,
 }
+
+// The file's length, or why there is none.
+pub type Written = Result<usize, WriteError>;
 
 // What the call hands back.
 #[derive(Clone, Copy)]
@@ -57,26 +59,23 @@ pub struct Sought {
 
 // The paper's number for each answer, and the length beside it.
 
+#[tactic(auto, unfolding(crate::specs::WriteFile::written_no))]
 pub fn number_of(w: Written) -> u32
     ensures { result ≡ written_no w }
 {
     match w {
-        Written::Done(length) => 0,
-        Written::Length => 1,
-        Written::Damaged => 3,
-        Written::Short => 9,
+        Ok(_) => 0,
+        Err(WriteError::Length) => 1,
+        Err(WriteError::Damaged) => 3,
+        Err(WriteError::Short) => 9,
     }
 }
 
+#[tactic(auto, unfolding(crate::specs::WriteFile::written_length))]
 pub fn length_of(w: Written) -> u64
     ensures { result ≡ written_length w }
 {
-    match w {
-        Written::Done(length) => length as u64,
-        Written::Length => 0,
-        Written::Damaged => 0,
-        Written::Short => 0,
-    }
+    w.unwrap_or(0) as u64
 }
 
 // The walk that writes, mending on the way, where no damaged place lies ahead and the counts are known.
@@ -114,7 +113,7 @@ fn look(t: &mut [u8], n: usize, c: u32, out: &mut [u8]) -> Sought
     let Ok(tally) = counts::count_of(t, n) else {
         let report = fill::mend(t, n, c, everything());
         return Sought {
-            answer: Written::Damaged,
+            answer: Err(WriteError::Damaged),
             report,
         };
     };
@@ -122,14 +121,14 @@ fn look(t: &mut [u8], n: usize, c: u32, out: &mut [u8]) -> Sought
     if starts.end > out.len() {
         let report = fill::mend(t, n, c, everything());
         return Sought {
-            answer: Written::Short,
+            answer: Err(WriteError::Short),
             report,
         };
     }
     put_counts(out, starts, tally);
     let report = fill(t, n, c, everything(), starts, out);
     Sought {
-        answer: Written::Done(starts.end),
+        answer: Ok(starts.end),
         report,
     }
 }
@@ -142,14 +141,14 @@ pub fn lean(working: &mut [u8], stable: &[u8], n: u16, c: u32, out: &mut [u8]) -
 {
     if !tables::lengths_for(n, working, stable) {
         return Sought {
-            answer: Written::Length,
+            answer: Err(WriteError::Length),
             report: Report::nothing(),
         };
     }
     let pages = n as usize;
     if !head::fit0(working, pages) {
         return Sought {
-            answer: Written::Damaged,
+            answer: Err(WriteError::Damaged),
             report: Report::nothing(),
         };
     }
@@ -161,11 +160,9 @@ pub fn write_file(working: &mut [u8], stable: &[u8], session: Session, out: &mut
         ≡ write_reported working.old stable.now session out.old }
 {
     let sought = lean(working, stable, session.n, session.c, out);
-    let answer = sought.answer;
-    let report = sought.report;
     Writing {
-        answer,
-        report,
+        answer: sought.answer,
+        report: sought.report,
         session,
     }
 }

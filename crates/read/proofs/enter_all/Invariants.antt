@@ -1,5 +1,5 @@
 -- `read::enter_all`: at each turn the certificates left make, of what stands, what all of them make. Assumes nothing.
-use Prim.Native.Nat.{◌-◌, ◌≤◌}
+use Prim.Native.Nat.{◌≤◌}
 use mathlib.Core.Path.{◌≡◌}
 use lib.ListN.{length, drop}
 use Rattle.exchange.specs.Told.{certs_in}
@@ -8,7 +8,4 @@ use Rattle.read.specs.Readings.{running, goes}
 use Rattle.read.proofs.enter_all.Given as goal
 
 abbrev pub invariant-loop-place : goal.invariant-loop-place
-invariant-loop-place l = (l.place ≤ l.count) × (l.made.done ≤ l.place) × (length l.working ≡ length l.initial.working) × (goes l.stable (running l.made l.working) (drop l.place (as_items (certs_in l.file))) ≡ goes l.stable (running l.initial.made l.initial.working) (as_items (certs_in l.file)))
-
-abbrev pub decreases-loop-place : goal.decreases-loop-place
-decreases-loop-place l = l.count - l.place
+invariant-loop-place l = (l.made.done ≤ l.place) × (length l.working ≡ length l.initial.working) × (goes l.stable (running l.made l.working) (drop l.place (as_items (certs_in l.file))) ≡ goes l.stable (running l.initial.made l.initial.working) (as_items (certs_in l.file)))

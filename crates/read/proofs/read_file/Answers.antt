@@ -1,6 +1,5 @@
 -- `read::read_file`: each return is one of the rule's cases. Assumes nothing.
 use mathlib.Core.Path.{refl, sym, ap, ◌∙◌}
-use borrow.Author.Tests.{not-true, not-false}
 use Rattle.exchange.specs.declared.Reading.{Reading}
 use Rattle.read.specs.Readings.{leaving}
 use Rattle.read.proofs.Turns.{turns-read, refused-length, refused-file}
@@ -12,16 +11,16 @@ returns-then-not-lengths_for c =
     (sym (c.lengths_for.ensures c.args.session refl) ∙ c.if-not-lengths_for.true)
 
 pub enter_all-requires : goal.enter_all-requires
-enter_all-requires c = sym c.check.ensures ∙ c.in-Good.is
+enter_all-requires c = sym c.check.ensures ∙ c.in-Ok.is
 
-pub returns-in-Bad : goal.returns-in-Bad
-returns-in-Bad c =
-    refused-file c.args.working.now c.args.stable.now c.args.session c.args.file.now c.in-Bad.place c.nothing-in-Bad.result c.nothing-in-Bad.ensures
-    (sym (c.lengths_for.ensures c.args.session refl) ∙ c.if-not-lengths_for.false) (sym c.check.ensures ∙ c.in-Bad.is)
+pub returns-in-Err : goal.returns-in-Err
+returns-in-Err c =
+    refused-file c.args.working.now c.args.stable.now c.args.session c.args.file.now c.in-Err.place c.nothing-in-Err.result c.nothing-in-Err.ensures
+    (sym (c.lengths_for.ensures c.args.session refl) ∙ c.if-not-lengths_for.false) (sym c.check.ensures ∙ c.in-Err.is)
 
-pub returns-in-Good : goal.returns-in-Good
-returns-in-Good c =
+pub returns-in-Ok : goal.returns-in-Ok
+returns-in-Ok c =
     ap (λ (x : Reading). leaving x c.enter_all.new.working c.args.stable.now) c.entered.ensures
-    ∙ turns-read c.args.working.now c.args.stable.now c.args.session c.args.file.now c.in-Good.count (sym c.check.ensures ∙ c.in-Good.is)
+    ∙ turns-read c.args.working.now c.args.stable.now c.args.session c.args.file.now c.in-Ok.count (sym c.check.ensures ∙ c.in-Ok.is)
     (sym (c.lengths_for.ensures c.args.session refl) ∙ c.if-not-lengths_for.false)
     c.enter_all.result c.enter_all.new.working c.enter_all.ensures
