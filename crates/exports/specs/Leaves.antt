@@ -16,8 +16,7 @@ use Rattle.rules.specs.declared.Looked.{Looked}
 use Rattle.rules.specs.declared.Newest.{Newest}
 use Rattle.rules.specs.declared.Any.{Any}
 use Rattle.rules.specs.declared.Listed.{Listed}
-use Rattle.exchange.specs.ReadFile.{read_no, read_count, read_place}
-use Rattle.exchange.specs.ReadFile.{Read}
+use Rattle.exchange.specs.ReadFile.{Read, read_no, read_count, read_place}
 use Rattle.exports.specs.declared.KhAnswered.{KhAnswered}
 use Rattle.exports.specs.declared.KhChanged.{KhChanged}
 use Rattle.exports.specs.declared.KhRead.{KhRead}
@@ -26,8 +25,7 @@ use Rattle.exports.specs.declared.KhNewest.{KhNewest}
 use Rattle.exports.specs.declared.KhAny.{KhAny}
 use Rattle.exports.specs.declared.KhListed.{KhListed}
 use Rattle.exports.specs.declared.KhWritten.{KhWritten}
-use Rattle.write.specs.WriteFile.{WriteLeft, written_no, written_length}
-use Rattle.write.specs.WriteFile.{Written}
+use Rattle.write.specs.WriteFile.{Written, WriteLeft, written_no, written_length}
 
 pub record Leaves (A : Type 0) : Type 0 where
   pub back : A

@@ -28,7 +28,7 @@ use Rattle.exchange.specs.declared.Certificate.{Certificate}
 use Rattle.exchange.proofs.Exact.{exact}
 use Rattle.exchange.proofs.Accepts.{length-told}
 use Rattle.exchange.proofs.ReadBy.{bad_judged, read_length, read_bad, read_fine, length-as_items, as_items-at}
-use Rattle.read.specs.Readings.{Running, leaving, running, beginning, one_done, one_more, goes, entered_of}
+use Rattle.read.specs.Readings.{Running, leaving, running, beginning, one_done, one_more, goes}
 use Rattle.read.specs.declared.Made.{Made}
 
 -- ── One turn ────────────────────────────────────────────────────────────────────────────────────────────────────
@@ -111,7 +111,7 @@ goes_after t m (x ∷ xs) = goes_after t (one_more t m x) xs ∙ (λ i. record {
 
 pub turns-read : (w t : List ℕ) (s : Session) (f : List ℕ) (n : ℕ) → checked f ≡ Ok n → lengths_for s w t ≡ true
     → (m : Made) (l : List ℕ) → running m l ≡ goes t (beginning w s) (as_items (certs_in f))
-    → leaving (entered_of m) l t ≡ read_file w t s f
+    → leaving (record { answer = Ok m.done; report = m.report; session = m.session }) l t ≡ read_file w t s f
 turns-read w t s f n good h m l e =
     let xs = as_items (certs_in f) in
     let b = between w s nothing in

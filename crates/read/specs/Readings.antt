@@ -1,5 +1,5 @@
 -- A file's certificates as the loop goes through them: what stands between two turns, and what one turn makes of it.
-use Rattle.std.specs.Prelude.{ℕ, ◌+◌, true, false, List, [], ◌∷◌, eqb, Ok}
+use Rattle.std.specs.Prelude.{ℕ, ◌+◌, true, false, List, [], ◌∷◌, eqb}
 use Rattle.rules.specs.Report.{Reported, nothing}
 use Rattle.rules.specs.Call.{Left}
 use Rattle.rules.specs.Batch.{Between, between, item_no, after_item}
@@ -38,7 +38,3 @@ one_more t m x = record { done = one_done m.done (item_no t m.stands x); stands 
 unfoldable pub goes : List ℕ → Running → List Item → Running
 goes t m [] = m
 goes t m (x ∷ xs) = goes t (one_more t m x) xs
-
--- what is handed back after all of them
-abbrev pub entered_of : Made → Reading
-entered_of m = record { answer = Ok m.done; report = m.report; session = m.session }

@@ -15,7 +15,7 @@ ghost use Rattle.std.specs.Prelude.{◌≡◌, ◌+◌, ◌<◌, Ok};
 ghost use Rattle.exchange.specs.Judged.{checked};
 ghost use Rattle.exchange.specs.Told.{certs_in};
 ghost use Rattle.exchange.specs.ReadFile.{as_item, as_items, read_file, read_no, read_count, read_place};
-ghost use Rattle.read.specs.Readings.{leaving, running, beginning, one_done, one_more, goes, entered_of};
+ghost use Rattle.read.specs.Readings.{leaving, running, beginning, one_done, one_more, goes};
 
 use exchange::{Certificate, Read, ReadError, Reading};
 use rules::{Report, Session};
@@ -78,17 +78,6 @@ fn enter_all(working: &mut [u8], stable: &[u8], session: Session, file: &[u8], c
     made
 }
 
-// What the call hands back after all of them.
-fn entered(made: Made) -> Reading
-    ensures { result ≡ entered_of made }
-{
-    Reading {
-        answer: Ok(made.done),
-        report: made.report,
-        session: made.session,
-    }
-}
-
 pub fn read_file(working: &mut [u8], stable: &[u8], session: Session, file: &[u8]) -> Reading
     ensures { leaving result working.new stable.now
         ≡ read_file working.old stable.now session file.now }
@@ -106,7 +95,14 @@ pub fn read_file(working: &mut [u8], stable: &[u8], session: Session, file: &[u8
             report: Report::nothing(),
             session,
         },
-        Ok(count) => entered(enter_all(working, stable, session, file, count)),
+        Ok(count) => {
+            let made = enter_all(working, stable, session, file, count);
+            Reading {
+                answer: Ok(made.done),
+                report: made.report,
+                session: made.session,
+            }
+        }
     }
 }
 

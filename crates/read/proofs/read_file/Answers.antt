@@ -1,7 +1,5 @@
 -- `read::read_file`: each return is one of the rule's cases. Assumes nothing.
-use mathlib.Core.Path.{refl, sym, ap, ◌∙◌}
-use Rattle.exchange.specs.declared.Reading.{Reading}
-use Rattle.read.specs.Readings.{leaving}
+use mathlib.Core.Path.{refl, sym, ◌∙◌}
 use Rattle.read.proofs.Turns.{turns-read, refused-length, refused-file}
 use Rattle.read.proofs.read_file.Goals as goal
 
@@ -10,8 +8,8 @@ returns-then-not-lengths_for c =
     refused-length c.args.working.now c.args.stable.now c.args.session c.args.file.now c.nothing.result c.nothing.ensures
     (sym (c.lengths_for.ensures c.args.session refl) ∙ c.if-not-lengths_for.true)
 
-pub enter_all-requires : goal.enter_all-requires
-enter_all-requires c = sym c.check.ensures ∙ c.in-Ok.is
+pub enter_all-made-requires : goal.enter_all-made-requires
+enter_all-made-requires c = sym c.check.ensures ∙ c.in-Ok.is
 
 pub returns-in-Err : goal.returns-in-Err
 returns-in-Err c =
@@ -20,7 +18,6 @@ returns-in-Err c =
 
 pub returns-in-Ok : goal.returns-in-Ok
 returns-in-Ok c =
-    ap (λ (x : Reading). leaving x c.enter_all.new.working c.args.stable.now) c.entered.ensures
-    ∙ turns-read c.args.working.now c.args.stable.now c.args.session c.args.file.now c.in-Ok.count (sym c.check.ensures ∙ c.in-Ok.is)
+    turns-read c.args.working.now c.args.stable.now c.args.session c.args.file.now c.in-Ok.count (sym c.check.ensures ∙ c.in-Ok.is)
     (sym (c.lengths_for.ensures c.args.session refl) ∙ c.if-not-lengths_for.false)
-    c.enter_all.result c.enter_all.new.working c.enter_all.ensures
+    c.enter_all-made.result c.enter_all-made.new.working c.enter_all-made.ensures
