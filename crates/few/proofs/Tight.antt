@@ -22,5 +22,8 @@ module _ (T : RattleType) (N : ℕ) (laws : Laws T) (fits : Fits w64 N) (copy : 
   pub few-push_front_tight : Tight (this.Few.push_front.Kinds.ps T N laws fits copy) (this.Few.push_front.Kinds.r T N laws fits copy) (this.Few.push_front.Reads.Pre T N laws fits copy C c) (this.Few.push_front.Reads.Post T N laws fits copy C c)
   few-push_front_tight κs a pre z z' l l' p q = (refl, λ i. ((p ∙ sym q) i, l.1))
 
+  pub few-extend_from_slice_tight : Tight (this.Few.extend_from_slice.Kinds.ps T N laws fits copy) (this.Few.extend_from_slice.Kinds.r T N laws fits copy) (this.Few.extend_from_slice.Reads.Pre T N laws fits copy C c) (this.Few.extend_from_slice.Reads.Post T N laws fits copy C c)
+  few-extend_from_slice_tight κs a pre z z' l l' p q = (refl, λ i. ((p ∙ sym q) i, l.1))
+
   pub few-as_slice_tight : TightLent (this.Few.as_slice.Kinds.ps T N laws fits copy) (this.Few.as_slice.Kinds.r T N laws fits copy) (this.Few.as_slice.Reads.Pre T N laws fits copy C c) (this.Few.as_slice.Reads.Post T N laws fits copy C c) (λ κs z. z.now)
   few-as_slice_tight κs a pre z z' l l' p q = (p.0 ∙ sym q.0, refl)

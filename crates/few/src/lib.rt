@@ -8,7 +8,7 @@
 
 #![tactic(auto)]
 
-ghost use Rattle.std.specs.Prelude.{◌≡◌, ◌<◌, ◌≤◌, [], ◌∷◌, ◌++◌, length};
+ghost use Rattle.std.specs.Prelude.{◌≡◌, ◌+◌, ◌<◌, ◌≤◌, [], ◌∷◌, ◌++◌, length};
 
 use std::marker::Model;
 
@@ -59,6 +59,17 @@ impl<T: Copy, const N: usize> Few<T, N> {
         self.items.copy_within(0..self.len, 1);
         self.items[0] = item;
         self.len += 1;
+    }
+
+    // Some more, behind the others.
+    pub fn extend_from_slice(&mut self, more: &[T])
+        requires { length self.old + length more.now ≤ N }
+        ensures { self.new ≡ self.old ++ more.now }
+    {
+        let end = self.len + more.len();
+        let items = &mut self.items[..];
+        items[self.len..end].copy_from_slice(more);
+        self.len = end;
     }
 
     pub fn as_slice(&self) -> &[T]
