@@ -9,114 +9,106 @@
 
 #![tactic(auto)]
 
-ghost use Rattle.std.specs.Prelude.{◌≡◌, true, length};
-ghost use Rattle.driver.specs.Acts.{bench_bytes};
+ghost use Rattle.std.specs.Prelude.{◌≡◌, IfOk};
 ghost use Rattle.bench.specs.Runs.{run, stand};
 
-use driver::Bench;
+use driver::{BYTES, Bench, Table};
+use std::fmt;
 use std::io::{Read, Write};
 use words::Reply;
-
-// Five pages.
-const BYTES: usize = 2560;
 
 // How much is read at once.
 const CHUNK: usize = 512;
 
-// What a chunk of input leaves; `on` says whether there may be more.
+// Why the program stops before the end of its input.
 #[derive(Clone, Copy)]
-struct Fed {
-    bench: Bench,
-    on: bool,
+enum Trouble {
+    Read,
+    Write,
 }
 
-// Writes a line; nothing for a byte inside one. A line that can't be written is told on standard error, and leaves the
-// exit status as it is.
-fn print(rt: HostRuntime, reply: Reply) -> bool {
-    let text = words::spell(reply);
-    let n = text.len;
-    let bytes = text.bytes;
-    if rt.stdout().write_all(&bytes[..n]).is_ok() {
-        return true;
+impl fmt::Display for Trouble {
+    fn fmt<W: fmt::Write>(&self, f: &mut fmt::Formatter<W>) -> fmt::Result {
+        f.write_str(match self {
+            Trouble::Read => "bench: cannot read standard input",
+            Trouble::Write => "bench: cannot write to standard output",
+        })
     }
-    let _ = rt
-        .stderr()
-        .write_all(b"bench: cannot write to standard output\n");
-    false
+}
+
+// Writes a line; nothing for a byte inside one.
+fn print(rt: HostRuntime, reply: Reply) -> Result<(), Trouble> {
+    let text = words::spell(reply);
+    match rt.stdout().write_all(text.as_slice()) {
+        Ok(()) => Ok(()),
+        Err(_) => Err(Trouble::Write),
+    }
 }
 
 // The bytes of a chunk, one after the other, up to one whose line can't be written.
-fn feed(rt: HostRuntime, input: &[u8], working: &mut [u8], stable: &mut [u8], bench: Bench) -> Fed
-    requires { (length working.old ≡ bench_bytes) × (length stable.old ≡ bench_bytes) }
-    ensures { result.on ≡ true → stand result.bench working.new stable.new
-        ≡ run input.now (stand bench working.old stable.old) }
+fn feed(
+    rt: HostRuntime,
+    input: &[u8],
+    working: &mut Table,
+    stable: &mut Table,
+    bench: Bench,
+) -> Result<Bench, Trouble>
+    ensures { IfOk result (λ m. stand m working.new stable.new
+        ≡ run input.now (stand bench working.old stable.old)) }
 {
-    let mut m = bench;
-    let mut i = 0;
-    while i < input.len() {
-        let step = m.step(working, stable, input[i]);
-        let reply = step.reply;
-        let next = step.bench;
-        m = next;
-        if !print(rt, reply) {
-            return Fed {
-                bench: m,
-                on: false,
-            };
-        }
-        i += 1;
+    let mut bench = bench;
+    for b in input {
+        let step = bench.step(working, stable, *b);
+        print(rt, step.reply)?;
+        bench = step.bench;
     }
-    Fed { bench: m, on: true }
+    Ok(bench)
 }
 
-// Reads once. At the end of the input a last line without a newline is a line.
-fn read_some(rt: HostRuntime, working: &mut [u8], stable: &mut [u8], bench: Bench) -> Fed
-    requires { (length working.old ≡ bench_bytes) × (length stable.old ≡ bench_bytes) }
-{
+// Reads once; hands back nothing at the end of the input, where a last line without a newline is a line.
+fn read_some(
+    rt: HostRuntime,
+    working: &mut Table,
+    stable: &mut Table,
+    bench: Bench,
+) -> Result<Option<Bench>, Trouble> {
     let mut chunk = [0u8; CHUNK];
     match rt.stdin().read(&mut chunk) {
         Ok(0) => {
             let step = bench.finish(working, stable);
-            let reply = step.reply;
-            let last = step.bench;
-            print(rt, reply);
-            Fed {
-                bench: last,
-                on: false,
-            }
+            print(rt, step.reply)?;
+            Ok(None)
         }
-        Ok(n) => feed(rt, &chunk[..n], working, stable, bench),
-        Err(_) => {
-            let _ = rt
-                .stderr()
-                .write_all(b"bench: cannot read standard input\n");
-            Fed { bench, on: false }
-        }
+        Ok(n) => Ok(Some(feed(rt, &chunk[..n], working, stable, bench)?)),
+        Err(_) => Err(Trouble::Read),
     }
 }
 
-// A proved loop must end, and nothing says that the input does: the turns count down from a number that no run uses up.
-fn serve(rt: HostRuntime, working: &mut [u8], stable: &mut [u8], bench: Bench)
-    requires { (length working.old ≡ bench_bytes) × (length stable.old ≡ bench_bytes) }
-{
-    let mut m = bench;
-    let mut turns = u64::MAX;
-    while turns > 0 {
-        let fed = read_some(rt, working, stable, m);
-        if !fed.on {
-            return;
+// A proved loop must end, and nothing says that the input does: no run takes so many turns.
+fn serve(
+    rt: HostRuntime,
+    working: &mut Table,
+    stable: &mut Table,
+    bench: Bench,
+) -> Result<(), Trouble> {
+    let mut bench = bench;
+    for _ in 0..u64::MAX {
+        match read_some(rt, working, stable, bench)? {
+            Some(next) => bench = next,
+            None => break,
         }
-        let next = fed.bench;
-        m = next;
-        turns -= 1;
     }
+    Ok(())
 }
 
+// A trouble is told on standard error, and leaves the exit status as it is.
 fn main(rt: HostRuntime) {
     let mut working = [0u8; BYTES];
     let mut stable = [0u8; BYTES];
     format::format(&working, &mut stable);
     let opened = opening::open(&mut working, &mut stable);
-    let session = opened.session;
-    serve(rt, &mut working, &mut stable, Bench::new(session));
+    let bench = Bench::new(opened.session);
+    if let Err(trouble) = serve(rt, &mut working, &mut stable, bench) {
+        let _ = rt.eprintln(trouble);
+    }
 }

@@ -1,3 +1,2 @@
 pub mod Mixing
-pub mod Steps
 pub mod Tight

@@ -12,7 +12,7 @@ use borrow.Author.Tests.{eq-eqb, ne_eqb, eqb-true, eqb-false, ltb-true, ltb-fals
 use Rattle.rules.specs.Layout.{page_size}
 use Rattle.rules.specs.Table.{page_at, set_page}
 use Rattle.rules.specs.Crash.{mix, crashed}
-use Rattle.rules.proofs.Bytes.Tables.{Has, has-page, length-page_at, length-set_page, page_at-set_page-same, page_at-set_page-other, pages_ext}
+use Rattle.rules.proofs.Bytes.Tables.{Has, has-page, length-page_at, length-set_page, set_page-page_at, page_at-set_page-same, page_at-set_page-other, pages_ext}
 use Rattle.rules.proofs.Bytes.Mixes.{chosen, length-mix, page_at-mix}
 
 module _ (marks : List Bool) (i : ℕ) where
@@ -71,7 +71,7 @@ module _ (n : ℕ) (marks : List Bool) (w s : List ℕ) (i : ℕ)
       let p = has-page s n j hs g in
       rw (page_at-mix (take (i + 1) marks) w s j same_length p, mark-old marks i j d, page_at-mix (take i marks) w s j same_length p)
 
-  pub mix-more : mix (take (i + 1) marks) w s ≡ set_page (so_far marks w s i) i (next-page marks w s i)
+  mix-more : mix (take (i + 1) marks) w s ≡ set_page (so_far marks w s i) i (next-page marks w s i)
   mix-more =
       pages_ext n (mix (take (i + 1) marks) w s) (set_page (so_far marks w s i) i (next-page marks w s i))
       (length-mix (take (i + 1) marks) w s same_length ∙ hs)
@@ -87,6 +87,13 @@ module _ (n : ℕ) (marks : List Bool) (w s : List ℕ) (i : ℕ)
           let d = eqb-false j i f in
           page-old j g d
           ∙ sym (page_at-set_page-other (so_far marks w s i) i (next-page marks w s i) has_far length-page j d)
+
+  -- a page that is written, and one that is left
+  pub mix-written : get_or marks i false ≡ true → set_page (so_far marks w s i) i (page_at w i) ≡ mix (take (i + 1) marks) w s
+  mix-written e = sym (rw e at mix-more)
+
+  pub mix-left : get_or marks i false ≡ false → so_far marks w s i ≡ mix (take (i + 1) marks) w s
+  mix-left e = sym ((rw e at mix-more) ∙ set_page-page_at (so_far marks w s i) i)
 
 module _ (marks : List Bool) (n : ℕ) (w s : List ℕ) where
   -- after a refused opening nothing is written

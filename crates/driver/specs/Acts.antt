@@ -1,6 +1,6 @@
 -- One line's effect on the bench program's store, in the rules' words: the call that the line asks for, with its answer
 -- as what is to be printed.
-use Rattle.std.specs.Prelude.{ℕ, true, false, List, [], ◌∷◌, eqb}
+use Rattle.std.specs.Prelude.{ℕ, true, false, List, eqb, Some, None, unwrap_or}
 use Rattle.rules.specs.Call.{Left, opened_no, inserted_no, looked_no, synced_no}
 use Rattle.rules.specs.Open.{opening}
 use Rattle.rules.specs.Insert.{insert}
@@ -14,6 +14,7 @@ use Rattle.rules.specs.declared.Looked.{Looked}
 use Rattle.rules.specs.declared.Synced.{Synced}
 use Rattle.lines.specs.declared.Line.{Line}
 use Rattle.words.specs.declared.Reply.{Reply}
+use Rattle.lines.specs.declared.Reader.{Reader}
 use Rattle.lines.specs.Reader.{start_of, fed_of, line_in}
 use Rattle.words.specs.Words.{newline}
 use Rattle.driver.specs.declared.Turn.{Turn}
@@ -39,7 +40,7 @@ abbrev pub opened_reply : Opened → Reply
 opened_reply a = Reply.Answer (opened_no a)
 
 -- after a successful find, the record
-unfoldable pub looked_reply : Looked → Reply
+abbrev pub looked_reply : Looked → Reply
 looked_reply (Looked.Found x) = Reply.Record x
 looked_reply Looked.Length = Reply.Answer (looked_no Looked.Length)
 looked_reply Looked.BadKey = Reply.Answer (looked_no Looked.BadKey)
@@ -53,12 +54,11 @@ abbrev pub told : {A : Type 0} → (A → Reply) → Left A → Left Reply
 told reply r = record { answer = reply r.answer; session = r.session; working = r.working; stable = r.stable }
 
 -- a line of any other shape does nothing
-unfoldable pub acted : Line → Session → List ℕ → List ℕ → Left Reply
+abbrev pub acted : Line → Session → List ℕ → List ℕ → Left Reply
 acted (Line.Insert model serial issue x) session w s = told inserted_reply (insert w s session model serial issue x)
 acted (Line.Find model serial issue) session w s = told looked_reply (lookup w s session model serial issue)
 acted Line.Sync session w s = told synced_reply (sync w s session)
-acted (Line.Crash a b c d e) session w s =
-    told opened_reply (opening w (crashed (a ∷ b ∷ c ∷ d ∷ e ∷ []) session.n w s))
+acted (Line.Crash written) session w s = told opened_reply (opening w (crashed written session.n w s))
 acted Line.Other session w s = record { answer = Reply.Line; session = session; working = w; stable = s }
 
 -- what a turn of the driver leaves, from what it hands back and the two tables
@@ -76,11 +76,15 @@ pub record Stepped : Type 0 where
 
 -- before the first byte of a line
 abbrev pub fresh : Session → Bench
-fresh session = record { reader = start_of; begun = false; session = session }
+fresh session = record { reader = None; session = session }
+
+-- where the reader is, at the start of the line if no byte of it is read
+abbrev pub reader_of : Bench → Reader
+reader_of m = unwrap_or m.reader start_of
 
 -- a byte of a line is read
 abbrev pub fed : Bench → ℕ → Bench
-fed m b = record { reader = fed_of m.reader b; begun = true; session = m.session }
+fed m b = record { reader = Some (fed_of (reader_of m) b); session = m.session }
 
 abbrev pub silent : Bench → List ℕ → List ℕ → Stepped
 silent m w s = record { reply = Reply.Silent; bench = m; working = w; stable = s }
@@ -89,15 +93,15 @@ abbrev pub answered : Left Reply → Stepped
 answered r = record { reply = r.answer; bench = fresh r.session; working = r.working; stable = r.stable }
 
 -- a line is at its end
-unfoldable pub closed : Bench → List ℕ → List ℕ → Stepped
-closed m w s = answered (acted (line_in m.reader) m.session w s)
+abbrev pub closed : Bench → List ℕ → List ℕ → Stepped
+closed m w s = answered (acted (line_in (reader_of m)) m.session w s)
 
-unfoldable pub stepped : Bench → ℕ → List ℕ → List ℕ → Stepped
+abbrev pub stepped : Bench → ℕ → List ℕ → List ℕ → Stepped
 stepped m b w s = elim (eqb b newline) [ true ↦ closed m w s | false ↦ silent (fed m b) w s ]
 
 -- the input is at its end: a last line without a newline is a line
-unfoldable pub finished : Bench → List ℕ → List ℕ → Stepped
-finished m w s = elim m.begun [ true ↦ closed m w s | false ↦ silent m w s ]
+abbrev pub finished : Bench → List ℕ → List ℕ → Stepped
+finished m w s = elim m.reader [ Some r ↦ closed m w s | None ↦ silent m w s ]
 
 abbrev pub step_left : Step → List ℕ → List ℕ → Stepped
 step_left r w s = record { reply = r.reply; bench = r.bench; working = w; stable = s }

@@ -1,4 +1,3 @@
-pub mod Feeds
 pub mod Tight
 pub mod Told
 pub mod Reading

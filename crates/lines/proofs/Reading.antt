@@ -1,18 +1,19 @@
 -- The reader reads lines as document 01 does: fed a line's bytes one by one and asked at its end, it tells what
 -- specs/Line.antt reads in the line. Assumes nothing.
 use Prim.Native.Nat.{ℕ}
-use mathlib.Core.Path.{◌≡◌, refl, sym, ap, ◌∙◌}
-use mathlib.Core.Bool.{Bool, true, false, ◌&&◌, ◌||◌}
+use mathlib.Core.Path.{◌≡◌, refl, sym, ◌∙◌}
+use mathlib.Core.Bool.{Bool, true, false}
 use mathlib.Core.List.{List, [], ◌∷◌, foldl}
-use mathlib.Core.Option.{Option, some, none}
-use lib.Dec.{leb, eqb}
+use lib.Dec.{eqb}
 use borrow.Author.Tests.{eqb-true}
+use Rattle.std.specs.Prelude.{Option, Some, None, set}
 use Rattle.lines.specs.declared.Line.{Line}
+use Rattle.lines.specs.declared.Ask.{Ask}
 use Rattle.lines.specs.declared.Reader.{Reader}
 use Rattle.lines.specs.declared.Reader.TheVariants.{Certificate, Model, Serial, Issue, Record, Sync, Crash, Page, Other}
-use Rattle.lines.specs.Line.{space, letter_i, letter_f, letter_s, letter_c, most16, most32, last_page, onto, words, digits, value, number_in, number, end, insert_of, find_of, crash_of, letter_of, asked, line_of}
-use Rattle.lines.specs.Reader.{space_fed, letter_fed, after_issue, page_next, start_of, fed_of, ended, line_in}
-use Rattle.lines.proofs.Told.{told, picked, number_from, onward, rested, told-other, number-told}
+use Rattle.lines.specs.Line.{space, letter_i, letter_f, letter_s, letter_c, most16, most32, last_page, onto, words, number_in, number, end, insert_of, find_of, crash_of, no_pages, letter_of, asked, line_of}
+use Rattle.lines.specs.Reader.{space_fed, letter_fed, after_issue, start_of, fed_of, line_in}
+use Rattle.lines.proofs.Told.{told, number_from, rested, told-other, number-told}
 
 -- ── Words ───────────────────────────────────────────────────────────────────────────────────────────────────────
 
@@ -46,107 +47,95 @@ end-words line bs = end-some line (words bs) (words-some bs)
 
 -- ── A number from its first byte on ─────────────────────────────────────────────────────────────────────────────
 
-picked_elim : (b : Bool) (v : ℕ) → picked b v ≡ elim b [ true ↦ some v | false ↦ none ]
-unfolding picked
-picked_elim true v = refl
-picked_elim false v = refl
-
-number-from : (limit : ℕ) (w : List ℕ) → number_from false limit 0 w ≡ number_in limit w
-unfolding number_from number_in picked
+number-from : (limit : ℕ) (w : List ℕ) → number_from limit None w ≡ number_in limit w
+unfolding number_from number_in
 number-from limit [] = refl
-number-from limit (b ∷ w) = picked_elim (digits (b ∷ w) && leb (value 0 (b ∷ w)) limit) (value 0 (b ∷ w))
+number-from limit (b ∷ w) = refl
 
-onward_elim : (rest : ℕ → List (List ℕ) → Line) (ws : List (List ℕ)) (x : Option ℕ) → onward rest ws x ≡ elim x [ none ↦ Line.Other | some v ↦ rest v ws ]
-unfolding onward
-onward_elim rest ws none = refl
-onward_elim rest ws (some v) = refl
-
-rested_number : (limit : ℕ) (rest : ℕ → List (List ℕ) → Line) (ws : List (List ℕ)) → rested false limit 0 rest ws ≡ number limit rest ws
+rested_number : (limit : ℕ) (rest : ℕ → List (List ℕ) → Line) (ws : List (List ℕ)) → rested limit None rest ws ≡ number limit rest ws
 unfolding rested number
 rested_number limit rest [] = refl
-rested_number limit rest (w ∷ ws) = ap (onward rest ws) (number-from limit w) ∙ onward_elim rest ws (number_in limit w)
+rested_number limit rest (w ∷ ws) = rw (number-from limit w)
 
 -- ── The numbers of a certificate, last one first ────────────────────────────────────────────────────────────────
 
-record_told : (m s i : ℕ) (begun : Bool) (v : ℕ) (bs : List ℕ) → told (Record m s i begun v) bs ≡ rested begun most32 v (λ r. end (Line.Insert m s i r)) (words bs)
-unfolding fed_of line_in ended words rested number_from picked onward end
-record_told m s i true v [] = refl
-record_told m s i false v [] = refl
-record_told m s i begun v (b ∷ bs) =
-    number-told most32 (Record m s i true) (λ r. Other) (λ r. end (Line.Insert m s i r)) bs
-    (λ u. record_told m s i true u bs)
+record_told : (m s i : ℕ) (v : Option ℕ) (bs : List ℕ) → told (Record m s i v) bs ≡ rested most32 v (λ r. end (Line.Insert m s i r)) (words bs)
+unfolding words rested number_from end
+record_told m s i (Some v) [] = refl
+record_told m s i None [] = refl
+record_told m s i v (b ∷ bs) =
+    number-told most32 (λ r. Record m s i (Some r)) (λ r. Other) (λ r. end (Line.Insert m s i r)) bs
+    (λ r. record_told m s i (Some r) bs)
     (λ r. told-other bs ∙ sym (end-words (Line.Insert m s i r) bs))
-    begun v b
+    v b
 
 -- what follows an issue
-abbrev issue_rest : Bool → ℕ → ℕ → ℕ → List (List ℕ) → Line
-issue_rest true m s i = number most32 (λ r. end (Line.Insert m s i r))
-issue_rest false m s i = end (Line.Find m s i)
+abbrev issue_rest : Ask → ℕ → ℕ → ℕ → List (List ℕ) → Line
+issue_rest Ask.Insert m s i = number most32 (λ r. end (Line.Insert m s i r))
+issue_rest Ask.Find m s i = end (Line.Find m s i)
 
-issue-behind : (insert : Bool) (m s i : ℕ) (bs : List ℕ) → told (after_issue insert m s i) bs ≡ issue_rest insert m s i (words bs)
-unfolding after_issue
-issue-behind true m s i bs = record_told m s i false 0 bs ∙ rested_number most32 (λ r. end (Line.Insert m s i r)) (words bs)
-issue-behind false m s i bs = told-other bs ∙ sym (end-words (Line.Find m s i) bs)
+issue-behind : (ask : Ask) (m s i : ℕ) (bs : List ℕ) → told (after_issue ask m s i) bs ≡ issue_rest ask m s i (words bs)
+issue-behind Ask.Insert m s i bs = record_told m s i None bs ∙ rested_number most32 (λ r. end (Line.Insert m s i r)) (words bs)
+issue-behind Ask.Find m s i bs = told-other bs ∙ sym (end-words (Line.Find m s i) bs)
 
-issue-told : (insert : Bool) (m s : ℕ) (begun : Bool) (v : ℕ) (bs : List ℕ) → told (Issue insert m s begun v) bs ≡ rested begun most16 v (issue_rest insert m s) (words bs)
-unfolding fed_of line_in ended words rested number_from picked onward end number
-issue-told true m s true v [] = refl
-issue-told true m s false v [] = refl
-issue-told false m s true v [] = refl
-issue-told false m s false v [] = refl
-issue-told insert m s begun v (b ∷ bs) =
-    number-told most16 (Issue insert m s true) (after_issue insert m s) (issue_rest insert m s) bs
-    (λ u. issue-told insert m s true u bs)
-    (λ i. issue-behind insert m s i bs)
-    begun v b
+issue-told : (ask : Ask) (m s : ℕ) (v : Option ℕ) (bs : List ℕ) → told (Issue ask m s v) bs ≡ rested most16 v (issue_rest ask m s) (words bs)
+unfolding words rested number_from end number
+issue-told Ask.Insert m s (Some v) [] = refl
+issue-told Ask.Insert m s None [] = refl
+issue-told Ask.Find m s (Some v) [] = refl
+issue-told Ask.Find m s None [] = refl
+issue-told ask m s v (b ∷ bs) =
+    number-told most16 (λ i. Issue ask m s (Some i)) (after_issue ask m s) (issue_rest ask m s) bs
+    (λ i. issue-told ask m s (Some i) bs)
+    (λ i. issue-behind ask m s i bs)
+    v b
 
-abbrev serial_rest : Bool → ℕ → ℕ → List (List ℕ) → Line
-serial_rest insert m s = number most16 (issue_rest insert m s)
+abbrev serial_rest : Ask → ℕ → ℕ → List (List ℕ) → Line
+serial_rest ask m s = number most16 (issue_rest ask m s)
 
-serial-told : (insert : Bool) (m : ℕ) (begun : Bool) (v : ℕ) (bs : List ℕ) → told (Serial insert m begun v) bs ≡ rested begun most32 v (serial_rest insert m) (words bs)
-unfolding fed_of line_in words rested number_from picked onward number
-serial-told insert m true v [] = refl
-serial-told insert m false v [] = refl
-serial-told insert m begun v (b ∷ bs) =
-    number-told most32 (Serial insert m true) (λ s. Issue insert m s false 0) (serial_rest insert m) bs
-    (λ u. serial-told insert m true u bs)
-    (λ s. issue-told insert m s false 0 bs ∙ rested_number most16 (issue_rest insert m s) (words bs))
-    begun v b
+serial-told : (ask : Ask) (m : ℕ) (v : Option ℕ) (bs : List ℕ) → told (Serial ask m v) bs ≡ rested most32 v (serial_rest ask m) (words bs)
+unfolding words rested number_from number
+serial-told ask m (Some v) [] = refl
+serial-told ask m None [] = refl
+serial-told ask m v (b ∷ bs) =
+    number-told most32 (λ s. Serial ask m (Some s)) (λ s. Issue ask m s None) (serial_rest ask m) bs
+    (λ s. serial-told ask m (Some s) bs)
+    (λ s. issue-told ask m s None bs ∙ rested_number most16 (issue_rest ask m s) (words bs))
+    v b
 
-abbrev model_rest : Bool → ℕ → List (List ℕ) → Line
-model_rest insert m = number most32 (serial_rest insert m)
+abbrev model_rest : Ask → ℕ → List (List ℕ) → Line
+model_rest ask m = number most32 (serial_rest ask m)
 
-model-told : (insert begun : Bool) (v : ℕ) (bs : List ℕ) → told (Model insert begun v) bs ≡ rested begun most16 v (model_rest insert) (words bs)
-unfolding fed_of line_in words rested number_from picked onward number
-model-told insert true v [] = refl
-model-told insert false v [] = refl
-model-told insert begun v (b ∷ bs) =
-    number-told most16 (Model insert true) (λ m. Serial insert m false 0) (model_rest insert) bs
-    (λ u. model-told insert true u bs)
-    (λ m. serial-told insert m false 0 bs ∙ rested_number most32 (serial_rest insert m) (words bs))
-    begun v b
+model-told : (ask : Ask) (v : Option ℕ) (bs : List ℕ) → told (Model ask v) bs ≡ rested most16 v (model_rest ask) (words bs)
+unfolding words rested number_from number
+model-told ask (Some v) [] = refl
+model-told ask None [] = refl
+model-told ask v (b ∷ bs) =
+    number-told most16 (λ m. Model ask (Some m)) (λ m. Serial ask m None) (model_rest ask) bs
+    (λ m. model-told ask (Some m) bs)
+    (λ m. serial-told ask m None bs ∙ rested_number most32 (serial_rest ask m) (words bs))
+    v b
 
 -- ── The pages of a crash ────────────────────────────────────────────────────────────────────────────────────────
 
 -- what follows a page's number
-abbrev page_rest : Bool → Bool → Bool → Bool → Bool → ℕ → List (List ℕ) → Line
-page_rest p q r s t n = crash_of (p || eqb n 0) (q || eqb n 1) (r || eqb n 2) (s || eqb n 3) (t || eqb n 4)
+abbrev page_rest : List Bool → ℕ → List (List ℕ) → Line
+page_rest pages n = crash_of (set pages n true)
 
-rested_crash : (p q r s t : Bool) (ws : List (List ℕ)) → some_word ws ≡ true → rested false last_page 0 (page_rest p q r s t) ws ≡ crash_of p q r s t ws
+rested_crash : (pages : List Bool) (ws : List (List ℕ)) → some_word ws ≡ true → rested last_page None (page_rest pages) ws ≡ crash_of pages ws
 unfolding some_word rested crash_of
-rested_crash p q r s t [] h = cc
-rested_crash p q r s t (w ∷ ws) h = ap (onward (page_rest p q r s t) ws) (number-from last_page w) ∙ onward_elim (page_rest p q r s t) ws (number_in last_page w)
+rested_crash pages [] h = cc
+rested_crash pages (w ∷ ws) h = rw (number-from last_page w)
 
-page-told : (p q r s t begun : Bool) (v : ℕ) (bs : List ℕ) → told (Page p q r s t begun v) bs ≡ rested begun last_page v (page_rest p q r s t) (words bs)
-unfolding fed_of line_in ended words rested number_from picked onward crash_of
-page-told p q r s t true v [] = refl
-page-told p q r s t false v [] = refl
-page-told p q r s t begun v (b ∷ bs) =
-    number-told last_page (Page p q r s t true) (page_next p q r s t) (page_rest p q r s t) bs
-    (λ u. page-told p q r s t true u bs)
-    (λ n. page-told (p || eqb n 0) (q || eqb n 1) (r || eqb n 2) (s || eqb n 3) (t || eqb n 4) false 0 bs
-    ∙ rested_crash (p || eqb n 0) (q || eqb n 1) (r || eqb n 2) (s || eqb n 3) (t || eqb n 4) (words bs) (words-some bs))
-    begun v b
+page-told : (pages : List Bool) (v : Option ℕ) (bs : List ℕ) → told (Page pages v) bs ≡ rested last_page v (page_rest pages) (words bs)
+unfolding words rested number_from crash_of
+page-told pages (Some v) [] = refl
+page-told pages None [] = refl
+page-told pages v (b ∷ bs) =
+    number-told last_page (λ n. Page pages (Some n)) (λ n. Page (set pages n true) None) (page_rest pages) bs
+    (λ n. page-told pages (Some n) bs)
+    (λ n. page-told (set pages n true) None bs ∙ rested_crash (set pages n true) (words bs) (words-some bs))
+    v b
 
 -- ── The letter ──────────────────────────────────────────────────────────────────────────────────────────────────
 
@@ -154,9 +143,9 @@ page-told p q r s t begun v (b ∷ bs) =
 abbrev fed_by : Bool → Bool → Bool → Bool → Reader
 fed_by i f s c =
     elim i [
-      | true ↦ Certificate true
+      | true ↦ Certificate Ask.Insert
       | false ↦ elim f [
-        | true ↦ Certificate false
+        | true ↦ Certificate Ask.Find
         | false ↦ elim s [ true ↦ Sync | false ↦ elim c [ true ↦ Crash | false ↦ Other ] ]
       ]
     ]
@@ -170,14 +159,14 @@ asked_by i f s c ws =
         | true ↦ find_of ws
         | false ↦ elim s [
           | true ↦ end Line.Sync ws
-          | false ↦ elim c [ true ↦ crash_of false false false false false ws | false ↦ Line.Other ]
+          | false ↦ elim c [ true ↦ crash_of no_pages ws | false ↦ Line.Other ]
         ]
       ]
     ]
 
 -- the letter is all
 letter_alone : (b : ℕ) → line_in (letter_fed b) ≡ letter_of b []
-unfolding letter_fed letter_of line_in insert_of find_of crash_of number end
+unfolding letter_of insert_of find_of crash_of number end
 letter_alone b = go (eqb b letter_i) (eqb b letter_f) (eqb b letter_s) (eqb b letter_c)
   where
     go : (i f s c : Bool) → line_in (fed_by i f s c) ≡ asked_by i f s c []
@@ -189,21 +178,18 @@ letter_alone b = go (eqb b letter_i) (eqb b letter_f) (eqb b letter_s) (eqb b le
 
 -- a space follows
 letter_fields : (b : ℕ) (bs : List ℕ) → told (letter_fed b) (space ∷ bs) ≡ letter_of b (words bs)
-unfolding letter_fed letter_of fed_of space_fed insert_of find_of
+unfolding letter_of insert_of find_of
 letter_fields b bs = go (eqb b letter_i) (eqb b letter_f) (eqb b letter_s) (eqb b letter_c)
   where
     go : (i f s c : Bool) → told (fed_by i f s c) (space ∷ bs) ≡ asked_by i f s c (words bs)
-    go true f s c = model-told true false 0 bs ∙ rested_number most16 (model_rest true) (words bs)
-    go false true s c = model-told false false 0 bs ∙ rested_number most16 (model_rest false) (words bs)
+    go true f s c = model-told Ask.Insert None bs ∙ rested_number most16 (model_rest Ask.Insert) (words bs)
+    go false true s c = model-told Ask.Find None bs ∙ rested_number most16 (model_rest Ask.Find) (words bs)
     go false false true c = told-other bs ∙ sym (end-words Line.Sync bs)
-    go false false false true =
-        page-told false false false false false false 0 bs
-        ∙ rested_crash false false false false false (words bs) (words-some bs)
+    go false false false true = page-told no_pages None bs ∙ rested_crash no_pages (words bs) (words-some bs)
     go false false false false = told-other bs
 
 -- another byte follows
 letter_more : (b a : ℕ) (bs : List ℕ) → eqb a space ≡ false → told (letter_fed b) (a ∷ bs) ≡ Line.Other
-unfolding letter_fed fed_of space_fed
 letter_more b a bs n = go (eqb b letter_i) (eqb b letter_f) (eqb b letter_s) (eqb b letter_c)
   where
     go : (i f s c : Bool) → told (fed_by i f s c) (a ∷ bs) ≡ Line.Other
@@ -231,7 +217,7 @@ letter_told b (a ∷ bs) = go (eqb a space) refl
 -- ── The theorem ─────────────────────────────────────────────────────────────────────────────────────────────────
 
 pub reader_reads : (bs : List ℕ) → line_in (foldl fed_of start_of bs) ≡ line_of bs
-unfolding fed_of line_in line_of words asked letter_fed
+unfolding line_of words asked
 reader_reads [] = refl
 reader_reads (b ∷ bs) = go (eqb b space) refl
   where

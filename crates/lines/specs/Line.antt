@@ -1,7 +1,7 @@
 -- What a line of the bench program asks for: fields parted by one space, numbers in decimal digits, each within its
 -- field's width, page numbers 0 to 4. A line of any other shape is Other.
-use Rattle.std.specs.Prelude.{ℕ, ◌+◌, ◌*◌, ◌-◌, Bool, true, false, ◌&&◌, ◌||◌, List, [], ◌∷◌, leb, eqb}
-use Rattle.std.proofs.Math.Option.{Option, some, none}
+use Rattle.std.specs.Prelude.{ℕ, ◌+◌, ◌*◌, ◌-◌, Bool, true, false, ◌&&◌, List, [], ◌∷◌, set, leb, eqb, Option, Some, None}
+use Rattle.std.specs.Option.{option_map_or}
 use Rattle.lines.specs.declared.Line.{Line}
 
 -- ── Bytes and widths ────────────────────────────────────────────────────────────────────────────────────────────
@@ -46,7 +46,7 @@ words (b ∷ bs) = elim (eqb b space) [ true ↦ [] ∷ words bs | false ↦ ont
 
 -- ── Numbers ─────────────────────────────────────────────────────────────────────────────────────────────────────
 
-unfoldable pub is_digit : ℕ → Bool
+abbrev pub is_digit : ℕ → Bool
 is_digit b = leb 48 b && leb b 57
 
 unfoldable pub digits : List ℕ → Bool
@@ -64,16 +64,16 @@ value v (b ∷ bs) = value (grown v b) bs
 
 -- a word is a number if it is digits, one at least, and its value is within the limit; leading zeros are digits
 unfoldable pub number_in : ℕ → List ℕ → Option ℕ
-number_in limit [] = none
+number_in limit [] = None
 number_in limit (b ∷ bs) =
-    elim (digits (b ∷ bs) && leb (value 0 (b ∷ bs)) limit) [ true ↦ some (value 0 (b ∷ bs)) | false ↦ none ]
+    elim (digits (b ∷ bs) && leb (value 0 (b ∷ bs)) limit) [ true ↦ Some (value 0 (b ∷ bs)) | false ↦ None ]
 
 -- ── Shapes ──────────────────────────────────────────────────────────────────────────────────────────────────────
 
 -- the line goes on with a number, and then as that number says
 unfoldable pub number : ℕ → (ℕ → List (List ℕ) → Line) → List (List ℕ) → Line
 number limit rest [] = Line.Other
-number limit rest (w ∷ ws) = elim (number_in limit w) [ none ↦ Line.Other | some v ↦ rest v ws ]
+number limit rest (w ∷ ws) = option_map_or (λ v. rest v ws) (number_in limit w) Line.Other
 
 -- the line ends here
 unfoldable pub end : Line → List (List ℕ) → Line
@@ -89,14 +89,14 @@ insert_of =
 unfoldable pub find_of : List (List ℕ) → Line
 find_of = number most16 (λ m. number most32 (λ s. number most16 (λ i. end (Line.Find m s i))))
 
+-- no page of the five
+abbrev pub no_pages : List Bool
+no_pages = false ∷ false ∷ false ∷ false ∷ false ∷ []
+
 -- c pages.., none or more, as a set
-unfoldable pub crash_of : Bool → Bool → Bool → Bool → Bool → List (List ℕ) → Line
-crash_of p q r s t [] = Line.Crash p q r s t
-crash_of p q r s t (w ∷ ws) =
-    elim (number_in last_page w) [
-      | none ↦ Line.Other
-      | some n ↦ crash_of (p || eqb n 0) (q || eqb n 1) (r || eqb n 2) (s || eqb n 3) (t || eqb n 4) ws
-    ]
+unfoldable pub crash_of : List Bool → List (List ℕ) → Line
+crash_of pages [] = Line.Crash pages
+crash_of pages (w ∷ ws) = option_map_or (λ n. crash_of (set pages n true) ws) (number_in last_page w) Line.Other
 
 unfoldable pub letter_of : ℕ → List (List ℕ) → Line
 letter_of b ws =
@@ -106,7 +106,7 @@ letter_of b ws =
         | true ↦ find_of ws
         | false ↦ elim (eqb b letter_s) [
           | true ↦ end Line.Sync ws
-          | false ↦ elim (eqb b letter_c) [ true ↦ crash_of false false false false false ws | false ↦ Line.Other ]
+          | false ↦ elim (eqb b letter_c) [ true ↦ crash_of no_pages ws | false ↦ Line.Other ]
         ]
       ]
     ]

@@ -1,79 +1,68 @@
 -- The reader of a line: where it is, with the numbers read so far, and what a byte makes of that.
-use Rattle.std.specs.Prelude.{ℕ, Bool, true, false, ◌&&◌, ◌||◌, leb, eqb}
+use Rattle.std.specs.Prelude.{ℕ, true, false, ◌&&◌, set, leb, eqb, Option, Some, None, unwrap_or}
+use Rattle.std.specs.Option.{option_map_or}
 use Rattle.lines.specs.declared.Line.{Line}
-use Rattle.lines.specs.declared.Grown.{Grown}
+use Rattle.lines.specs.declared.Ask.{Ask}
 use Rattle.lines.specs.declared.Reader.{Reader}
 use Rattle.lines.specs.declared.Reader.TheVariants.{Start, Certificate, Model, Serial, Issue, Record, Sync, Crash, Page, Other}
-use Rattle.lines.specs.Line.{space, letter_i, letter_f, letter_s, letter_c, most16, most32, last_page, is_digit, grown}
+use Rattle.lines.specs.Line.{space, letter_i, letter_f, letter_s, letter_c, most16, most32, last_page, is_digit, grown, no_pages}
 
 -- a number with a digit more, within a limit
-unfoldable pub grown_of : ℕ → ℕ → ℕ → Grown
-grown_of limit v b = elim (is_digit b && leb (grown v b) limit) [ true ↦ Grown.To (grown v b) | false ↦ Grown.Not ]
-
-unfoldable pub grown_to : (ℕ → Reader) → Grown → Reader
-grown_to here (Grown.To v) = here v
-grown_to here Grown.Not = Other
+abbrev pub grown_of : ℕ → ℕ → ℕ → Option ℕ
+grown_of limit v b = elim (is_digit b && leb (grown v b) limit) [ true ↦ Some (grown v b) | false ↦ None ]
 
 -- within a number: a space ends it, if it has begun; a digit makes it grow
-unfoldable pub number_fed : ℕ → (ℕ → Reader) → (ℕ → Reader) → Bool → ℕ → ℕ → Reader
-number_fed limit here next begun v b =
+abbrev pub number_fed : ℕ → (ℕ → Reader) → (ℕ → Reader) → Option ℕ → ℕ → Reader
+number_fed limit here next v b =
     elim (eqb b space) [
-      | true ↦ elim begun [ true ↦ next v | false ↦ Other ]
-      | false ↦ grown_to here (grown_of limit v b)
+      | true ↦ option_map_or next v Other
+      | false ↦ option_map_or here (grown_of limit (unwrap_or v 0) b) Other
     ]
 
 -- between a letter and its fields
-unfoldable pub space_fed : Reader → ℕ → Reader
+abbrev pub space_fed : Reader → ℕ → Reader
 space_fed next b = elim (eqb b space) [ true ↦ next | false ↦ Other ]
 
-unfoldable pub letter_fed : ℕ → Reader
+abbrev pub letter_fed : ℕ → Reader
 letter_fed b =
     elim (eqb b letter_i) [
-      | true ↦ Certificate true
+      | true ↦ Certificate Ask.Insert
       | false ↦ elim (eqb b letter_f) [
-        | true ↦ Certificate false
+        | true ↦ Certificate Ask.Find
         | false ↦ elim (eqb b letter_s) [ true ↦ Sync | false ↦ elim (eqb b letter_c) [ true ↦ Crash | false ↦ Other ] ]
       ]
     ]
 
 -- a find has no record
-unfoldable pub after_issue : Bool → ℕ → ℕ → ℕ → Reader
-after_issue true m s i = Record m s i false 0
-after_issue false m s i = Other
-
-abbrev pub page_next : Bool → Bool → Bool → Bool → Bool → ℕ → Reader
-page_next p q r s t n = Page (p || eqb n 0) (q || eqb n 1) (r || eqb n 2) (s || eqb n 3) (t || eqb n 4) false 0
+abbrev pub after_issue : Ask → ℕ → ℕ → ℕ → Reader
+after_issue Ask.Insert m s i = Record m s i None
+after_issue Ask.Find m s i = Other
 
 abbrev pub start_of : Reader
 start_of = Start
 
-unfoldable pub fed_of : Reader → ℕ → Reader
+abbrev pub fed_of : Reader → ℕ → Reader
 fed_of Start b = letter_fed b
-fed_of (Certificate insert) b = space_fed (Model insert false 0) b
-fed_of (Model insert begun v) b = number_fed most16 (Model insert true) (λ m. Serial insert m false 0) begun v b
-fed_of (Serial insert m begun v) b = number_fed most32 (Serial insert m true) (λ s. Issue insert m s false 0) begun v b
-fed_of (Issue insert m s begun v) b = number_fed most16 (Issue insert m s true) (after_issue insert m s) begun v b
-fed_of (Record m s i begun v) b = number_fed most32 (Record m s i true) (λ r. Other) begun v b
+fed_of (Certificate ask) b = space_fed (Model ask None) b
+fed_of (Model ask v) b = number_fed most16 (λ m. Model ask (Some m)) (λ m. Serial ask m None) v b
+fed_of (Serial ask m v) b = number_fed most32 (λ s. Serial ask m (Some s)) (λ s. Issue ask m s None) v b
+fed_of (Issue ask m s v) b = number_fed most16 (λ i. Issue ask m s (Some i)) (after_issue ask m s) v b
+fed_of (Record m s i v) b = number_fed most32 (λ r. Record m s i (Some r)) (λ r. Other) v b
 fed_of Sync b = Other
-fed_of Crash b = space_fed (Page false false false false false false 0) b
-fed_of (Page p q r s t begun v) b = number_fed last_page (Page p q r s t true) (page_next p q r s t) begun v b
+fed_of Crash b = space_fed (Page no_pages None) b
+fed_of (Page pages v) b = number_fed last_page (λ n. Page pages (Some n)) (λ n. Page (set pages n true) None) v b
 fed_of Other b = Other
 
--- a number that the line's end finds begun
-unfoldable pub ended : Bool → Line → Line
-ended true line = line
-ended false line = Line.Other
-
-unfoldable pub line_in : Reader → Line
+-- the line's end ends a number, if it has begun
+abbrev pub line_in : Reader → Line
 line_in Start = Line.Other
-line_in (Certificate insert) = Line.Other
-line_in (Model insert begun v) = Line.Other
-line_in (Serial insert m begun v) = Line.Other
-line_in (Issue true m s begun v) = Line.Other
-line_in (Issue false m s begun v) = ended begun (Line.Find m s v)
-line_in (Record m s i begun v) = ended begun (Line.Insert m s i v)
+line_in (Certificate ask) = Line.Other
+line_in (Model ask v) = Line.Other
+line_in (Serial ask m v) = Line.Other
+line_in (Issue Ask.Insert m s v) = Line.Other
+line_in (Issue Ask.Find m s v) = option_map_or (Line.Find m s) v Line.Other
+line_in (Record m s i v) = option_map_or (Line.Insert m s i) v Line.Other
 line_in Sync = Line.Sync
-line_in Crash = Line.Crash false false false false false
-line_in (Page p q r s t begun n) =
-    ended begun (Line.Crash (p || eqb n 0) (q || eqb n 1) (r || eqb n 2) (s || eqb n 3) (t || eqb n 4))
+line_in Crash = Line.Crash no_pages
+line_in (Page pages v) = option_map_or (λ n. Line.Crash (set pages n true)) v Line.Other
 line_in Other = Line.Other

@@ -9,10 +9,20 @@
 
 #![tactic(auto)]
 
-ghost use Rattle.std.specs.Prelude.{◌≡◌};
+ghost use Rattle.std.specs.Prelude.{◌≡◌, ◌≢◌, ◌≤◌, ℕ, MatchOption, set, true, unwrap_or};
+ghost use Rattle.std.specs.Option.{ForSome};
+ghost use Rattle.lines.specs.Line.{space};
 ghost use Rattle.lines.specs.Reader.{grown_of, after_issue, letter_fed, space_fed, start_of, fed_of, line_in};
 
-const SPACE: u8 = 32;
+const SPACE: u8 = b' ';
+
+// The limits of a line's numbers: a model or an issue has 16 bits, a serial or a record 32, and the bench's store has
+// pages 0 to 4.
+const MOST_16: u32 = u16::MAX as u32;
+
+const MOST_32: u32 = u32::MAX;
+
+const LAST_PAGE: u32 = 4;
 
 // A line asks for an insert, a find, a sync, or a crash with some of the five pages written; one of any other shape
 // asks for nothing.
@@ -21,148 +31,77 @@ pub enum Line {
     Insert(u16, u32, u16, u32),
     Find(u16, u32, u16),
     Sync,
-    Crash(bool, bool, bool, bool, bool),
+    Crash([bool; 5]),
     Other,
 }
 
-// Where a reader is. `Certificate` stands behind the letter of an insert (true) or a find; the four numbers follow,
-// each with those before it, whether it has begun, and its value so far. `Other` is behind a line of any other shape.
+// What a certificate's numbers are for.
+#[derive(Clone, Copy)]
+pub enum Ask {
+    Insert,
+    Find,
+}
+
+// Where a reader is. `Certificate` stands behind the letter of an insert or a find; the four numbers follow, each with
+// those before it and its value so far, if it has begun. `Other` is behind a line of any other shape.
 #[derive(Clone, Copy)]
 pub enum Reader {
     Start,
-    Certificate(bool),
-    Model(bool, bool, u16),
-    Serial(bool, u16, bool, u32),
-    Issue(bool, u16, u32, bool, u16),
-    Record(u16, u32, u16, bool, u32),
+    Certificate(Ask),
+    Model(Ask, Option<u16>),
+    Serial(Ask, u16, Option<u32>),
+    Issue(Ask, u16, u32, Option<u16>),
+    Record(u16, u32, u16, Option<u32>),
     Sync,
     Crash,
-    Page(bool, bool, bool, bool, bool, bool, u8),
+    Page([bool; 5], Option<u8>),
     Other,
 }
 
 // A number with a digit more, if the byte is a digit and the number stays within its limit.
-#[derive(Clone, Copy)]
-enum Grown {
-    To(u32),
-    Not,
-}
-
-fn grow(limit: u32, v: u32, b: u8) -> Grown
+fn grow(limit: u32, v: u32, b: u8) -> Option<u32>
     ensures { result ≡ grown_of limit v b }
 {
-    if b < 48 {
-        return Grown::Not;
+    if !b.is_ascii_digit() {
+        return None;
     }
-    if 57 < b {
-        return Grown::Not;
+    let n = u64::from(v) * 10 + u64::from(b - b'0');
+    if n <= u64::from(limit) {
+        return Some(n as u32);
     }
-    let n = (v as u64) * 10 + ((b - 48) as u64);
-    if n <= limit as u64 {
-        return Grown::To(n as u32);
+    None
+}
+
+// A byte within a number: a space ends it, if it has begun, and a digit makes it grow.
+fn feed_number<G: FnOnce(u32) -> Reader, E: FnOnce(u32) -> Reader>(
+    limit: u32,
+    v: Option<u32>,
+    b: u8,
+    grown: G,
+    ended: E,
+) -> Reader
+    requires grows { (n : ℕ) → n ≤ limit → G.pre grown n }
+    requires ends { ForSome v (E.pre ended) }
+    ensures at_space { b ≡ space → MatchOption v (result ≡ Reader.Other) (λ n. E.post ended n result) }
+    ensures within { b ≢ space
+        → MatchOption (grown_of limit (unwrap_or v 0) b) (result ≡ Reader.Other) (λ n. G.post grown n result) }
+{
+    if b == SPACE {
+        return v.map_or(Reader::Other, ended);
     }
-    Grown::Not
+    grow(limit, v.unwrap_or(0), b).map_or(Reader::Other, grown)
 }
 
 fn feed_letter(b: u8) -> Reader
     ensures { result ≡ letter_fed b }
 {
     match b {
-        105 => Reader::Certificate(true),
-        102 => Reader::Certificate(false),
-        115 => Reader::Sync,
-        99 => Reader::Crash,
+        b'i' => Reader::Certificate(Ask::Insert),
+        b'f' => Reader::Certificate(Ask::Find),
+        b's' => Reader::Sync,
+        b'c' => Reader::Crash,
         _ => Reader::Other,
     }
-}
-
-fn feed_model(insert: bool, begun: bool, v: u16, b: u8) -> Reader
-    ensures { result ≡ fed_of (Reader.Model insert begun v) b }
-{
-    if b == SPACE {
-        if begun {
-            return Reader::Serial(insert, v, false, 0);
-        }
-        return Reader::Other;
-    }
-    let Grown::To(n) = grow(65535, v as u32, b) else {
-        return Reader::Other;
-    };
-    Reader::Model(insert, true, n as u16)
-}
-
-fn feed_serial(insert: bool, model: u16, begun: bool, v: u32, b: u8) -> Reader
-    ensures { result ≡ fed_of (Reader.Serial insert model begun v) b }
-{
-    if b == SPACE {
-        if begun {
-            return Reader::Issue(insert, model, v, false, 0);
-        }
-        return Reader::Other;
-    }
-    let Grown::To(n) = grow(4294967295, v, b) else {
-        return Reader::Other;
-    };
-    Reader::Serial(insert, model, true, n)
-}
-
-fn after_issue(insert: bool, model: u16, serial: u32, issue: u16) -> Reader
-    ensures { result ≡ after_issue insert model serial issue }
-{
-    if insert {
-        return Reader::Record(model, serial, issue, false, 0);
-    }
-    Reader::Other
-}
-
-fn feed_issue(insert: bool, model: u16, serial: u32, begun: bool, v: u16, b: u8) -> Reader
-    ensures { result ≡ fed_of (Reader.Issue insert model serial begun v) b }
-{
-    if b == SPACE {
-        if begun {
-            return after_issue(insert, model, serial, v);
-        }
-        return Reader::Other;
-    }
-    let Grown::To(n) = grow(65535, v as u32, b) else {
-        return Reader::Other;
-    };
-    Reader::Issue(insert, model, serial, true, n as u16)
-}
-
-fn feed_record(model: u16, serial: u32, issue: u16, begun: bool, v: u32, b: u8) -> Reader
-    ensures { result ≡ fed_of (Reader.Record model serial issue begun v) b }
-{
-    if b == SPACE {
-        return Reader::Other;
-    }
-    let Grown::To(n) = grow(4294967295, v, b) else {
-        return Reader::Other;
-    };
-    Reader::Record(model, serial, issue, true, n)
-}
-
-fn feed_page(p: bool, q: bool, r: bool, s: bool, t: bool, begun: bool, v: u8, b: u8) -> Reader
-    ensures { result ≡ fed_of (Reader.Page p q r s t begun v) b }
-{
-    if b == SPACE {
-        if begun {
-            return Reader::Page(
-                p | (v == 0),
-                q | (v == 1),
-                r | (v == 2),
-                s | (v == 3),
-                t | (v == 4),
-                false,
-                0,
-            );
-        }
-        return Reader::Other;
-    }
-    let Grown::To(n) = grow(4, v as u32, b) else {
-        return Reader::Other;
-    };
-    Reader::Page(p, q, r, s, t, true, n as u8)
 }
 
 fn feed_space(next: Reader, b: u8) -> Reader
@@ -174,40 +113,37 @@ fn feed_space(next: Reader, b: u8) -> Reader
     Reader::Other
 }
 
-fn line_page(p: bool, q: bool, r: bool, s: bool, t: bool, begun: bool, v: u8) -> Line
-    ensures { result ≡ line_in (Reader.Page p q r s t begun v) }
+// A find has no record.
+fn after_issue(ask: Ask, model: u16, serial: u32, issue: u16) -> Reader
+    ensures { result ≡ after_issue ask model serial issue }
 {
-    if begun {
-        return Line::Crash(
-            p | (v == 0),
-            q | (v == 1),
-            r | (v == 2),
-            s | (v == 3),
-            t | (v == 4),
-        );
+    match ask {
+        Ask::Insert => Reader::Record(model, serial, issue, None),
+        Ask::Find => Reader::Other,
     }
-    Line::Other
 }
 
-fn line_issue(insert: bool, model: u16, serial: u32, begun: bool, v: u16) -> Line
-    ensures { result ≡ line_in (Reader.Issue insert model serial begun v) }
+// The pages with one more.
+fn with_page(mut pages: [bool; 5], page: u8) -> [bool; 5]
+    ensures { result ≡ set pages page true }
 {
-    if insert {
-        return Line::Other;
+    let i = usize::from(page);
+    if i < pages.len() {
+        pages[i] = true;
     }
-    if begun {
-        return Line::Find(model, serial, v);
-    }
-    Line::Other
+    pages
 }
 
-fn line_record(model: u16, serial: u32, issue: u16, begun: bool, v: u32) -> Line
-    ensures { result ≡ line_in (Reader.Record model serial issue begun v) }
+fn feed_page(pages: [bool; 5], v: Option<u8>, b: u8) -> Reader
+    ensures { result ≡ fed_of (Reader.Page pages v) b }
 {
-    if begun {
-        return Line::Insert(model, serial, issue, v);
-    }
-    Line::Other
+    feed_number(
+        LAST_PAGE,
+        v.map(u32::from),
+        b,
+        |n| Reader::Page(pages, Some(n as u8)),
+        |page| Reader::Page(with_page(pages, page as u8), None),
+    )
 }
 
 impl Reader {
@@ -222,17 +158,38 @@ impl Reader {
     {
         match self {
             Reader::Start => feed_letter(b),
-            Reader::Certificate(insert) => feed_space(Reader::Model(insert, false, 0), b),
-            Reader::Model(insert, begun, v) => feed_model(insert, begun, v, b),
-            Reader::Serial(insert, m, begun, v) => feed_serial(insert, m, begun, v, b),
-            Reader::Issue(insert, m, s, begun, v) => feed_issue(insert, m, s, begun, v, b),
-            Reader::Record(m, s, i, begun, v) => feed_record(m, s, i, begun, v, b),
-            Reader::Sync => Reader::Other,
-            Reader::Crash => {
-                feed_space(Reader::Page(false, false, false, false, false, false, 0), b)
-            }
-            Reader::Page(p, q, r, s, t, begun, v) => feed_page(p, q, r, s, t, begun, v, b),
-            Reader::Other => Reader::Other,
+            Reader::Certificate(ask) => feed_space(Reader::Model(ask, None), b),
+            Reader::Model(ask, v) => feed_number(
+                MOST_16,
+                v.map(u32::from),
+                b,
+                |n| Reader::Model(ask, Some(n as u16)),
+                |m| Reader::Serial(ask, m as u16, None),
+            ),
+            Reader::Serial(ask, m, v) => feed_number(
+                MOST_32,
+                v,
+                b,
+                |n| Reader::Serial(ask, m, Some(n)),
+                |s| Reader::Issue(ask, m, s, None),
+            ),
+            Reader::Issue(ask, m, s, v) => feed_number(
+                MOST_16,
+                v.map(u32::from),
+                b,
+                |n| Reader::Issue(ask, m, s, Some(n as u16)),
+                |i| after_issue(ask, m, s, i as u16),
+            ),
+            Reader::Record(m, s, i, v) => feed_number(
+                MOST_32,
+                v,
+                b,
+                |n| Reader::Record(m, s, i, Some(n)),
+                |_| Reader::Other,
+            ),
+            Reader::Crash => feed_space(Reader::Page([false; 5], None), b),
+            Reader::Page(pages, v) => feed_page(pages, v, b),
+            Reader::Sync | Reader::Other => Reader::Other,
         }
     }
 
@@ -240,16 +197,12 @@ impl Reader {
         ensures { result ≡ line_in self }
     {
         match self {
-            Reader::Issue(insert, m, s, begun, v) => line_issue(insert, m, s, begun, v),
-            Reader::Record(m, s, i, begun, v) => line_record(m, s, i, begun, v),
+            Reader::Issue(Ask::Find, m, s, Some(i)) => Line::Find(m, s, i),
+            Reader::Record(m, s, i, Some(r)) => Line::Insert(m, s, i, r),
             Reader::Sync => Line::Sync,
-            Reader::Crash => Line::Crash(false, false, false, false, false),
-            Reader::Page(p, q, r, s, t, begun, v) => line_page(p, q, r, s, t, begun, v),
-            Reader::Start => Line::Other,
-            Reader::Certificate(_) => Line::Other,
-            Reader::Model(_, _, _) => Line::Other,
-            Reader::Serial(_, _, _, _) => Line::Other,
-            Reader::Other => Line::Other,
+            Reader::Crash => Line::Crash([false; 5]),
+            Reader::Page(pages, Some(page)) => Line::Crash(with_page(pages, page)),
+            _ => Line::Other,
         }
     }
 }

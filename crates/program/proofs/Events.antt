@@ -2,7 +2,7 @@
 -- Assumes nothing.
 use Prim.Native.Nat.{ℕ}
 use mathlib.Core.Path.{◌≡◌, refl}
-use mathlib.Core.List.{List, [], ◌∷◌}
+use mathlib.Core.List.{List}
 use mathlib.Core.Option.{Option, some, none}
 use Rattle.rules.specs.Call.{Left}
 use Rattle.rules.specs.History.{Event, inserts, looks, syncs, crashes, State, step, after_insert, after_sync, after_open, after_reading}
@@ -17,7 +17,7 @@ unfoldable pub event_of : Line → List ℕ → Option Event
 event_of (Line.Insert model serial issue x) w = some (inserts model serial issue x)
 event_of (Line.Find model serial issue) w = some (looks model serial issue)
 event_of Line.Sync w = some syncs
-event_of (Line.Crash a b c d e) w = some (crashes (a ∷ b ∷ c ∷ d ∷ e ∷ []) w)
+event_of (Line.Crash written) w = some (crashes written w)
 event_of Line.Other w = none
 
 unfoldable pub happens : Option Event → State → State
@@ -40,9 +40,9 @@ abbrev pub store_of : State → Store
 store_of m = store m.session m.working m.stable
 
 pub line_event : (line : Line) (m : State) → store_left (acted line m.session m.working m.stable) ≡ store_of (happens (event_of line m.working) m)
-unfolding acted crashed event_of happens step after_insert after_sync after_open after_reading
+unfolding crashed event_of happens step after_insert after_sync after_open after_reading
 line_event (Line.Insert model serial issue x) m = refl
 line_event (Line.Find model serial issue) m = refl
 line_event Line.Sync m = refl
-line_event (Line.Crash a b c d e) m = refl
+line_event (Line.Crash written) m = refl
 line_event Line.Other m = refl

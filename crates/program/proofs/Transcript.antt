@@ -4,9 +4,8 @@ use Prim.Native.Nat.{ℕ}
 use mathlib.Core.Path.{◌≡◌, refl}
 use mathlib.Core.List.{List, [], ◌∷◌}
 use Rattle.rules.proofs.Cases.Computing.{rules}
-use Rattle.lines.specs.Line.{onto, words, is_digit, digits, value, number_in, number, end, insert_of, find_of, crash_of, letter_of, asked, line_of}
-use Rattle.words.specs.Words.{nine, word_of, digits_of, decimal, answer_line}
-use Rattle.driver.specs.Acts.{looked_reply, acted}
+use Rattle.lines.specs.Line.{onto, words, digits, value, number_in, number, end, insert_of, find_of, crash_of, letter_of, asked, line_of}
+use Rattle.words.specs.Words.{digits_of}
 use Rattle.program.specs.Program.{some_byte, lines_from, lines_of, printed, started, program}
 
 -- i 7 1 1 900 / f 7 1 1 / f 7 2 1 / s / c / f 7 1 1 / f 0 1 1
@@ -32,5 +31,5 @@ output =
     ∷ 98 ∷ 97 ∷ 100 ∷ 107 ∷ 101 ∷ 121 ∷ 10 ∷ []
 
 pub transcript : program input ≡ output
-unfolding rules onto words is_digit digits value number_in number end insert_of find_of crash_of letter_of asked line_of nine word_of digits_of decimal answer_line looked_reply acted some_byte lines_from lines_of printed started program
+unfolding rules onto words digits value number_in number end insert_of find_of crash_of letter_of asked line_of digits_of some_byte lines_from lines_of printed started program
 transcript = refl

@@ -1,8 +1,7 @@
 -- What the bench program prints: for each line read one line, the answer's word, and after a successful find a space and
 -- the record.
-use Rattle.std.specs.Prelude.{ℕ, zero, suc, ◌+◌, ◌-◌, ◌/◌, ◌%◌, true, false, List, [], ◌∷◌, ◌++◌, ltb, length, get_or, set, replicate}
+use Rattle.std.specs.Prelude.{ℕ, zero, suc, ◌+◌, ◌/◌, ◌%◌, true, false, List, [], ◌∷◌, ◌++◌, ltb, get_or}
 use Rattle.words.specs.declared.Reply.{Reply}
-use Rattle.words.specs.declared.Text.{Text}
 
 -- ── The words, letter by letter ─────────────────────────────────────────────────────────────────────────────────
 
@@ -46,11 +45,11 @@ newline = 10
 -- ── By number ───────────────────────────────────────────────────────────────────────────────────────────────────
 
 -- the nine answers' words, from number 0 on
-unfoldable pub nine : List (List ℕ)
+abbrev pub nine : List (List ℕ)
 nine =
     done ∷ bad_length ∷ badkey ∷ damaged ∷ none ∷ present ∷ syncfirst ∷ full ∷ spent ∷ []
 
-unfoldable pub word_of : ℕ → List ℕ
+abbrev pub word_of : ℕ → List ℕ
 word_of n = get_or nine n []
 
 -- ── Numbers ─────────────────────────────────────────────────────────────────────────────────────────────────────
@@ -65,36 +64,17 @@ digits_of (suc places) n =
     elim (ltb n 10) [ true ↦ digit n ∷ [] | false ↦ digits_of places (n / 10) ++ (digit (n % 10) ∷ []) ]
 
 -- a record has 32 bits, so ten digits at most
-unfoldable pub decimal : ℕ → List ℕ
+abbrev pub decimal : ℕ → List ℕ
 decimal n = digits_of 10 n
 
 -- ── A line out ──────────────────────────────────────────────────────────────────────────────────────────────────
 
-unfoldable pub answer_line : Reply → List ℕ
+abbrev pub answer_line : Reply → List ℕ
 answer_line Reply.Silent = []
 answer_line (Reply.Answer n) = word_of n ++ (newline ∷ [])
 answer_line (Reply.Record x) = (done ++ (space ∷ decimal x)) ++ (newline ∷ [])
 answer_line Reply.Line = line ++ (newline ∷ [])
 
--- ── A text in its array ─────────────────────────────────────────────────────────────────────────────────────────
-
 -- the longest line is `done 4294967295` with its newline
 abbrev pub text_size : ℕ
 text_size = 16
-
--- the first so many of some bytes
-abbrev pub text_in : List ℕ → ℕ → Text
-text_in bytes len = record { bytes = bytes; len = len }
-
--- the bytes, and zeros behind them
-unfoldable pub text_of : List ℕ → Text
-text_of s = record { bytes = s ++ replicate (text_size - length s) 0; len = length s }
-
--- one byte more
-abbrev pub pushed : Text → ℕ → Text
-pushed t b = record { bytes = set t.bytes t.len b; len = t.len + 1 }
-
--- some bytes more
-unfoldable pub pushed_all : Text → List ℕ → Text
-pushed_all t [] = t
-pushed_all t (b ∷ bs) = pushed_all (pushed t b) bs

@@ -3,17 +3,26 @@
 // `spell` turns a reply into bytes. Its contract is one equation with `answer_line` of specs/Words.antt, which spells the
 // words of document 01 letter by letter.
 //
-// Nothing stands below.
+// Below stands `few`, a list in a value of its own.
 
 #![tactic(auto)]
 
-ghost use Rattle.std.specs.Prelude.{◌≡◌, ◌+◌, ◌≤◌, ◌<◌};
-ghost use Rattle.words.specs.Words.{text_size, answer_line, digits_of, text_in, text_of, pushed, pushed_all};
+ghost use Rattle.std.specs.Prelude.{◌≡◌, ◌+◌, ◌≤◌, ◌++◌, length};
+ghost use Rattle.words.specs.Words.{text_size, word_of, answer_line, digits_of};
+
+use few::Few;
+
+// The longest line is `done 4294967295` with its newline.
+const TEXT_SIZE: usize = 16;
 
 // The decimal digits of a 32-bit number are ten at most.
 const PLACES: usize = 10;
 
-// What is to be printed: nothing, the word of an answer's number, `done` with a record, or `line`.
+// A line, newline and all.
+pub type Text = Few<u8, TEXT_SIZE>;
+
+// What is to be printed: nothing, the word of an answer's number, `done` with a record, or `line`. The nine words go by
+// the answers' numbers, as document 01 numbers them.
 #[derive(Clone, Copy)]
 pub enum Reply {
     Silent,
@@ -22,78 +31,50 @@ pub enum Reply {
     Line,
 }
 
-// A line, newline and all: the first `len` of the bytes. The others are zero.
-#[derive(Clone, Copy)]
-pub struct Text {
-    pub bytes: [u8; 16],
-    pub len: usize,
-}
-
-impl Text {
-    // A text of these bytes, of which the first `len` are the line.
-    fn of(bytes: [u8; 16], len: usize) -> Self
-        ensures { result ≡ text_in bytes len }
-    {
-        Text { bytes, len }
-    }
-
-    fn push(mut self, b: u8) -> Self
-        requires { self.len < text_size }
-        ensures { result ≡ pushed self b }
-    {
-        let at = self.len;
-        self.bytes[at] = b;
-        self.len = at + 1;
-        self
-    }
-}
-
-fn word(number: u32) -> Text
-    ensures { result ≡ text_of (answer_line (Reply.Answer number)) }
+fn word(number: u32) -> &'static [u8]
+    ensures { result.now ≡ word_of number }
 {
     match number {
-        0 => Text::of(*b"done\n\0\0\0\0\0\0\0\0\0\0\0", 5),
-        1 => Text::of(*b"length\n\0\0\0\0\0\0\0\0\0", 7),
-        2 => Text::of(*b"badkey\n\0\0\0\0\0\0\0\0\0", 7),
-        3 => Text::of(*b"damaged\n\0\0\0\0\0\0\0\0", 8),
-        4 => Text::of(*b"none\n\0\0\0\0\0\0\0\0\0\0\0", 5),
-        5 => Text::of(*b"present\n\0\0\0\0\0\0\0\0", 8),
-        6 => Text::of(*b"syncfirst\n\0\0\0\0\0\0", 10),
-        7 => Text::of(*b"full\n\0\0\0\0\0\0\0\0\0\0\0", 5),
-        8 => Text::of(*b"spent\n\0\0\0\0\0\0\0\0\0\0", 6),
-        _ => Text::of(*b"\n\0\0\0\0\0\0\0\0\0\0\0\0\0\0\0", 1),
+        0 => b"done",
+        1 => b"length",
+        2 => b"badkey",
+        3 => b"damaged",
+        4 => b"none",
+        5 => b"present",
+        6 => b"syncfirst",
+        7 => b"full",
+        8 => b"spent",
+        _ => b"",
     }
 }
 
 // The digits of a number behind a text, in so many places at most.
-fn put_digits(t: Text, places: usize, n: u32) -> Text
-    requires { t.len + places ≤ text_size }
-    ensures { result ≡ pushed_all t (digits_of places n) }
+fn put_digits(text: &mut Text, places: usize, n: u32)
+    requires { length text.old + places ≤ text_size }
+    ensures { text.new ≡ text.old ++ digits_of places n }
 {
     if places == 0 {
-        return t;
+        return;
     }
-    if n < 10 {
-        return t.push(48 + n as u8);
+    if n >= 10 {
+        put_digits(text, places - 1, n / 10);
     }
-    let front = put_digits(t, places - 1, n / 10);
-    front.push(48 + (n % 10) as u8)
-}
-
-fn found(x: u32) -> Text
-    ensures { result ≡ text_of (answer_line (Reply.Record x)) }
-{
-    let done = Text::of(*b"done \0\0\0\0\0\0\0\0\0\0\0", 5);
-    put_digits(done, PLACES, x).push(b'\n')
+    text.push(b'0' + (n % 10) as u8);
 }
 
 pub fn spell(reply: Reply) -> Text
-    ensures { result ≡ text_of (answer_line reply) }
+    ensures { result ≡ answer_line reply }
 {
+    let mut text = Text::new();
     match reply {
-        Reply::Silent => Text::of([0; 16], 0),
-        Reply::Answer(number) => word(number),
-        Reply::Record(x) => found(x),
-        Reply::Line => Text::of(*b"line\n\0\0\0\0\0\0\0\0\0\0\0", 5),
+        Reply::Silent => return text,
+        Reply::Answer(number) => text.extend_from_slice(word(number)),
+        Reply::Record(x) => {
+            text.extend_from_slice(b"done ");
+            put_digits(&mut text, PLACES, x);
+        }
+        Reply::Line => text.extend_from_slice(b"line"),
     }
+    text.push(b'\n');
+    text
 }

@@ -1,25 +1,17 @@
--- `driver::act` meets its contract. Assumes nothing.
-use Rattle.driver.specs.Acts.{acted}
+-- `driver::act`: an insert and a find hand on what the call reported. Assumes nothing.
+use Rattle.std.proofs.Common.{ap}
+use Rattle.rules.specs.Report.{Reported}
+use Rattle.rules.specs.Reports.{insert_reported, lookup_reported}
+use Rattle.rules.specs.Call.{Left}
+use Rattle.rules.specs.declared.Inserted.{Inserted}
+use Rattle.rules.specs.declared.Looked.{Looked}
+use Rattle.driver.specs.Acts.{told, inserted_reply, looked_reply}
 use Rattle.driver.proofs.act.Goals as goal
 
 pub returns-in-Insert : goal.returns-in-Insert
-returns-in-Insert c =
-    rw c.in-Insert.is c.insert_line.ensures
+unfolding insert_reported
+returns-in-Insert c = rw (c.in-Insert.is, c.inserted.ensures) (ap (λ (y : Reported (Left Inserted)). told inserted_reply y.left) c.insert-left.ensures)
 
 pub returns-in-Find : goal.returns-in-Find
-returns-in-Find c =
-    rw c.in-Find.is c.find_line.ensures
-
-pub returns-in-Sync : goal.returns-in-Sync
-returns-in-Sync c =
-    let sync-line = c.sync_line in
-    rw c.in-Sync.is sync-line.ensures
-
-pub returns-in-Crash : goal.returns-in-Crash
-returns-in-Crash c =
-    let crash-line = c.crash_line in
-    rw c.in-Crash.is crash-line.ensures
-
-pub returns-in-Other : goal.returns-in-Other
-unfolding acted
-returns-in-Other c = rw c.in-Other.is
+unfolding lookup_reported
+returns-in-Find c = rw (c.in-Find.is, c.looked_reply.ensures) (ap (λ (y : Reported (Left Looked)). told looked_reply y.left) c.lookup-left.ensures)

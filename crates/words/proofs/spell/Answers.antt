@@ -1,17 +1,17 @@
--- `words::spell` meets its contract. Assumes nothing.
-use Rattle.words.specs.Words.{answer_line, text_of}
+-- `words::spell`: the newline has room behind the longest line. Assumes nothing.
+use Rattle.std.proofs.Common.{ℕ, ◌≤◌, length, arith, rules}
+use Rattle.words.specs.Words.{word_of}
+use Rattle.words.proofs.Digits.{few-digits}
+use Rattle.words.proofs.spell.Goals.{in-Answer, in-Record, in-Line}
 use Rattle.words.proofs.spell.Goals as goal
 
-pub returns-in-Silent : goal.returns-in-Silent
-unfolding answer_line text_of
-returns-in-Silent c = rw c.in-Silent.is c.of.ensures
+short-word : (n : ℕ) → length (word_of n) ≤ 9
+short-word n = search (rules, arith)
 
-pub returns-in-Answer : goal.returns-in-Answer
-returns-in-Answer c = rw c.in-Answer.is c.word.ensures
-
-pub returns-in-Record : goal.returns-in-Record
-returns-in-Record c = rw c.in-Record.is c.found.ensures
-
-pub returns-in-Line : goal.returns-in-Line
-unfolding answer_line text_of
-returns-in-Line c = rw c.in-Line.is c.of-in-Line.ensures
+pub push-requires : goal.push-requires
+push-requires c =
+    elim c.match-reply.branch [
+      | in-Answer w ↦ (omega arith, rw (w.text-is, w.extend_from_slice.ensures, c.new-text.ensures, w.word.ensures) (omega (arith, short-word w.in-Answer.number)))
+      | in-Record w ↦ (omega arith, rw (w.text-is, w.put_digits.ensures, w.extend_from_slice-in-Record.ensures, c.new-text.ensures) (omega (arith, few-digits 10 w.in-Record.x)))
+      | in-Line w ↦ (omega arith, rw (w.text-is, w.extend_from_slice-in-Line.ensures, c.new-text.ensures) (omega arith))
+    ]
