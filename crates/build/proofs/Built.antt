@@ -21,6 +21,9 @@ use Rattle.rules.proofs.Bytes.Each.{length-read_each}
 use Rattle.rules.proofs.Bytes.Pages.{view_in-leaf, view_in-inner, kind-view_in, count-view_in}
 use Rattle.rules.proofs.Bytes.Tables.{bytes-page_at, length-page_at}
 use Rattle.entries.specs.Spot.{header_size, size_of}
+use Rattle.entries.specs.Layout.{entries_of}
+use Rattle.entries.specs.declared.layout.Entries.{Entries}
+use Rattle.entries.proofs.Layouts.{header-entries_of, size-entries_of}
 use Rattle.entries.proofs.Part.{part_page, le_at-page}
 use Rattle.entries.proofs.Sets.{sets_comm}
 use Rattle.entries.proofs.Ranges.{range-within, write_certs, write_children}
@@ -185,6 +188,15 @@ ranged t to from first past kind header size many pre k d s m = record {
   size_read = s;
   many_read = m;
 }
+
+-- the same of what the code has made of it
+pub ranged_of : {t : List ℕ} {to from first past kind many : ℕ} {e : Entries}
+    → ((to + 1) * page_size ≤ length t) × ((from + 1) * page_size ≤ length t)
+    → Roomy (read t from).view → (first ≤ count (read t from).view) × (past ≤ count (read t from).view)
+    → kind ≡ le_at t (from * page_size + 0) 2 → many ≡ past - first → e ≡ entries_of kind many
+    → Ranged t to from first past kind e.header e.size many
+ranged_of {t} {to} {from} {first} {past} {kind} {many} {e} has roomy inside k m q =
+    ranged t to from first past kind e.header e.size many (has, (roomy, inside)) k (rw q (header-entries_of kind many)) (rw q (size-entries_of kind many)) m
 
 module _ {t : List ℕ} {to from first past kind header size many : ℕ} (r : Ranged t to from first past kind header size many) where
   kind-page : kind ≡ le_at (page_at t from) 0 2

@@ -1,15 +1,15 @@
 -- The halves of a page, as ranges of its entries by index, and the key that divides them.
 -- Assumes nothing.
-use mathlib.Core.Path.{◌≡◌, refl}
+use mathlib.Core.Path.{◌≡◌, refl, sym, ◌∙◌}
 use mathlib.Core.Bool.{Bool, true, false}
 use mathlib.Core.List.{List, append-nil}
-use Prim.Native.Nat.{ℕ, ◌+◌, ◌-◌, ◌*◌, ◌≤◌, ◌<◌}
+use Prim.Native.Nat.{ℕ, ◌+◌, ◌*◌, ◌-◌, ◌<◌}
 use native.Mathlib.Omega.{arith}
 use lib.Dec.{eqb}
-use lib.ListN.{length, take, drop, length-drop}
+use lib.ListN.{length, get_or, take, drop, length-drop}
 use lib.Seq.{take_all, take-nil}
 use Rattle.fields.specs.Field.{le_at}
-use Rattle.rules.specs.Layout.{page_size, leaf_header, inner_header, leaf_kind, leaf_half, inner_half, cert_size, child_size}
+use Rattle.rules.specs.Layout.{leaf_header, inner_header, leaf_kind, leaf_half, inner_half, cert_size, child_size}
 use Rattle.rules.specs.Entry.{keys}
 use Rattle.rules.specs.Page.{view_in, is_leaf, read_each, cert_in, child_in}
 use Rattle.rules.specs.Insert.{divide, lower_half, upper_half}
@@ -17,9 +17,7 @@ use Rattle.rules.proofs.Bytes.Each.{length-read_each}
 use Rattle.rules.proofs.Bytes.Pages.{view_in-leaf, view_in-inner, kind-view_in, count-view_in}
 use Rattle.entries.specs.Spot.{header_size, size_of}
 use Rattle.entries.proofs.KeysIn.{keys-certs, keys-children, key-at}
-use Rattle.entries.proofs.Passed.{within}
-use Rattle.build.proofs.Built.{entries_fit}
-use Rattle.build.specs.Range.{range_view, half_of, Divides}
+use Rattle.build.specs.Range.{keys_of, range_view, half_of, Divides}
 
 module _ (b : List ℕ) (h : half_of (le_at b 0 2) < le_at b 2 2) where
   -- where the key that divides a page stands
@@ -34,6 +32,10 @@ module _ (b : List ℕ) (h : half_of (le_at b 0 2) < le_at b 2 2) where
       go false e =
           let k = rw (half_of, e) at h in
           rw (view_in-inner b e, keys-children (le_at b 2 2) b, header_size, size_of, half_of, e) (key-at inner_header child_size (le_at b 2 2) inner_half b k)
+
+  -- which key that is
+  pub divide-key : divide (view_in b) ≡ get_or (keys_of b) (half_of (le_at b 0 2)) 0
+  divide-key = divide-at ∙ sym (key-at (header_size (le_at b 0 2)) (size_of (le_at b 0 2)) (le_at b 2 2) (half_of (le_at b 0 2)) b h)
 
   pub lower_half_lem : lower_half (view_in b) ≡ range_view 0 (half_of (le_at b 0 2)) (view_in b)
   unfolding lower_half range_view half_of
@@ -60,20 +62,3 @@ module _ (b : List ℕ) (h : half_of (le_at b 0 2) < le_at b 2 2) where
 
 pub half_below : (b : List ℕ) → Divides (view_in b) → half_of (le_at b 0 2) < le_at b 2 2
 half_below b d = rw (← kind-view_in b, ← count-view_in b) d.past
-
-pub size-bound : (kind : ℕ) → 12 ≤ size_of kind
-unfolding size_of
-size-bound kind = go (eqb kind leaf_kind)
-  where
-    go : (t : Bool) → 12 ≤ elim t [ true ↦ cert_size | false ↦ child_size ]
-    go true = omega arith
-    go false = omega arith
-
--- that key lies within its page
-pub middle-fits : (b : List ℕ) (kind header size half : ℕ) → Divides (view_in b) → kind ≡ le_at b 0 2 → header ≡ header_size kind → size ≡ size_of kind → half ≡ half_of kind
-    → header + size * half + 8 ≤ page_size
-middle-fits b kind header size half d e f s m =
-    let k : half < le_at b 2 2 = rw (m, e) (half_below b d) in
-    let w = within size half (le_at b 2 2) k in
-    let v : header + size * le_at b 2 2 ≤ page_size = rw (f, s, e) (entries_fit b d.roomy) in
-    omega (arith, size-bound kind)

@@ -1,6 +1,7 @@
 pub mod Cut
 pub mod Header
 pub mod KeysIn
+pub mod Layouts
 pub mod Part
 pub mod Passed
 pub mod Ranges

@@ -3,14 +3,14 @@
 use mathlib.Core.Path.{◌≡◌, refl, sym, ap, ◌∙◌}
 use mathlib.Core.Bool.{Bool, true, false}
 use mathlib.Core.List.{List, [], ◌∷◌, append_assoc}
-use Prim.Native.Nat.{ℕ, suc, ◌+◌, ◌-◌, ◌≤◌, ◌<◌}
+use Prim.Native.Nat.{ℕ, suc, ◌+◌, ◌≤◌, ◌<◌}
 use native.Mathlib.Nat.{zero-add}
 use native.Mathlib.Numerals.{add-one}
 use native.Mathlib.Omega.{arith}
 use borrow.Author.Tests.{ltb-true, ltb-false}
 use lib.Dec.{ltb}
-use lib.ListN.{length, take, drop, get_or, set, replicate, length-drop, length-replicate, replicate-append-replicate, take-append-drop}
-use lib.Seq.{sets, sets-eq, set_comm, take-suc, get_or-set_other, get_or-drop, drop-cons, drop-drop}
+use lib.ListN.{length, take, drop, get_or, set, length-drop, take-append-drop}
+use lib.Seq.{sets, sets-eq, set_comm, take-suc, get_or-set_other, get_or-drop, drop-drop, paste, length-take-le}
 use Rattle.fields.specs.Field.{Bytes, le_at, put_at}
 use Rattle.fields.proofs.Field.{le-le_at}
 use Rattle.fields.proofs.Run.{sets_append, length_part}
@@ -60,7 +60,11 @@ pub over_sets : (xs b : List ℕ) → length xs ≤ length b → over xs b ≡ s
 unfolding over
 over_sets xs b h = sym (sets-eq xs b 0 (rw zero-add h) ∙ rw zero-add)
 
--- ── A turn of a loop that copies a run, sets it to zero, or moves it up ────────────────────────────────────────────
+-- ── A run pasted, or copied byte by byte ────────────────────────────────────────────────────────────────────────
+
+-- what is pasted over bytes is a run
+pub paste-sets : (b xs : List ℕ) (to n : ℕ) → to + n ≤ length b → n ≤ length xs → paste b to xs n ≡ sets b to (take n xs)
+paste-sets b xs to n h m = rw (sets-eq (take n xs) b to (rw (length-take-le n xs m) h), length-take-le n xs m)
 
 -- what a run leaves alone at a place that it has passed, and before it
 copied-from : (b : List ℕ) (to from k : ℕ) → from + k < length b → (from < to → from + k < to)
@@ -80,18 +84,3 @@ copied_more b l to from len k h m apart e =
     let f : length (take k (drop from b)) ≡ k = length_part k from b (omega arith) in
     let g = copied-from b to from k (omega arith) (λ (u : from < to). omega (arith, apart u)) in
     rw (e, g, ← get_or-drop from b k 0, add-one, take-suc (drop from b) k 0 long, sets_append, f)
-
-pub cleared_more : (b l : List ℕ) (at k : ℕ) → at ≤ k → l ≡ sets b at (replicate (k - at) 0)
-    → set l k 0 ≡ sets b at (replicate (k + 1 - at) 0)
-cleared_more b l at k h e =
-    let f : k + 1 - at ≡ (k - at) + 1 = omega arith in
-    let g : at + (k - at) ≡ k = omega arith in
-    rw (e, f, ← replicate-append-replicate {A = ℕ} (k - at) 1 0, sets_append, length-replicate, g)
-
-pub moved_more : (b l : List ℕ) (k j end by : ℕ) → k ≡ j + 1 → k ≤ end → end ≤ length b → l ≡ sets b (k + by) (take (end - k) (drop k b))
-    → set l (j + by) (get_or l j 0) ≡ sets b (j + by) (take (end - j) (drop j b))
-moved_more b l k j end by e h m f =
-    let w : end - j ≡ suc (end - suc j) = omega arith in
-    let g : k ≡ suc j = omega arith in
-    let u : suc j + by ≡ suc (j + by) = omega arith in
-    rw (f, get_d_sets_below (take (end - k) (drop k b)) b (k + by) j (omega arith), set_sets (take (end - k) (drop k b)) b (k + by) (j + by) (get_or b j 0) (omega arith), w, drop-cons b j 0 (omega arith), g, u)

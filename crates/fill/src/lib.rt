@@ -21,8 +21,9 @@ ghost use Rattle.dry.specs.Walk.{dry_over};
 ghost use Rattle.fill.specs.Fills.{listing, lists_of, filling, filled_in, mending, mended_in, Roomy, HasRoom, Calm, certs_from, listed, asked};
 
 use dry::Cursor;
+use entries::Entries;
 use leaves::Stepped;
-use rules::{Asked, CERT, LEAF_HEADER, MOST, PAGE, Report};
+use rules::{Asked, MOST, PAGE, Report};
 
 // How many certificates were written, and what was mended on the way.
 #[derive(Clone, Copy)]
@@ -46,7 +47,7 @@ fn spot(page: &[u8], count: usize, key: u64) -> usize
     if head::cert_key(page, count - 1) <= key {
         return count;
     }
-    seek::seek(page, LEAF_HEADER, CERT, count, key)
+    seek::seek(page, Entries::certs(count), key)
 }
 
 // How many of a leaf's keys are below one.

@@ -24,8 +24,9 @@ ghost use Rattle.entries.specs.Spot.{keys_in, spot_of};
 ghost use Rattle.leaves.specs.Cursors.{no_cursor, holding_in, levels_in, place_in, Lies, LeadsOn, Kept, nexting, next_of};
 
 use enter::Above;
+use entries::Entries;
 use head::Head;
-use rules::{CERT, LEAF, LEAF_HEADER, LEVELS, PAGE, Place, Report};
+use rules::{LEAF, LEVELS, PAGE, Place, Report};
 
 // A leaf that was stepped to: its number and count, where its range ends, how many of its keys are not above the last
 // one wanted, the cursor behind it, and the report so far.
@@ -114,7 +115,7 @@ fn spot_at(t: &[u8], child: u16, count: u16, upto: u64, guess: usize) -> usize
 {
     let from = child as usize * PAGE;
     let to = from + PAGE;
-    seek::confirm(&t[from..to], LEAF_HEADER, CERT, count as usize, upto, guess)
+    seek::confirm(&t[from..to], Entries::certs(count as usize), upto, guess)
 }
 
 // Down to the leaf of a key. Damage ends the step, and what was mended above it is reported.

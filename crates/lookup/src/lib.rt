@@ -28,6 +28,7 @@ ghost use Rattle.head.proofs.Headers.{head_of};
 ghost use Rattle.way.specs.Ways.{Holds, reported};
 ghost use Rattle.lookup.specs.Looks.{found_before, looked_in, beside, leaving, looking, looked_along};
 
+use entries::Entries;
 use rules::{Looked, Looking, PAGE, Report, Session};
 use way::Step;
 
@@ -61,7 +62,7 @@ fn seek_in(page: &[u8], count: usize, key: u64) -> Looked
         × (rising (keys (read_each cert_in cert_size count (drop leaf_header page.now))) ≡ true) }
     ensures { result ≡ looked_in (find key (read_each cert_in cert_size count (drop leaf_header page.now))) }
 {
-    let spot = seek::seek(page, rules::LEAF_HEADER, rules::CERT, count, key);
+    let spot = seek::seek(page, Entries::certs(count), key);
     find_in(page, spot, key)
 }
 

@@ -4,17 +4,15 @@ use mathlib.Core.Path.{◌≡◌, refl, sym, ap, ◌∙◌}
 use mathlib.Core.Bool.{Bool, true, false}
 use mathlib.Core.List.{List}
 use Prim.Native.Nat.{ℕ, zero, suc, ◌+◌, ◌*◌, ◌-◌, ◌/◌, ◌%◌, ◌^◌, ◌≤◌, ◌<◌}
-use native.Mathlib.Nat.{add-zero}
+use native.Mathlib.Nat.{add-zero, mul-le-mul_right}
 use native.Mathlib.Omega.{arith}
 use borrow.Author.Tests.{leb-true, leb-false}
 use mir.Val.{bool_byte}
 use lib.Dec.{leb}
 use lib.ListN.{length, get_or}
-use Rattle.fields.specs.Field.{le_at}
-use Rattle.rules.specs.Layout.{page_size}
 use Rattle.rules.specs.Entry.{rising}
-use Rattle.entries.specs.Spot.{keys_in, spot_of}
-use Rattle.entries.proofs.KeysIn.{length-keys_in, key-at, spot-bound}
+use Rattle.entries.specs.Spot.{spot_of}
+use Rattle.entries.proofs.KeysIn.{spot-bound}
 use Rattle.seek.specs.Guess.{passed, halve, guess_of}
 use Rattle.seek.proofs.Spots.{spot-above, spot-below}
 
@@ -36,7 +34,7 @@ one-most true = omega arith
 one-most false = omega arith
 
 -- a step is taken or not without a jump: shifted by the answer it is doubled or not, and one is taken away again
-pub shifted : (k x n : ℕ) → n ≤ page_size
+pub shifted : (k x n : ℕ) → n ≤ 2 ^ 60
     → (n ≤ (n * 2 ^ bool_byte (leb x k)) % 18446744073709551616)
     × ((n * 2 ^ bool_byte (leb x k)) % 18446744073709551616 - n ≡ passed k x n)
 unfolding passed
@@ -47,10 +45,9 @@ shifted k x n h = go (leb x k)
     go true = (omega arith, omega arith)
     go false = (omega arith, omega arith)
 
--- a page holds fewer entries than bytes
-pub few : (header size count : ℕ) → 8 ≤ size → header + size * count ≤ page_size → count ≤ page_size
-few header zero count o h = absurd (omega arith)
-few header (suc size) count o h = omega arith
+-- a slice holds fewer entries than bytes
+pub few : (header size count n : ℕ) → 8 ≤ size → header + size * count ≤ n → n ≤ 2 ^ 63 → count ≤ 2 ^ 60
+few header size count n o h m = omega (arith, mul-le-mul_right count o)
 
 -- ── The loop ────────────────────────────────────────────────────────────────────────────────────────────────────
 
@@ -66,48 +63,36 @@ pub record Halving (k : ℕ) (ks : List ℕ) (low left : ℕ) : Type 0 where
   pub inside : low + left ≤ length ks
   pub rest : halve turns k ks low left ≡ guess_of k ks
 
-module _ (k header size count : ℕ) (b : List ℕ) where
-  pub halving_all : Halving k (keys_in header size count b) 0 count
+module _ (k : ℕ) (ks : List ℕ) where
+  pub halving_all : Halving k ks 0 (length ks)
   unfolding guess_of
-  halving_all =
-      let l = length-keys_in header size count b in
-      record {
-        turns = count;
-        enough = omega arith;
-        inside = omega (arith, l);
-        rest = ap (λ (n : ℕ). halve n k (keys_in header size count b) 0 n) (sym l);
-      }
+  halving_all = record { turns = length ks; enough = omega arith; inside = omega arith; rest = refl }
 
-  module _ (low left : ℕ) (h : Halving k (keys_in header size count b) low left) where
-    pub halving_end : left ≡ 0 → low ≡ guess_of k (keys_in header size count b)
-    halving_end z =
-        sym (halve-none h.turns k (keys_in header size count b) low)
-        ∙ (ap (halve h.turns k (keys_in header size count b) low) (sym z) ∙ h.rest)
+  module _ (low left : ℕ) (h : Halving k ks low left) where
+    pub halving_end : left ≡ 0 → low ≡ guess_of k ks
+    halving_end z = sym (halve-none h.turns k ks low) ∙ (ap (halve h.turns k ks low) (sym z) ∙ h.rest)
 
     module _ (o : 0 < left) where
-      -- the last of the next half lies on the page
-      pub half_inside : low + (left - left / 2) - 1 < count
-      half_inside = omega (arith, h.inside, length-keys_in header size count b)
+      -- the last of the next half is a key
+      pub half_inside : low + (left - left / 2) - 1 < length ks
+      half_inside = omega (arith, h.inside)
 
-      pub halving_step : (x : ℕ) → x ≡ le_at b (header + size * (low + (left - left / 2) - 1)) 8
-          → Halving k (keys_in header size count b) (low + passed k x (left - left / 2)) (left - (left - left / 2))
+      pub halving_step : (x : ℕ) → x ≡ get_or ks (low + (left - left / 2) - 1) 0
+          → Halving k ks (low + passed k x (left - left / 2)) (left - (left - left / 2))
       unfolding halve
       halving_step x e = go h.turns h.enough h.rest
         where
           half : left - (left - left / 2) ≡ left / 2
           half = omega arith
 
-          read : x ≡ get_or (keys_in header size count b) (low + (left - left / 2) - 1) 0
-          read = e ∙ sym (key-at header size count (low + (left - left / 2) - 1) b half_inside)
-
-          go : (turns : ℕ) → left ≤ turns → halve turns k (keys_in header size count b) low left ≡ guess_of k (keys_in header size count b)
-              → Halving k (keys_in header size count b) (low + passed k x (left - left / 2)) (left - (left - left / 2))
+          go : (turns : ℕ) → left ≤ turns → halve turns k ks low left ≡ guess_of k ks
+              → Halving k ks (low + passed k x (left - left / 2)) (left - (left - left / 2))
           go zero m r = absurd (omega arith)
           go (suc turns) m r = record {
             turns = turns;
             enough = omega arith;
             inside = omega (arith, h.inside, passed-most k x (left - left / 2));
-            rest = rw (half, read) r;
+            rest = rw (half, e) r;
           }
 
 -- ── Keys that rise ──────────────────────────────────────────────────────────────────────────────────────────────

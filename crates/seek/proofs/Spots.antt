@@ -2,17 +2,16 @@
 use mathlib.Core.Path.{◌≡◌, refl, sym, ◌∙◌}
 use mathlib.Core.Bool.{Bool, true, false}
 use mathlib.Core.List.{List, [], ◌∷◌}
-use Prim.Native.Nat.{ℕ, zero, suc, ◌+◌, ◌*◌, ◌-◌, ◌≤◌, ◌<◌}
+use Prim.Native.Nat.{ℕ, zero, suc, ◌-◌, ◌≤◌, ◌<◌}
 use native.Mathlib.Omega.{arith}
 use borrow.Author.Tests.{leb-true, leb-false, le-leb, lt-leb, ltb-true, ltb-false, eq-eqb, ne_eqb}
 use lib.Dec.{leb, ltb, eqb}
 use lib.ListN.{length, get_or}
-use Rattle.fields.specs.Field.{le_at}
 use Rattle.rules.specs.Entry.{rising}
 use Rattle.rules.proofs.Entries.Rises.{rising_tail, rising-at-le}
-use Rattle.entries.specs.Spot.{keys_in, spot_of}
+use Rattle.entries.specs.Spot.{spot_of}
 use Rattle.entries.proofs.Cut.{spot-cons, spot-first}
-use Rattle.entries.proofs.KeysIn.{length-keys_in, key-at, spot-bound}
+use Rattle.entries.proofs.KeysIn.{spot-bound}
 
 -- a key that is not above k, with all before it
 pub spot-above : (k j : ℕ) (ks : List ℕ) → rising ks ≡ true → j < length ks → get_or ks j 0 ≤ k → j < spot_of k ks
@@ -35,56 +34,43 @@ spot-below k (suc j) (x ∷ xs) h l = go (leb x k) refl (spot-below k j xs (omeg
 
 -- ── A number of entries beside the spot ─────────────────────────────────────────────────────────────────────────
 
-module _ (k header size count s : ℕ) (b : List ℕ) where
-  pub beyond_all : count < s → false ≡ eqb s (spot_of k (keys_in header size count b))
-  beyond_all h =
-      sym (ne_eqb s (spot_of k (keys_in header size count b))
-      (λ q. omega (arith, q, spot-bound k (keys_in header size count b), length-keys_in header size count b)))
+module _ (k s : ℕ) (ks : List ℕ) where
+  pub beyond_all : length ks < s → false ≡ eqb s (spot_of k ks)
+  beyond_all h = sym (ne_eqb s (spot_of k ks) (λ q. omega (arith, q, spot-bound k ks)))
 
   -- no entry is always passed
-  pub reached-none : s ≡ 0 → true ≡ leb s (spot_of k (keys_in header size count b))
-  reached-none z = sym (le-leb s (spot_of k (keys_in header size count b)) (omega arith))
+  pub reached-none : s ≡ 0 → true ≡ leb s (spot_of k ks)
+  reached-none z = sym (le-leb s (spot_of k ks) (omega arith))
 
-  pub reached-last : rising (keys_in header size count b) ≡ true → s ≤ count → (s ≡ 0 → ⊥) → (x : ℕ)
-      → x ≡ le_at b (header + size * (s - 1)) 8 → leb x k ≡ leb s (spot_of k (keys_in header size count b))
-  reached-last r h o x e = go (leb x k) refl
+  pub reached-last : rising ks ≡ true → s ≤ length ks → (s ≡ 0 → ⊥) → leb (get_or ks (s - 1) 0) k ≡ leb s (spot_of k ks)
+  reached-last r h o = go (leb (get_or ks (s - 1) 0) k) refl
     where
-      here : x ≡ get_or (keys_in header size count b) (s - 1) 0
-      here = e ∙ sym (key-at header size count (s - 1) b (omega arith))
-
-      go : (t : Bool) → leb x k ≡ t → leb x k ≡ leb s (spot_of k (keys_in header size count b))
+      go : (t : Bool) → leb (get_or ks (s - 1) 0) k ≡ t → leb (get_or ks (s - 1) 0) k ≡ leb s (spot_of k ks)
       go true q =
-          let up = spot-above k (s - 1) (keys_in header size count b) r (omega (arith, length-keys_in header size count b)) (omega (arith, here, leb-true x k q)) in
-          q ∙ sym (le-leb s (spot_of k (keys_in header size count b)) (omega (arith, up)))
+          let up = spot-above k (s - 1) ks r (omega arith) (leb-true (get_or ks (s - 1) 0) k q) in
+          q ∙ sym (le-leb s (spot_of k ks) (omega (arith, up)))
       go false q =
-          let down = spot-below k (s - 1) (keys_in header size count b) (omega (arith, length-keys_in header size count b)) (omega (arith, here, leb-false x k q)) in
-          q ∙ sym (lt-leb s (spot_of k (keys_in header size count b)) (omega (arith, down)))
+          let down = spot-below k (s - 1) ks (omega arith) (leb-false (get_or ks (s - 1) 0) k q) in
+          q ∙ sym (lt-leb s (spot_of k ks) (omega (arith, down)))
 
-  pub not_reached : leb s (spot_of k (keys_in header size count b)) ≡ false → false ≡ eqb s (spot_of k (keys_in header size count b))
-  not_reached f =
-      sym (ne_eqb s (spot_of k (keys_in header size count b)) (λ q. omega (arith, q, leb-false s (spot_of k (keys_in header size count b)) f)))
+  pub not_reached : leb s (spot_of k ks) ≡ false → false ≡ eqb s (spot_of k ks)
+  not_reached f = sym (ne_eqb s (spot_of k ks) (λ q. omega (arith, q, leb-false s (spot_of k ks) f)))
 
-  module _ (f : leb s (spot_of k (keys_in header size count b)) ≡ true) where
-    least : s ≤ spot_of k (keys_in header size count b)
-    least = leb-true s (spot_of k (keys_in header size count b)) f
+  module _ (f : leb s (spot_of k ks) ≡ true) where
+    least : s ≤ spot_of k ks
+    least = leb-true s (spot_of k ks) f
 
-    pub reached-all : s ≡ count → true ≡ eqb s (spot_of k (keys_in header size count b))
-    reached-all q =
-        sym (eq-eqb s (spot_of k (keys_in header size count b))
-        (omega (arith, least, spot-bound k (keys_in header size count b), length-keys_in header size count b)))
+    pub reached-all : s ≡ length ks → true ≡ eqb s (spot_of k ks)
+    reached-all q = sym (eq-eqb s (spot_of k ks) (omega (arith, least, spot-bound k ks)))
 
     -- the next entry decides
-    pub reached-next : rising (keys_in header size count b) ≡ true → s < count → (x : ℕ) → x ≡ le_at b (header + size * s) 8
-        → ltb k x ≡ eqb s (spot_of k (keys_in header size count b))
-    reached-next r h x e = go (ltb k x) refl
+    pub reached-next : rising ks ≡ true → s < length ks → ltb k (get_or ks s 0) ≡ eqb s (spot_of k ks)
+    reached-next r h = go (ltb k (get_or ks s 0)) refl
       where
-        here : x ≡ get_or (keys_in header size count b) s 0
-        here = e ∙ sym (key-at header size count s b h)
-
-        go : (t : Bool) → ltb k x ≡ t → ltb k x ≡ eqb s (spot_of k (keys_in header size count b))
+        go : (t : Bool) → ltb k (get_or ks s 0) ≡ t → ltb k (get_or ks s 0) ≡ eqb s (spot_of k ks)
         go true q =
-            let down = spot-below k s (keys_in header size count b) (omega (arith, length-keys_in header size count b)) (omega (arith, here, ltb-true k x q)) in
-            q ∙ sym (eq-eqb s (spot_of k (keys_in header size count b)) (omega (arith, least, down)))
+            let down = spot-below k s ks h (ltb-true k (get_or ks s 0) q) in
+            q ∙ sym (eq-eqb s (spot_of k ks) (omega (arith, least, down)))
         go false q =
-            let up = spot-above k s (keys_in header size count b) r (omega (arith, length-keys_in header size count b)) (omega (arith, here, ltb-false k x q)) in
-            q ∙ sym (ne_eqb s (spot_of k (keys_in header size count b)) (λ z. omega (arith, z, up)))
+            let up = spot-above k s ks r h (ltb-false k (get_or ks s 0) q) in
+            q ∙ sym (ne_eqb s (spot_of k ks) (λ z. omega (arith, z, up)))

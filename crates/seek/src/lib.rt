@@ -10,26 +10,29 @@
 // asks nothing of the keys, so that a page can be searched before it is tested, and while it is. `confirm` then takes the
 // guess after two comparisons; one that is not the spot is sought again.
 //
-// Below stand `fields`, numbers in bytes, and `entries`, entries as runs of bytes.
+// Below stands `entries`, entries as runs of bytes.
 
 #![tactic(auto)]
 
-ghost use Rattle.std.specs.Prelude.{◌≡◌, true, ◌+◌, ◌*◌, ◌≤◌, eqb, leb, length};
-ghost use Rattle.rules.specs.Layout.{page_size};
+ghost use Rattle.std.specs.Prelude.{◌≡◌, true, ◌≤◌, eqb, leb};
 ghost use Rattle.rules.specs.Entry.{rising};
-ghost use Rattle.entries.specs.Spot.{keys_in, spot_of};
+ghost use Rattle.entries.specs.Spot.{spot_of};
+ghost use Rattle.entries.specs.Layout.{LieOn, keys_on};
 ghost use Rattle.seek.specs.Guess.{guess_of};
 
+use entries::Entries;
+
 // Where halving ends: the key's spot if the keys rise, else some number of entries.
-pub fn guess(page: &[u8], header: usize, size: usize, count: usize, key: u64) -> usize
-    requires { (8 ≤ size) × (header + size * count ≤ length page.now) × (length page.now ≤ page_size) }
-    ensures { result ≡ guess_of key (keys_in header size count page.now) }
+pub fn guess(page: &[u8], entries: Entries, key: u64) -> usize
+    requires { LieOn entries page.now }
+    ensures { result ≡ guess_of key (keys_on entries page.now) }
 {
     let mut low = 0;
-    let mut left = count;
+    let mut left = entries.count;
+    // no loop over indices, nor the library's search, whose order is a jump on each key
     while 0 < left {
         let step = left - left / 2;
-        let passed = fields::get64(page, header + size * (low + step - 1)) <= key;
+        let passed = entries.key(page, low + step - 1) <= key;
         // step more if passed, else none: a shift compiles to no jump, a product or an `if` does
         low += (step << (passed as usize)) - step;
         left -= step;
@@ -38,59 +41,48 @@ pub fn guess(page: &[u8], header: usize, size: usize, count: usize, key: u64) ->
 }
 
 // How many entries stand before the first one with a key above this one.
-pub fn seek(page: &[u8], header: usize, size: usize, count: usize, key: u64) -> usize
-    requires { (8 ≤ size) × (header + size * count ≤ length page.now) × (length page.now ≤ page_size)
-        × (rising (keys_in header size count page.now) ≡ true) }
-    ensures { result ≡ spot_of key (keys_in header size count page.now) }
+pub fn seek(page: &[u8], entries: Entries, key: u64) -> usize
+    requires { LieOn entries page.now × (rising (keys_on entries page.now) ≡ true) }
+    ensures { result ≡ spot_of key (keys_on entries page.now) }
 {
-    guess(page, header, size, count, key)
+    guess(page, entries, key)
 }
 
 // The spot is not before a number of entries: the last of them is not above the key.
-fn reached(page: &[u8], header: usize, size: usize, count: usize, key: u64, number: usize) -> bool
-    requires { (8 ≤ size) × (header + size * count ≤ length page.now) × (length page.now ≤ page_size)
-        × (rising (keys_in header size count page.now) ≡ true) × (number ≤ count) }
-    ensures { result ≡ leb number (spot_of key (keys_in header size count page.now)) }
+fn reached(page: &[u8], entries: Entries, key: u64, number: usize) -> bool
+    requires { LieOn entries page.now × (rising (keys_on entries page.now) ≡ true) × (number ≤ entries.count) }
+    ensures { result ≡ leb number (spot_of key (keys_on entries page.now)) }
 {
     if number == 0 {
         return true;
     }
-    fields::get64(page, header + size * (number - 1)) <= key
+    entries.key(page, number - 1) <= key
 }
 
 // The number is the spot: it is reached, and the next entry is above the key.
-fn stands(page: &[u8], header: usize, size: usize, count: usize, key: u64, number: usize) -> bool
-    requires { (8 ≤ size) × (header + size * count ≤ length page.now) × (length page.now ≤ page_size)
-        × (rising (keys_in header size count page.now) ≡ true) }
-    ensures { result ≡ eqb number (spot_of key (keys_in header size count page.now)) }
+fn stands(page: &[u8], entries: Entries, key: u64, number: usize) -> bool
+    requires { LieOn entries page.now × (rising (keys_on entries page.now) ≡ true) }
+    ensures { result ≡ eqb number (spot_of key (keys_on entries page.now)) }
 {
-    if number > count {
+    if number > entries.count {
         return false;
     }
-    if !reached(page, header, size, count, key, number) {
+    if !reached(page, entries, key, number) {
         return false;
     }
-    if number == count {
+    if number == entries.count {
         return true;
     }
-    fields::get64(page, header + size * number) > key
+    entries.key(page, number) > key
 }
 
 // The same spot, by a guess made before the keys were known to rise, if it stands.
-pub fn confirm(
-    page: &[u8],
-    header: usize,
-    size: usize,
-    count: usize,
-    key: u64,
-    guess: usize,
-) -> usize
-    requires { (8 ≤ size) × (header + size * count ≤ length page.now) × (length page.now ≤ page_size)
-        × (rising (keys_in header size count page.now) ≡ true) }
-    ensures { result ≡ spot_of key (keys_in header size count page.now) }
+pub fn confirm(page: &[u8], entries: Entries, key: u64, guess: usize) -> usize
+    requires { LieOn entries page.now × (rising (keys_on entries page.now) ≡ true) }
+    ensures { result ≡ spot_of key (keys_on entries page.now) }
 {
-    if stands(page, header, size, count, key, guess) {
+    if stands(page, entries, key, guess) {
         return guess;
     }
-    seek(page, header, size, count, key)
+    seek(page, entries, key)
 }

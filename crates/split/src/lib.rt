@@ -18,6 +18,7 @@ ghost use Rattle.rules.specs.Insert.{making, grow, halve};
 ghost use Rattle.rules.specs.declared.Session.{Session};
 ghost use Rattle.split.specs.Split.{step_at, heirs_by, previous_by, frees_by, retire_by, root_previous_by, side_of, Halves, Grows};
 
+use edit::Half;
 use head::Head;
 use rules::{LEAF, Place, Session};
 
@@ -104,13 +105,19 @@ pub fn halve(
     let middle = build::middle_at(table, from);
     build::build_lower(table, lower as usize, from, c);
     build::build_upper(table, upper as usize, from, c);
+    let first = Half {
+        child: lower,
+        low: head.low,
+    };
+    let second = Half {
+        child: upper,
+        low: middle,
+    };
     edit::put_twins(
         table,
         at as usize,
-        head.low,
-        lower,
-        middle,
-        upper,
+        first,
+        second,
         previous_of(c, e, head),
         c,
     );
@@ -133,15 +140,6 @@ pub fn grow(table: &mut [u8], c: u32, e: Place, head: Head, new: u16)
     ensures { (s : Session) → making table.new (taken new s) new
         ≡ grow c (step_at table.old e) new (making table.old s 0) }
 {
-    build::build_root(
-        table,
-        new as usize,
-        c,
-        head.kind + 1,
-        e.low,
-        e.child,
-        e.previous,
-        e.birth,
-    );
+    build::build_root(table, new as usize, c, head.kind + 1, e);
     head::set_root(table, new, root_previous(c, e, head), c);
 }

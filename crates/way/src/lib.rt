@@ -24,11 +24,9 @@ ghost use Rattle.way.specs.Ahead.{ahead_of};
 ghost use Rattle.way.specs.Ways.{places_below, Leads, no_step, way_for, then_of, above_in, told, end_in, reported, went, ended};
 
 use enter::Above;
+use entries::Entries;
 use head::Head;
-use rules::{
-    AT_COUNT, AT_KIND, CERT, CHILD, INNER_HEADER, INNER_ROOM, LEAF, LEAF_HEADER, LEAF_ROOM, LEVELS,
-    Place, Report,
-};
+use rules::{AT_COUNT, AT_KIND, INNER_ROOM, LEAF, LEAF_ROOM, LEVELS, Place, Report};
 
 // A page entered: the place that asked for it, and its header.
 #[derive(Clone, Copy)]
@@ -144,12 +142,12 @@ pub fn look_ahead(table: &[u8], i: u16, key: u64, upto: u64) -> usize
         if count > LEAF_ROOM {
             return 0;
         }
-        return seek::guess(page, LEAF_HEADER, CERT, count as usize, upto);
+        return seek::guess(page, Entries::certs(count as usize), upto);
     }
     if count > INNER_ROOM {
         return 0;
     }
-    seek::guess(page, INNER_HEADER, CHILD, count as usize, key)
+    seek::guess(page, Entries::children(count as usize), key)
 }
 
 // The place that a page's entries ask for at a key, below a page that was entered, by its header.
@@ -159,7 +157,7 @@ pub fn place_below(table: &[u8], i: u16, head: Head, key: u64, guess: usize) -> 
 {
     let page = head::page_at(table, i as usize);
     let count = head.count as usize;
-    let spot = seek::confirm(page, INNER_HEADER, CHILD, count, key, guess);
+    let spot = seek::confirm(page, Entries::children(count), key, guess);
     head::kid(page, count, spot - 1, head.kind - 1, head.high)
 }
 
@@ -170,7 +168,7 @@ pub fn spot_at(table: &[u8], i: u16, count: u16, key: u64, guess: usize) -> usiz
     ensures { result ≡ spot_of key (keys_in leaf_header cert_size count (page_at table.now i)) }
 {
     let page = head::page_at(table, i as usize);
-    seek::confirm(page, LEAF_HEADER, CERT, count as usize, key, guess)
+    seek::confirm(page, Entries::certs(count as usize), key, guess)
 }
 
 pub fn way_of(t: &mut [u8], n: usize, c: u32, key: u64) -> Went

@@ -11,4 +11,4 @@ returns c =
     let write-child = c.write_child in
     let a = c.args in
     let pre = c.requires in
-    rw (header.ensures, clear.ensures, write-child.ensures) (root-built a.table.now a.to a.kind a.c (new_child a.birth a.key a.child a.previous) pre.page_size_in_bounds pre.leaf_kind_lt_kind)
+    rw (header.ensures, clear.ensures, write-child.ensures) (root-built a.table.now a.to a.kind a.c (new_child a.old.birth a.old.low a.old.child a.old.previous) pre.page_size_in_bounds pre.leaf_kind_lt_kind)

@@ -17,4 +17,4 @@ returns c =
     let put16 = c.put16 in
     let a = c.args in
     rw (put642.ensures, put64.ensures, put323.ensures, put322.ensures, put32.ensures, put162.ensures, put16.ensures)
-    (sym (header_at a.table.now a.at a.kind a.count a.birth a.c a.c a.low a.high))
+    (sym (header_at a.table.now a.at a.kind a.count a.fresh.birth a.fresh.c a.fresh.c a.fresh.low a.fresh.high))

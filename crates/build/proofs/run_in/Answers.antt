@@ -1,51 +1,19 @@
 -- `build::run_in`: the run is found by two searches.
 -- Assumes nothing.
-use Rattle.fields.specs.Field.{le_at}
+use Rattle.entries.proofs.Layouts.{header-entries_of, size-entries_of, count-entries_of, keys-entries_of}
 use Rattle.build.proofs.Built.{entries_fit}
-use Rattle.build.proofs.Halves.{size-bound}
 use native.Mathlib.Omega.{arith}
 use Rattle.build.proofs.run_in.Goals as goal
 
 pub start-requires : goal.start-requires
 start-requires c =
-    let type_size = c.size_of-size in
-    let header-size = c.header_size-header_size in
-    let get16 = c.get16-kind in
-    let a = c.args in
-    let pre = c.requires in
-    rw (header-size.ensures, type_size.ensures, get16.ensures, c.get16-count.ensures) record {
-      le_size = omega (arith, size-bound (le_at a.page.now 0 2));
-      count_in_bounds = omega (
-        arith,
-        pre.page_len,
-        entries_fit a.page.now
-            pre.roomy,
-      );
-    }
+    let b = c.args.page.now in
+    rw (c.of-entries.ensures, header-entries_of, size-entries_of, count-entries_of) (omega (arith, c.requires.page_len, entries_fit b c.requires.roomy))
 
 pub spot-requires : goal.spot-requires
 spot-requires c =
-    let type_size = c.size_of-size in
-    let header-size = c.header_size-header_size in
-    let get16 = c.get16-kind in
-    let get162 = c.get16-count in
-    let a = c.args in
-    let pre = c.requires in
-    rw (header-size.ensures, type_size.ensures, get16.ensures, get162.ensures) record {
-      le_size = omega (arith, size-bound (le_at a.page.now 0 2));
-      count_in_bounds = omega (
-        arith,
-        pre.page_len,
-        entries_fit a.page.now
-            pre.roomy,
-      );
-    }
+    let b = c.args.page.now in
+    rw (c.of-entries.ensures, header-entries_of, size-entries_of, count-entries_of) (omega (arith, c.requires.page_len, entries_fit b c.requires.roomy))
 
 pub returns : goal.returns
-returns c =
-    let start = c.start in
-    let type_size = c.size_of-size in
-    let header-size = c.header_size-header_size in
-    let get16 = c.get16-kind in
-    let get162 = c.get16-count in
-    (rw (start.ensures, header-size.ensures, type_size.ensures, get16.ensures, get162.ensures), rw (c.spot.ensures, header-size.ensures, type_size.ensures, get16.ensures, get162.ensures))
+returns c = (rw (c.start.ensures, c.of-entries.ensures, keys-entries_of), rw (c.spot.ensures, c.of-entries.ensures, keys-entries_of))

@@ -1,73 +1,49 @@
 -- `edit::put_child_in`: the entries behind the spot moved up, the entry, count and touched are what the rules write (Edits).
 -- Assumes nothing.
-use mathlib.Core.Path.{◌≡◌, sym}
-use Rattle.fields.specs.Field.{le_at}
+use mathlib.Core.Path.{sym}
 use Rattle.rules.specs.Layout.{inner_header}
 use Rattle.rules.specs.Insert.{new_child}
-use Rattle.entries.specs.Spot.{spot_of, keys_in}
 use Rattle.edit.proofs.Edits.{spot-below, inner_room_lem, child_bytes_lem}
 use native.Mathlib.Omega.{arith}
+use borrow.Author.Rules.{rules}
 use Rattle.edit.proofs.put_child_in.Goals as goal
 
-pub spot-requires : goal.spot-requires
-spot-requires c =
-    let pre = c.requires in
-    let a = c.args in record { le_size = omega arith; count_in_bounds = omega (arith, c.get16-count.ensures, pre.page_len, inner_room_lem a.page.now pre.takes_child.inner pre.takes_child.room) }
+pub spot-spot-requires : goal.spot-spot-requires
+spot-spot-requires c =
+    let takes = c.requires.takes_child in
+    rw c.children-children.ensures (omega (arith, c.get16-count.ensures, c.requires.page_len, inner_room_lem c.args.page.now takes.inner takes.room))
 
-pub overflow_mul-at : goal.overflow_mul-at
-overflow_mul-at c =
-    let spot = c.spot in
-    let get16 = c.get16-count in
+pub make_room-at-requires : goal.make_room-at-requires
+make_room-at-requires c =
     let a = c.args in
-    let pre = c.requires in
-    omega
-    (arith, get16.ensures, spot-below inner_header 16 get16.result a.key spot.result a.page.now spot.ensures, inner_room_lem a.page.now pre.takes_child.inner pre.takes_child.room)
-
-pub overflow_add-at : goal.overflow_add-at
-overflow_add-at c =
-    let spot = c.spot in
-    let get16 = c.get16-count in
-    let a = c.args in
-    let pre = c.requires in
-    omega
-    (arith, get16.ensures, spot-below inner_header 16 get16.result a.key spot.result a.page.now spot.ensures, inner_room_lem a.page.now pre.takes_child.inner pre.takes_child.room)
-
-pub move_up-requires : goal.move_up-requires
-move_up-requires c =
-    let get16 = c.get16-count in
-    let a = c.args in
-    let spot = c.spot in
-    let pre = c.requires in record { at_le_end = omega (arith, spot-below inner_header 16 get16.result a.key spot.result a.page.now spot.ensures); by_in_bounds = omega (arith, get16.ensures, pre.page_len, inner_room_lem a.page.now pre.takes_child.inner pre.takes_child.room) }
+    let count = c.get16-count in
+    let takes = c.requires.takes_child in
+    let spot = rw c.children-children.ensures at c.spot-spot.ensures in
+    rw c.children-children.ensures record {
+      spot_in_bounds = spot-below inner_header 16 count.result a.entry.key c.spot-spot.result a.page.now spot;
+      room = omega (arith, count.ensures, c.requires.page_len, inner_room_lem a.page.now takes.inner takes.room);
+    }
 
 pub write_child-requires : goal.write_child-requires
 write_child-requires c =
-    let get16 = c.get16-count in
-    let pre = c.requires in
-    let move_up = c.move_up in
     let a = c.args in
-    let spot = c.spot in
+    let count = c.get16-count in
+    let takes = c.requires.takes_child in
+    let spot = rw c.children-children.ensures at c.spot-spot.ensures in
+    let at = rw c.children-children.ensures at c.make_room-at.ensures.place in
     omega
-    (arith, get16.ensures, pre.page_len, move_up.auto.page, spot-below inner_header 16 get16.result a.key spot.result a.page.now spot.ensures, inner_room_lem a.page.now pre.takes_child.inner pre.takes_child.room)
+    (arith, at, count.ensures, c.requires.page_len, c.make_room-at.auto.page, spot-below inner_header 16 count.result a.entry.key c.spot-spot.result a.page.now spot, inner_room_lem a.page.now takes.inner takes.room)
 
-pub overflow_add-count-2 : goal.overflow_add-count-2
-overflow_add-count-2 c =
-    let get16 = c.get16-count in
-    let a = c.args in
-    let pre = c.requires in
-    omega (arith, get16.ensures, inner_room_lem a.page.now pre.takes_child.inner pre.takes_child.room)
+pub overflow_add-count : goal.overflow_add-count
+overflow_add-count c =
+    let takes = c.requires.takes_child in
+    omega (arith, c.get16-count.ensures, inner_room_lem c.args.page.now takes.inner takes.room)
 
 pub returns : goal.returns
 unfolding new_child
 returns c =
-    let spot = c.spot in
     let a = c.args in
-    let get16 = c.get16-count in
-    let stamp = c.stamp in
-    let write-child = c.write_child in
-    let move_up = c.move_up in
-    let slice-known = c.slice_known-1 in
-    let pre = c.requires in
-    let e : spot.result ≡ spot_of a.key (keys_in inner_header 16 (le_at a.page.now 2 2) a.page.now) = rw get16.ensures
-    at spot.ensures in
-    rw (stamp.ensures, write-child.ensures, move_up.ensures, get16.ensures)
-    (sym (child_bytes_lem a.page.now (new_child a.c a.key a.child a.previous) a.c spot.result slice-known.given pre.page_len e pre.takes_child))
+    let room = c.make_room-at in
+    let spot = rw (c.children-children.ensures, c.get16-count.ensures) at c.spot-spot.ensures in
+    rw (c.stamp.ensures, c.write_child.ensures, room.ensures.moved, room.ensures.place, c.children-children.ensures, c.get16-count.ensures)
+    (sym (child_bytes_lem a.page.now (new_child a.entry.birth a.entry.key a.entry.child a.entry.previous) a.c c.spot-spot.result (search rules) c.requires.page_len spot c.requires.takes_child))

@@ -5,33 +5,29 @@ use Rattle.rules.specs.Entry.{Child}
 use Rattle.rules.proofs.Bytes.EntryBytes.{WideChild}
 use Rattle.edit.specs.Takes.{twins_of}
 use Rattle.edit.proofs.Twins.{long-first, takes_first, change_twice, wide-new_child}
+use borrow.Author.Rules.{rules}
 use Rattle.edit.proofs.put_twins_in.Goals as goal
+
+pub set_child_in-requires : goal.set_child_in-requires
+set_child_in-requires c = rw c.entry.ensures record { page_len = c.requires.page_len; has_child = c.requires.takes_twins.has }
 
 pub put_child_in-requires : goal.put_child_in-requires
 unfolding new_child
 put_child_in-requires c =
     let a = c.args in
     let fits = c.ranges in
-    let set-child-in = c.set_child_in in
-    let slice-known = c.slice_known-1 in
     let pre = c.requires in
-    let x : Child = new_child a.c a.low a.lower a.previous in
-    let w : WideChild x = wide-new_child a.c a.low a.lower a.previous fits.c fits.low fits.lower
-    fits.previous in
-    rw set-child-in.ensures
-    record { page_len = long-first a.page.now x a.c slice-known.given pre.page_len pre.takes_twins.has w w.birth; takes_child = takes_first a.page.now x a.c slice-known.given pre.page_len pre.takes_twins.has w w.birth a.middle pre.takes_twins.absent }
+    let x : Child = new_child a.c a.lower.low a.lower.child a.previous in
+    let w : WideChild x = wide-new_child a.c a.lower.low a.lower.child a.previous (search rules) (search rules) (search rules) (search rules) in
+    rw (c.entry-2.ensures, c.set_child_in.ensures, c.entry.ensures)
+    record { page_len = long-first a.page.now x a.c (search rules) pre.page_len pre.takes_twins.has w w.birth; takes_child = takes_first a.page.now x a.c (search rules) pre.page_len pre.takes_twins.has w w.birth a.upper.low pre.takes_twins.absent }
 
 pub returns : goal.returns
 unfolding new_child twins_of
 returns c =
     let a = c.args in
-    let fits = c.ranges in
-    let put-child-in = c.put_child_in in
-    let set-child-in = c.set_child_in in
-    let slice-known = c.slice_known-1 in
     let pre = c.requires in
-    let x : Child = new_child a.c a.low a.lower a.previous in
-    let w : WideChild x = wide-new_child a.c a.low a.lower a.previous fits.c fits.low fits.lower
-    fits.previous in
-    rw (put-child-in.ensures, set-child-in.ensures)
-    (change_twice a.page.now x a.c slice-known.given pre.page_len pre.takes_twins.has w w.birth (new_child a.c a.middle a.upper a.previous))
+    let x : Child = new_child a.c a.lower.low a.lower.child a.previous in
+    let w : WideChild x = wide-new_child a.c a.lower.low a.lower.child a.previous (search rules) (search rules) (search rules) (search rules) in
+    rw (c.put_child_in.ensures, c.entry-2.ensures, c.set_child_in.ensures, c.entry.ensures)
+    (change_twice a.page.now x a.c (search rules) pre.page_len pre.takes_twins.has w w.birth (new_child a.c a.upper.low a.upper.child a.previous))

@@ -1,74 +1,76 @@
 -- `edit::remove_cert_in`: the entries behind the certificate moved down, zeros, count and touched are what the rules write (Removed).
 -- Assumes nothing.
-use mathlib.Core.Path.{◌≡◌, sym}
-use Rattle.fields.specs.Field.{le_at}
+use mathlib.Core.Path.{sym}
 use Rattle.rules.specs.Layout.{leaf_header}
-use Rattle.entries.specs.Spot.{spot_of, keys_in}
 use Rattle.edit.proofs.Edits.{spot-below}
 use Rattle.edit.proofs.Removed.{has_room, has-spot, less_bytes}
 use native.Mathlib.Omega.{arith}
+use borrow.Author.Rules.{rules}
 use Rattle.edit.proofs.remove_cert_in.Goals as goal
 
-pub spot-requires : goal.spot-requires
-spot-requires c =
-    let pre = c.requires in
-    let args = c.args in
-    record { le_size = omega arith; count_in_bounds = omega (arith, c.get16-count.ensures, pre.page_len, has_room args.page.now args.key pre.has_cert) }
+pub spot-spot-requires : goal.spot-spot-requires
+spot-spot-requires c =
+    let a = c.args in
+    rw c.certs-certs.ensures (omega (arith, c.get16-count.ensures, c.requires.page_len, has_room a.page.now a.key c.requires.has_cert))
 
-pub overflow_mul-at : goal.overflow_mul-at
-overflow_mul-at c =
-    let get16 = c.get16-count in
-    let args = c.args in
-    let spot = c.spot in
-    omega (arith, get16.ensures, spot-below leaf_header 12 get16.result args.key spot.result args.page.now spot.ensures, has_room args.page.now args.key c.requires.has_cert)
+pub at-at-requires : goal.at-at-requires
+at-at-requires c =
+    let a = c.args in
+    let spot = rw c.certs-certs.ensures at c.spot-spot.ensures in
+    rw c.certs-certs.ensures (omega (arith, c.get16-count.ensures, spot-below leaf_header 12 c.get16-count.result a.key c.spot-spot.result a.page.now spot, has_room a.page.now a.key c.requires.has_cert))
 
-pub overflow_add-at : goal.overflow_add-at
-overflow_add-at c =
-    let get16 = c.get16-count in
-    let args = c.args in
-    let spot = c.spot in
-    omega (arith, get16.ensures, spot-below leaf_header 12 get16.result args.key spot.result args.page.now spot.ensures, has_room args.page.now args.key c.requires.has_cert)
+pub at-end-requires : goal.at-end-requires
+at-end-requires c =
+    let a = c.args in
+    rw c.certs-certs.ensures (omega (arith, c.get16-count.ensures, has_room a.page.now a.key c.requires.has_cert))
+
+pub overflow_sub-at : goal.overflow_sub-at
+overflow_sub-at c =
+    let at = rw c.certs-certs.ensures at c.at-at.ensures in
+    omega arith
 
 pub overflow_sub-end : goal.overflow_sub-end
 overflow_sub-end c =
-    let get16 = c.get16-count in
-    let args = c.args in
-    let spot = c.spot in
-    omega (arith, get16.ensures, spot-below leaf_header 12 get16.result args.key spot.result args.page.now spot.ensures)
+    let a = c.args in
+    let spot = rw c.certs-certs.ensures at c.spot-spot.ensures in
+    let at = rw c.certs-certs.ensures at c.at-at.ensures in
+    let end = rw c.certs-certs.ensures at c.at-end.ensures in
+    omega (arith, spot-below leaf_header 12 c.get16-count.result a.key c.spot-spot.result a.page.now spot)
 
 pub copy-requires : goal.copy-requires
 copy-requires c =
-    let get16 = c.get16-count in
-    let args = c.args in
-    let spot = c.spot in
-    let pre = c.requires in
-    let below = spot-below leaf_header 12 get16.result args.key spot.result args.page.now spot.ensures in
-    let room = has_room args.page.now args.key pre.has_cert in
-    let count = get16.ensures in
-    let long = pre.page_len in
-    record { len_in_bounds = omega arith; len_in_bounds_2 = omega arith; len_bound = λ h. omega (arith, h) }
+    let a = c.args in
+    let spot = rw c.certs-certs.ensures at c.spot-spot.ensures in
+    let at = rw c.certs-certs.ensures at c.at-at.ensures in
+    let end = rw c.certs-certs.ensures at c.at-end.ensures in
+    let count = c.get16-count.ensures in
+    let long = c.requires.page_len in
+    let below = spot-below leaf_header 12 c.get16-count.result a.key c.spot-spot.result a.page.now spot in
+    let room = has_room a.page.now a.key c.requires.has_cert in
+    record { to_in_bounds = omega arith; from_in_bounds = omega arith }
+
+pub overflow_sub-end-2 : goal.overflow_sub-end-2
+overflow_sub-end-2 c =
+    let end = rw c.certs-certs.ensures at c.at-end.ensures in
+    omega arith
 
 pub clear-requires : goal.clear-requires
 clear-requires c =
-    let args = c.args in
-    let pre = c.requires in
-    let room = has_room args.page.now args.key pre.has_cert in
-    record { at_le_end = omega arith; end_in_bounds = omega (arith, c.get16-count.ensures, pre.page_len, c.copy.auto.bytes, room) }
+    let a = c.args in
+    let end = rw c.certs-certs.ensures at c.at-end.ensures in
+    let room = has_room a.page.now a.key c.requires.has_cert in
+    record { at_le_end = omega arith; end_in_bounds = omega (arith, c.get16-count.ensures, c.requires.page_len, c.copy.auto.bytes) }
 
 pub overflow_sub-count : goal.overflow_sub-count
 overflow_sub-count c =
-    let spot = c.spot in
-    let args = c.args in
-    let get16 = c.get16-count in
-    let pre = c.requires in
-    let e : spot.result ≡ spot_of args.key (keys_in leaf_header 12 (le_at args.page.now 2 2) args.page.now) = rw get16.ensures at spot.ensures in
-    omega (arith, get16.ensures, has-spot args.page.now args.key args.c spot.result c.slice_known-1.given pre.page_len pre.has_cert e, spot-below leaf_header 12 get16.result args.key spot.result args.page.now spot.ensures)
+    let a = c.args in
+    let spot = rw (c.certs-certs.ensures, c.get16-count.ensures) at c.spot-spot.ensures in
+    let read = rw c.certs-certs.ensures at c.spot-spot.ensures in
+    omega (arith, c.get16-count.ensures, has-spot a.page.now a.key a.c c.spot-spot.result (search rules) c.requires.page_len c.requires.has_cert spot, spot-below leaf_header 12 c.get16-count.result a.key c.spot-spot.result a.page.now read)
 
 pub returns : goal.returns
 returns c =
-    let spot = c.spot in
-    let args = c.args in
-    let get16 = c.get16-count in
-    let pre = c.requires in
-    let e : spot.result ≡ spot_of args.key (keys_in leaf_header 12 (le_at args.page.now 2 2) args.page.now) = rw get16.ensures at spot.ensures in
-    rw (c.stamp.ensures, c.clear.ensures, c.copy.ensures, get16.ensures) (sym (less_bytes args.page.now args.key args.c spot.result c.slice_known-1.given pre.page_len pre.has_cert e))
+    let a = c.args in
+    let spot = rw (c.certs-certs.ensures, c.get16-count.ensures) at c.spot-spot.ensures in
+    rw (c.stamp.ensures, c.clear.ensures, c.copy.ensures, c.at-at.ensures, c.at-end.ensures, c.certs-certs.ensures, c.get16-count.ensures)
+    (sym (less_bytes a.page.now a.key a.c c.spot-spot.result (search rules) c.requires.page_len c.requires.has_cert spot))

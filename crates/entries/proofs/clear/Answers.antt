@@ -1,31 +1,17 @@
--- `entries::clear`: the invariant: the bytes from `at` up to k are zero. The measure is what is left up to `end`.
+-- `entries::clear`: what is written over the part is a run of stores.
 -- Assumes nothing.
-use Rattle.entries.proofs.Sets.{cleared_more}
-use native.Mathlib.Nat.{sub_self}
-use mathlib.Core.Path.{◌≡◌}
-use borrow.Author.Rules.{rules}
+use mathlib.Core.Path.{◌∙◌}
+use Prim.Native.Nat.{◌+◌, ◌-◌, ◌≤◌}
+use lib.ListN.{length}
 use native.Mathlib.Omega.{arith}
+use Rattle.fields.proofs.Run.{length_part, put_mid-sets}
 use Rattle.entries.proofs.clear.Goals as goal
-
-pub loop-k-init : goal.loop-k-init
-loop-k-init c =
-    (search rules, search rules, search rules, rw sub_self)
-
-pub bounds-bytes-k : goal.bounds-bytes-k
-bounds-bytes-k c = omega arith
-
-pub loop-k-preserved : goal.loop-k-preserved
-loop-k-preserved c =
-    let a = c.args in
-    let loop = c.loop-k in
-    (search rules, search rules, search rules, cleared_more a.bytes.now loop.bytes a.at loop.k (omega arith) loop.invariant.3)
-
-pub shape_of-bytes : goal.shape_of-bytes
-shape_of-bytes c = c.loop-k.invariant.2
 
 pub returns : goal.returns
 returns c =
-    let loop = c.loop-k in
     let a = c.args in
-    let e : loop.k ≡ a.end = omega arith in
-    rw (← e) loop.invariant.3
+    let pre = c.requires in
+    let w = a.end - a.at in
+    let bound : a.at + w ≤ length a.bytes.now = omega arith in
+    let part = length_part w a.at a.bytes.now bound in
+    rw (put_mid-sets a.bytes.now c.fill.new.self a.at w (c.fill.ensures.len ∙ part) bound, c.fill.ensures.after (λ y e. e), part)

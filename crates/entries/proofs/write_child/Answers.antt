@@ -12,4 +12,4 @@ returns c =
     let put64 = c.put64 in
     let a = c.args in
     rw (put32.ensures, put162.ensures, put16.ensures, put64.ensures)
-    (sym (child-puts a.page.now a.at a.key a.child a.previous a.birth))
+    (sym (child-puts a.page.now a.at a.entry.key a.entry.child a.entry.previous a.entry.birth))

@@ -10,10 +10,9 @@ confirm-requires c =
     let args = c.args in
     let pre = c.requires in
     let l = length-page_at args.t.now args.child (omega arith) in
-    rw (page_part args.t.now args.child)
-    (omega arith, omega (arith, l, pre.1), omega (arith, l), pre.2)
+    rw (page_part args.t.now args.child, c.certs.ensures) (omega (arith, l, pre.1), pre.2)
 
 pub returns : goal.returns
 returns c =
     let args = c.args in
-    rw (page_part args.t.now args.child) at c.confirm.ensures
+    rw (page_part args.t.now args.child, c.certs.ensures) at c.confirm.ensures

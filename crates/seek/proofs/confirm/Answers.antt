@@ -2,11 +2,11 @@
 -- Assumes nothing.
 use mathlib.Core.Path.{sym, ◌∙◌}
 use borrow.Author.Tests.{eqb-true}
-use Rattle.entries.specs.Spot.{keys_in, spot_of}
+use Rattle.entries.specs.Spot.{spot_of}
+use Rattle.entries.specs.Layout.{keys_on}
 use Rattle.seek.proofs.confirm.Goals as goal
 
 pub returns-then-stands : goal.returns-then-stands
 returns-then-stands c =
-    let args = c.args in
-    eqb-true args.guess (spot_of args.key (keys_in args.header args.size args.count args.page.now))
-    (sym c.stands.ensures ∙ c.if-stands.true)
+    let a = c.args in
+    eqb-true a.guess (spot_of a.key (keys_on a.entries a.page.now)) (sym c.stands.ensures ∙ c.if-stands.true)

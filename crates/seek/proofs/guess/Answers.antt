@@ -1,95 +1,68 @@
 -- `seek::guess`: each turn is one of the definition's.
 -- Assumes nothing.
-use Prim.Native.Nat.{◌-◌, ◌+◌, ◌/◌}
-use lib.Dec.{leb}
-use Rattle.entries.proofs.Passed.{within}
-use Rattle.seek.proofs.Halving.{passed-most, one-most, shifted, few, halving_all, halving_end, half_inside, halving_step}
+use Prim.Native.Nat.{◌-◌, ◌/◌, ◌≤◌, ◌^◌}
+use lib.ListN.{length}
+use Rattle.entries.specs.Layout.{keys_on}
+use Rattle.entries.proofs.KeysIn.{length-keys_in}
+use Rattle.seek.proofs.Halving.{passed-most, shifted, few, halving_all, halving_end, half_inside, halving_step}
 use native.Mathlib.Omega.{arith}
 use Rattle.seek.proofs.guess.Goals as goal
 
 pub loop-left-init : goal.loop-left-init
 loop-left-init c =
-    let args = c.args in
-    halving_all args.key args.header args.size args.count args.page.now
-
-pub overflow_sub-step : goal.overflow_sub-step
-overflow_sub-step c = omega arith
+    let a = c.args in
+    let e = a.entries in
+    rw (length-keys_in e.header e.size e.count a.page.now) at (halving_all a.key (keys_on e a.page.now))
 
 pub overflow_add-low : goal.overflow_add-low
 overflow_add-low c =
-    let args = c.args in
+    let a = c.args in
+    let e = a.entries in
     let loop = c.loop-left in
-    omega
-    (arith, half_inside args.key args.header args.size args.count args.page.now loop.low loop.left loop.invariant (omega arith))
+    omega (arith, half_inside a.key (keys_on e a.page.now) loop.low loop.left loop.invariant c.loop-left-test.true, length-keys_in e.header e.size e.count a.page.now)
 
-pub overflow_sub-low : goal.overflow_sub-low
-overflow_sub-low c =
-    let args = c.args in
+pub key-requires-clause-among : goal.key-requires-clause-among
+key-requires-clause-among c =
+    let a = c.args in
+    let e = a.entries in
     let loop = c.loop-left in
-    omega
-    (arith, half_inside args.key args.header args.size args.count args.page.now loop.low loop.left loop.invariant (omega arith))
-
-pub overflow_mul-size : goal.overflow_mul-size
-overflow_mul-size c =
-    let args = c.args in
-    let loop = c.loop-left in
-    omega
-    (arith, within args.size (loop.low + (loop.left - loop.left / 2) - 1) args.count (half_inside args.key args.header args.size args.count args.page.now loop.low loop.left loop.invariant (omega arith)))
-
-pub overflow_add-header : goal.overflow_add-header
-overflow_add-header c =
-    let args = c.args in
-    let loop = c.loop-left in
-    omega
-    (arith, within args.size (loop.low + (loop.left - loop.left / 2) - 1) args.count (half_inside args.key args.header args.size args.count args.page.now loop.low loop.left loop.invariant (omega arith)))
-
-pub get64-requires : goal.get64-requires
-get64-requires c =
-    let args = c.args in
-    let loop = c.loop-left in
-    omega
-    (arith, within args.size (loop.low + (loop.left - loop.left / 2) - 1) args.count (half_inside args.key args.header args.size args.count args.page.now loop.low loop.left loop.invariant (omega arith)))
-
-pub overflow_shl-low : goal.overflow_shl-low
-overflow_shl-low c = omega (arith, one-most (leb c.get64.result c.args.key))
+    rw length-keys_in at (half_inside a.key (keys_on e a.page.now) loop.low loop.left loop.invariant c.loop-left-test.true)
 
 pub overflow_sub-low-in-loop-left : goal.overflow_sub-low-in-loop-left
 overflow_sub-low-in-loop-left c =
-    let args = c.args in
-    let pre = c.requires in
+    let a = c.args in
+    let e = a.entries in
+    let ks = keys_on e a.page.now in
     let loop = c.loop-left in
-    (shifted args.key c.get64.result (loop.left - loop.left / 2)
-    (omega (arith, few args.header args.size args.count pre.0 (omega arith), half_inside args.key args.header args.size args.count args.page.now loop.low loop.left loop.invariant (omega arith)))).0
+    let half : loop.left - loop.left / 2 ≤ 2 ^ 60
+    = omega (arith, few e.header e.size e.count (length a.page.now) e.keyed c.requires (omega arith), loop.invariant.inside, length-keys_in e.header e.size e.count a.page.now) in
+    let step = shifted a.key c.key.result (loop.left - loop.left / 2) half in
+    step.0
 
 pub overflow_add-low-in-loop-left : goal.overflow_add-low-in-loop-left
 overflow_add-low-in-loop-left c =
-    let args = c.args in
-    let pre = c.requires in
+    let a = c.args in
+    let e = a.entries in
+    let ks = keys_on e a.page.now in
     let loop = c.loop-left in
-    let get64 = c.get64 in
-    rw
-    (shifted args.key get64.result (loop.left - loop.left / 2) (omega (arith, few args.header args.size args.count pre.0 (omega arith), half_inside args.key args.header args.size args.count args.page.now loop.low loop.left loop.invariant (omega arith)))).1
-    (omega (arith, passed-most args.key get64.result (loop.left - loop.left / 2), few args.header args.size args.count pre.0 (omega arith), half_inside args.key args.header args.size args.count args.page.now loop.low loop.left loop.invariant (omega arith)))
-
-pub overflow_sub-left : goal.overflow_sub-left
-overflow_sub-left c = omega arith
-
-pub loop-left-smaller : goal.loop-left-smaller
-loop-left-smaller c = omega arith
+    let half : loop.left - loop.left / 2 ≤ 2 ^ 60
+    = omega (arith, few e.header e.size e.count (length a.page.now) e.keyed c.requires (omega arith), loop.invariant.inside, length-keys_in e.header e.size e.count a.page.now) in
+    let step = shifted a.key c.key.result (loop.left - loop.left / 2) half in
+    rw step.1 (omega (arith, passed-most a.key c.key.result (loop.left - loop.left / 2), loop.invariant.inside, length-keys_in e.header e.size e.count a.page.now))
 
 pub loop-left-preserved : goal.loop-left-preserved
 loop-left-preserved c =
-    let args = c.args in
-    let pre = c.requires in
+    let a = c.args in
+    let e = a.entries in
+    let ks = keys_on e a.page.now in
     let loop = c.loop-left in
-    let get64 = c.get64 in
-    rw
-    (shifted args.key get64.result (loop.left - loop.left / 2) (omega (arith, few args.header args.size args.count pre.0 (omega arith), half_inside args.key args.header args.size args.count args.page.now loop.low loop.left loop.invariant (omega arith)))).1
-    (halving_step args.key args.header args.size args.count args.page.now loop.low loop.left loop.invariant (omega arith) get64.result get64.ensures)
+    let half : loop.left - loop.left / 2 ≤ 2 ^ 60
+    = omega (arith, few e.header e.size e.count (length a.page.now) e.keyed c.requires (omega arith), loop.invariant.inside, length-keys_in e.header e.size e.count a.page.now) in
+    let step = shifted a.key c.key.result (loop.left - loop.left / 2) half in
+    rw step.1 (halving_step a.key ks loop.low loop.left loop.invariant c.loop-left-test.true c.key.result c.key.ensures)
 
 pub returns : goal.returns
 returns c =
-    let args = c.args in
+    let a = c.args in
     let loop = c.loop-left in
-    halving_end args.key args.header args.size args.count args.page.now loop.low loop.left loop.invariant
-    (omega arith)
+    halving_end a.key (keys_on a.entries a.page.now) loop.low loop.left loop.invariant (omega arith)

@@ -21,7 +21,7 @@ returns-then-get16-eq-LEAF c =
     let page = c.page_at-page in
     let count = c.get16-count in
     let kind = c.get16 in
-    c.guess.ensures
+    (rw c.certs.ensures at c.guess.ensures)
     ∙ (leaf-few args.key args.upto page.result.now kind.result count.result kind.ensures count.ensures c.if-get16-eq-LEAF.true (omega (arith, c.if-count-gt-LEAF_ROOM.false))
     ∙ ap (ahead_of args.key args.upto) page.ensures.bytes)
 
@@ -40,6 +40,6 @@ returns c =
     let page = c.page_at-page in
     let count = c.get16-count in
     let kind = c.get16 in
-    c.guess-2.ensures
+    (rw c.children.ensures at c.guess-2.ensures)
     ∙ (inner-few args.key args.upto page.result.now kind.result count.result kind.ensures count.ensures c.if-get16-eq-LEAF.false (omega (arith, c.if-count-gt-INNER_ROOM.false))
     ∙ ap (ahead_of args.key args.upto) page.ensures.bytes)

@@ -19,14 +19,14 @@ confirm-spot-requires c =
     let g = c.requires.1 in
     let b = page_at args.table.now args.i in
     let l = length-page_at args.table.now args.i (omega arith) in
-    rw c.page_at-page.ensures.bytes
-    (search rules, omega (arith, l, leads-room b args.head args.key g), omega (arith, l), rising-keys_in b args.head.count (leads-rise b args.head args.key g))
+    rw (c.page_at-page.ensures.bytes, c.children.ensures)
+    (omega (arith, l, leads-room b args.head args.key g), rising-keys_in b args.head.count (leads-rise b args.head args.key g))
 
 pub overflow_sub-spot : goal.overflow_sub-spot
 unfolding read page_in
 overflow_sub-spot c =
     let args = c.args in
-    let e = rw c.page_at-page.ensures.bytes at c.confirm-spot.ensures in
+    let e = rw (c.page_at-page.ensures.bytes, c.children.ensures) at c.confirm-spot.ensures in
     omega (arith, e, leads-spot (page_at args.table.now args.i) args.head args.key c.requires.1)
 
 pub overflow_sub-head : goal.overflow_sub-head
@@ -43,7 +43,7 @@ kid-requires c =
     let b = page_at args.table.now args.i in
     let l = length-page_at args.table.now args.i (omega arith) in
     let spot = c.confirm-spot in
-    let e = rw c.page_at-page.ensures.bytes at spot.ensures in
+    let e = rw (c.page_at-page.ensures.bytes, c.children.ensures) at spot.ensures in
     rw c.page_at-page.ensures.bytes
     (entry-before b args.head.count args.key spot.result e (omega (arith, e, leads-spot b args.head args.key g)), omega (arith, l, leads-room b args.head args.key g))
 
@@ -54,7 +54,7 @@ returns c =
     let g = c.requires.1 in
     let b = page_at args.table.now args.i in
     let spot = c.confirm-spot in
-    let e = rw c.page_at-page.ensures.bytes at spot.ensures in
+    let e = rw (c.page_at-page.ensures.bytes, c.children.ensures) at spot.ensures in
     ap (pick args.key) (leads-places b args.head args.key g)
     ∙ pick_in b args.head.count (args.head.kind - 1) args.head.high args.key spot.result nowhere c.kid.result
     (leads-rise b args.head args.key g) g.high (omega (arith, e, leads-spot b args.head args.key g)) e (rw c.page_at-page.ensures.bytes at c.kid.ensures)

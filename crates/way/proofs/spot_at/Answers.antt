@@ -9,7 +9,7 @@ confirm-requires c =
     let args = c.args in
     let pre = c.requires in
     let l = length-page_at args.table.now args.i (omega arith) in
-    rw c.page_at-page.ensures.bytes (omega arith, omega (arith, l, pre.1), omega (arith, l), pre.2)
+    rw (c.page_at-page.ensures.bytes, c.certs.ensures) (omega (arith, l, pre.1), pre.2)
 
 pub returns : goal.returns
-returns c = rw c.page_at-page.ensures.bytes at c.confirm.ensures
+returns c = rw (c.page_at-page.ensures.bytes, c.certs.ensures) at c.confirm.ensures
