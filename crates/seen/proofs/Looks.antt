@@ -14,8 +14,8 @@ use Rattle.head.specs.declared.Head.{Head}
 use Rattle.head.specs.Head.{head_in}
 use Rattle.head.proofs.Headers.{view-leaf, view-inner, kind-view}
 use Rattle.seen.specs.declared.Run.{Run}
-use Rattle.seen.specs.Run.{entries_in, up_to, below, kind_at, count_at, first_of, left_of, run_of, Runs, Roomy, Lies, places}
-use Rattle.seen.proofs.Cuts.{up_to-length, below_length, below_none, below-some, cut_runs}
+use Rattle.seen.specs.Run.{entries_from, entries_in, up_to, below, kind_at, count_at, first_of, left_of, run_of, Runs, Roomy, Lies, places}
+use Rattle.seen.proofs.Cuts.{up_to-length, below_length, cut_runs}
 use Rattle.seen.proofs.Spans.{length-entries, take-entries, drop-entries, places-none}
 
 abbrev pub run_from : ℕ → ℕ → ℕ → ℕ → Run
@@ -47,14 +47,6 @@ module _ (t : List ℕ) (page low high : ℕ) where
       same : first ≡ first_of t page low → left ≡ left_of t page first high → want ≡ kind_at t page - 1
           → run_from page first left want ≡ run_from page (first_of t page low) (left_of t page (first_of t page low) high) (kind_at t page - 1)
       same p q r = cc
-
-  pub first-none : low ≡ 0 → 0 ≡ first_of t page low
-  unfolding first_of
-  first-none h = sym (below_none low (entries_in t page 0 (count_at t page)) h)
-
-  pub first_some : (low ≡ 0 → ⊥) → up_to (low - 1) (entries_in t page 0 (count_at t page)) ≡ first_of t page low
-  unfolding first_of
-  first_some h = sym (below-some low (entries_in t page 0 (count_at t page)) h)
 
   pub first-room : first_of t page low ≤ count_at t page
   unfolding first_of
@@ -89,14 +81,14 @@ module _ (t : List ℕ) (page : ℕ) (h : Head) (read-there : h ≡ head_in (pag
   pub head-want : h.kind - 1 ≡ kind_at t page - 1
   head-want = ap (λ (k : ℕ). k - 1) head-kind
 
-  pub first_found : (low x : ℕ) → (low ≡ 0 → ⊥) → x ≡ up_to (low - 1) (entries_in t page 0 (h.count - 0)) → x ≡ first_of t page low
-  first_found low x z e =
-      let k : h.count - 0 ≡ count_at t page = omega (arith, head-count) in
-      e ∙ ap (λ (i : ℕ). up_to (low - 1) (entries_in t page 0 i)) k ∙ first_some t page low 0 z
+  pub first_found : (low x : ℕ) → x ≡ below low (entries_from 0 h.count (page_at t page)) → x ≡ first_of t page low
+  unfolding first_of entries_in
+  first_found low x e = e ∙ ap (λ (i : ℕ). below low (entries_from 0 i (page_at t page))) head-count
 
-  pub left-found : (first high x : ℕ) → x ≡ up_to high (entries_in t page first (h.count - first)) → x ≡ left_of t page first high
-  unfolding left_of
-  left-found first high x e = e ∙ ap (λ (i : ℕ). up_to high (entries_in t page first (i - first))) head-count
+  pub left-found : (first high x : ℕ) → x ≡ up_to high (entries_from first (h.count - first) (page_at t page))
+      → x ≡ left_of t page first high
+  unfolding left_of entries_in
+  left-found first high x e = e ∙ ap (λ (i : ℕ). up_to high (entries_from first (i - first) (page_at t page))) head-count
 
   pub first-within : (low x : ℕ) → x ≡ first_of t page low → x ≤ h.count
   first-within low x e = omega (arith, e, head-count, first-room t page low 0)

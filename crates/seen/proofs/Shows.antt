@@ -1,5 +1,5 @@
 -- What a place shows, by the run that was found for it. Assumes nothing.
-use Rattle.std.proofs.Common.{◌≡◌, ℕ, ◌*◌, ◌<◌, ◌≤◌, Bool, true, false, ltb, List, [], ◌∷◌, length, sym, refl, ap, ◌∙◌, subst, arith, ltb-false, ltb-true, eq-eqb, ne_eqb}
+use Rattle.std.proofs.Common.{Some, None, ◌≡◌, ℕ, ◌*◌, ◌<◌, ◌≤◌, Bool, true, false, ltb, List, [], ◌∷◌, length, sym, refl, ap, ◌∙◌, subst, arith, ltb-false, ltb-true, eq-eqb, ne_eqb}
 use mathlib.Core.Option.{some, none}
 use Rattle.rules.specs.Layout.{page_size}
 use Rattle.rules.specs.Entry.{cut}
@@ -13,7 +13,6 @@ use Rattle.rules.proofs.Entries.Sounds.{sound-cut-all}
 use Rattle.rules.proofs.Entries.Places.{fits_true, mendable_true, show-fitting, show-lost, show-damaged}
 use Rattle.sound.proofs.Fitting.{unfit_beyond}
 use Rattle.seen.specs.declared.Run.{Run}
-use Rattle.seen.specs.declared.Shown.{Shown}
 use Rattle.seen.specs.Note.{named}
 use Rattle.seen.specs.Run.{run_of, shown_of, places, Runs, Counts, Lies}
 use Rattle.seen.proofs.Looks.{run-page, runs_sound, roomy-sound, lies-sound, places-sound}
@@ -22,17 +21,17 @@ beside : ℕ → Bool → List ℕ
 beside page b = elim b [ true ↦ [] | false ↦ page ∷ [] ]
 
 module _ (n : ℕ) (t : List ℕ) (e : Place) where
-  pub shown-fitting : fits n e (read t e.child) ≡ true → Shown.Entries (run_of t e.child e.low e.high) ≡ shown_of n t e
+  pub shown-fitting : fits n e (read t e.child) ≡ true → Some (run_of t e.child e.low e.high) ≡ shown_of n t e
   unfolding shown_of
   shown-fitting h = rw (shown_of, h)
 
   pub shown-lost : fits n e (read t e.child) ≡ false → mendable n e (read t e.previous) ≡ true
-      → Shown.Entries (run_of t e.previous e.low e.high) ≡ shown_of n t e
+      → Some (run_of t e.previous e.low e.high) ≡ shown_of n t e
   unfolding shown_of
   shown-lost h k = rw (shown_of, h, k)
 
   pub shown-damaged : fits n e (read t e.child) ≡ false → mendable n e (read t e.previous) ≡ false
-      → Shown.Damaged ≡ shown_of n t e
+      → None ≡ shown_of n t e
   unfolding shown_of
   shown-damaged h k = rw (shown_of, h, k)
 
@@ -124,13 +123,13 @@ module _ (n : ℕ) (t : List ℕ) (e : Place) where
           });
         }
 
-    same-run : (a b : Run) → Shown.Entries a ≡ Shown.Entries b → a ≡ b
+    same-run : (a b : Run) → Some a ≡ Some b → a ≡ b
     same-run a b h = cc
 
-    never : (r : Run) → Shown.Damaged ≡ Shown.Entries r → ⊥
+    never : (r : Run) → None ≡ Some r → ⊥
     never r h = let z : ◌≡◌ {A = ℕ} 0 1 = cc in omega arith
 
-    pub showing : (r : Run) → shown_of n t e ≡ Shown.Entries r → Showing r
+    pub showing : (r : Run) → shown_of n t e ≡ Some r → Showing r
     showing r h = go (fits n e (read t e.child)) refl (mendable n e (read t e.previous)) refl
       where
         go : (a : Bool) → fits n e (read t e.child) ≡ a → (b : Bool) → mendable n e (read t e.previous) ≡ b → Showing r
@@ -140,7 +139,7 @@ module _ (n : ℕ) (t : List ℕ) (e : Place) where
             subst Showing (same-run (run_of t e.previous e.low e.high) r (shown-lost p q ∙ h)) (showing_lost p q)
         go false p false q = absurd (never r (shown-damaged p q ∙ h))
 
-    pub shows-none : shown_of n t e ≡ Shown.Damaged → show n t e ≡ none
+    pub shows-none : shown_of n t e ≡ None → show n t e ≡ none
     shows-none h = go (fits n e (read t e.child)) refl (mendable n e (read t e.previous)) refl
       where
         go : (a : Bool) → fits n e (read t e.child) ≡ a → (b : Bool) → mendable n e (read t e.previous) ≡ b → show n t e ≡ none

@@ -9,33 +9,80 @@ use Rattle.rules.proofs.Bytes.Each.{length-read_each, take-read_each, drop-read_
 use Rattle.head.specs.Head.{child_at, nowhere}
 use Rattle.head.proofs.Kids.{kid_at}
 use Rattle.seen.specs.declared.Run.{Run}
-use Rattle.seen.specs.Run.{entries_in, up_to, end_of, place_in, places, rest_of}
+use Rattle.seen.specs.Run.{entries_from, entries_in, up_to, end_of, place_in, places, rest_of}
 use Rattle.seen.proofs.Cuts.{up_to_in, up_to-out, up_to-nil}
 
-module _ (t : List ℕ) (page : ℕ) where
-  pub entries_none : (first left : ℕ) → left ≡ 0 → entries_in t page first left ≡ []
-  unfolding entries_in read_each
-  entries_none first zero h = refl
-  entries_none first (suc k) h = absurd (omega arith)
+module _ (b : List ℕ) where
+  from_none : (first left : ℕ) → left ≡ 0 → entries_from first left b ≡ []
+  unfolding read_each
+  from_none first zero h = refl
+  from_none first (suc k) h = absurd (omega arith)
 
-  next : (first k : ℕ) → entries_in t page first (suc k) ≡ child_at (page_at t page) first ∷ entries_in t page (first + 1) k
-  unfolding entries_in read_each child_at
+  next : (first k : ℕ) → entries_from first (suc k) b ≡ child_at b first ∷ entries_from (first + 1) k b
+  unfolding read_each child_at
   next first k =
       let e : inner_header + child_size * first + child_size ≡ inner_header + child_size * (first + 1) = omega arith in
-      ap (λ (b : List ℕ). child_in (drop (inner_header + child_size * first) (page_at t page)) ∷ read_each child_in child_size k b)
-      (drop-drop child_size (inner_header + child_size * first) (page_at t page)
-      ∙ ap (λ (i : ℕ). drop i (page_at t page)) e)
+      ap (λ (x : List ℕ). child_in (drop (inner_header + child_size * first) b) ∷ read_each child_in child_size k x)
+      (drop-drop child_size (inner_header + child_size * first) b
+      ∙ ap (λ (i : ℕ). drop i b) e)
 
-  pub entries-more : (first left : ℕ) → 0 < left
-      → entries_in t page first left ≡ child_at (page_at t page) first ∷ entries_in t page (first + 1) (left - 1)
-  entries-more first zero h = absurd (omega arith)
-  entries-more first (suc k) h =
+  from-more : (first left : ℕ) → 0 < left
+      → entries_from first left b ≡ child_at b first ∷ entries_from (first + 1) (left - 1) b
+  from-more first zero h = absurd (omega arith)
+  from-more first (suc k) h =
       let e : k ≡ suc k - 1 = omega arith in
-      next first k ∙ ap (λ (j : ℕ). child_at (page_at t page) first ∷ entries_in t page (first + 1) j) e
+      next first k ∙ ap (λ (j : ℕ). child_at b first ∷ entries_from (first + 1) j b) e
+
+  pub length-from : (first left : ℕ) → length (entries_from first left b) ≡ left
+  length-from first left = length-read_each child_in child_size left (drop (inner_header + child_size * first) b)
+
+  -- ── A search ──────────────────────────────────────────────────────────────────────────────────────────────────
+
+  module _ (from count key : ℕ) where
+    -- entries from a number on up to j have passed
+    abbrev pub Passed : ℕ → Type 0
+    Passed j = up_to key (entries_from from (count - from) b) ≡ (j - from) + up_to key (entries_from j (count - j) b)
+
+    pub pass_start : Passed from
+    pass_start = omega arith
+
+    module _ (j : ℕ) (after : from ≤ j) where
+      at_last : j < count → entries_from j (count - j) b ≡ child_at b j ∷ entries_from (j + 1) (count - (j + 1)) b
+      at_last h =
+          let e : count - j - 1 ≡ count - (j + 1) = omega arith in
+          from-more j (count - j) (omega arith)
+          ∙ ap (λ (i : ℕ). child_at b j ∷ entries_from (j + 1) i b) e
+
+      pub pass_stop : j < count → key < (child_at b j).key → Passed j → j - from ≡ up_to key (entries_from from (count - from) b)
+      pass_stop h k p =
+          let z = ap (up_to key) (at_last h) ∙ up_to-out key (child_at b j) (entries_from (j + 1) (count - (j + 1)) b) k in
+          omega arith
+
+      pub pass_on : j < count → (child_at b j).key ≤ key → Passed j → Passed (j + 1)
+      pass_on h k p =
+          let z = ap (up_to key) (at_last h) ∙ up_to_in key (child_at b j) (entries_from (j + 1) (count - (j + 1)) b) k in
+          omega arith
+
+    pub pass_end : from ≤ count → Passed count → count - from ≡ up_to key (entries_from from (count - from) b)
+    pass_end l p =
+        let z = ap (up_to key) (from_none count (count - count) (omega arith)) ∙ up_to-nil key in
+        omega arith
+
+-- ── Entries of page i of a table ────────────────────────────────────────────────────────────────────────────────
+
+module _ (t : List ℕ) (page : ℕ) where
+  entries_none : (first left : ℕ) → left ≡ 0 → entries_in t page first left ≡ []
+  unfolding entries_in
+  entries_none first left h = from_none (page_at t page) first left h
+
+  entries-more : (first left : ℕ) → 0 < left
+      → entries_in t page first left ≡ child_at (page_at t page) first ∷ entries_in t page (first + 1) (left - 1)
+  unfolding entries_in
+  entries-more first left h = from-more (page_at t page) first left h
 
   pub length-entries : (first left : ℕ) → length (entries_in t page first left) ≡ left
   unfolding entries_in
-  length-entries first left = length-read_each child_in child_size left (drop (inner_header + child_size * first) (page_at t page))
+  length-entries first left = length-from (page_at t page) first left
 
   pub take-entries : (i first left : ℕ) → i ≤ left → take i (entries_in t page first left) ≡ entries_in t page first i
   unfolding entries_in
@@ -46,38 +93,6 @@ module _ (t : List ℕ) (page : ℕ) where
   drop-entries i left =
       drop-read_each child_in child_size i left (drop inner_header (page_at t page))
       ∙ ap (read_each child_in child_size (left - i)) (drop-drop (child_size * i) inner_header (page_at t page))
-
-  -- ── A search ──────────────────────────────────────────────────────────────────────────────────────────────────
-
-  module _ (from count key : ℕ) where
-    -- entries from a number on up to j have passed
-    abbrev pub Passed : ℕ → Type 0
-    Passed j = up_to key (entries_in t page from (count - from)) ≡ (j - from) + up_to key (entries_in t page j (count - j))
-
-    pub pass_start : Passed from
-    pass_start = omega arith
-
-    module _ (j : ℕ) (after : from ≤ j) where
-      at_last : j < count → entries_in t page j (count - j) ≡ child_at (page_at t page) j ∷ entries_in t page (j + 1) (count - (j + 1))
-      at_last h =
-          let e : count - j - 1 ≡ count - (j + 1) = omega arith in
-          entries-more j (count - j) (omega arith)
-          ∙ ap (λ (i : ℕ). child_at (page_at t page) j ∷ entries_in t page (j + 1) i) e
-
-      pub pass_stop : j < count → key < (child_at (page_at t page) j).key → Passed j → j - from ≡ up_to key (entries_in t page from (count - from))
-      pass_stop h k p =
-          let z = ap (up_to key) (at_last h) ∙ up_to-out key (child_at (page_at t page) j) (entries_in t page (j + 1) (count - (j + 1))) k in
-          omega arith
-
-      pub pass_on : j < count → (child_at (page_at t page) j).key ≤ key → Passed j → Passed (j + 1)
-      pass_on h k p =
-          let z = ap (up_to key) (at_last h) ∙ up_to_in key (child_at (page_at t page) j) (entries_in t page (j + 1) (count - (j + 1))) k in
-          omega arith
-
-      pub pass_end : count ≤ j → Passed j → j - from ≡ up_to key (entries_in t page from (count - from))
-      pass_end h p =
-          let z = ap (up_to key) (entries_none j (count - j) (omega arith)) ∙ up_to-nil key in
-          omega arith
 
 -- ── A run's first entry ─────────────────────────────────────────────────────────────────────────────────────────
 

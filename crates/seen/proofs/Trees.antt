@@ -1,5 +1,5 @@
 -- The steps of the two walks: what is noted of a page and of a run of entries. Assumes nothing.
-use Rattle.std.proofs.Common.{◌≡◌, ℕ, zero, suc, ◌-◌, ◌*◌, ◌<◌, List, length, sym, refl, ap, ◌∙◌, subst, arith}
+use Rattle.std.proofs.Common.{Some, None, ◌≡◌, ℕ, zero, suc, ◌-◌, ◌*◌, ◌<◌, List, length, sym, refl, ap, ◌∙◌, subst, arith}
 use mathlib.Core.Option.{some, none}
 use Rattle.rules.specs.Layout.{page_size}
 use Rattle.rules.specs.Entry.{Cert, cut}
@@ -10,7 +10,6 @@ use Rattle.rules.specs.Tree.{Tree, broken, join, here, tree_each, tree}
 use Rattle.rules.specs.declared.Place.{Place}
 use Rattle.seen.specs.declared.Seen.{Seen}
 use Rattle.seen.specs.declared.Run.{Run}
-use Rattle.seen.specs.declared.Shown.{Shown}
 use Rattle.seen.specs.Note.{note, named}
 use Rattle.seen.specs.Run.{shown_of, place_in, places, rest_of, Lies}
 use Rattle.seen.proofs.Noting.{note-join, note-empty, note-same}
@@ -63,7 +62,7 @@ module _ (n : ℕ) (t : List ℕ) (e : Place) where
   tree-some l v h = rw (tree, h)
 
   module _ (long : length t ≡ n * page_size) where
-    pub page-damaged : (level : ℕ) → (level ≡ 0 → ⊥) → shown_of n t e ≡ Shown.Damaged → broken ≡ tree level n t e
+    pub page-damaged : (level : ℕ) → (level ≡ 0 → ⊥) → shown_of n t e ≡ None → broken ≡ tree level n t e
     page-damaged zero z h = absurd (z refl)
     page-damaged (suc l) z h = tree-none l (shows-none n t e long h)
 
@@ -82,7 +81,7 @@ module _ (n : ℕ) (t : List ℕ) (e : Place) where
         (note-same s (here n t e w.view) (named e.child r.page (certs_of r)) refl refl w.spared w.holds)
         ∙ ap (λ (es : List Place). note (note s (named e.child r.page (certs_of r))) (tree_each (tree l n t) es)) w.asks)
 
-    pub page-shown : (level : ℕ) (r : Run) (s : Seen) → (level ≡ 0 → ⊥) → shown_of n t e ≡ Shown.Entries r
+    pub page-shown : (level : ℕ) (r : Run) (s : Seen) → (level ≡ 0 → ⊥) → shown_of n t e ≡ Some r
         → note (note s (named e.child r.page (certs_of r))) (tree_each (tree (level - 1) n t) (places t e.high r)) ≡ note s (tree level n t e)
     page-shown zero r s z h = absurd (z refl)
     page-shown (suc l) r s z h =
@@ -90,7 +89,7 @@ module _ (n : ℕ) (t : List ℕ) (e : Place) where
         ap (λ (i : ℕ). note (note s (named e.child r.page (certs_of r))) (tree_each (tree i n t) (places t e.high r))) p
         ∙ page-step l r s (showing n t e long r h)
 
-    pub page-walk : (level : ℕ) (r : Run) (s a b : Seen) → (level ≡ 0 → ⊥) → shown_of n t e ≡ Shown.Entries r
+    pub page-walk : (level : ℕ) (r : Run) (s a b : Seen) → (level ≡ 0 → ⊥) → shown_of n t e ≡ Some r
         → a ≡ note s (named e.child r.page (certs_of r)) → b ≡ note a (tree_each (tree (level - 1) n t) (places t e.high r))
         → b ≡ note s (tree level n t e)
     page-walk level r s a b z h x y =

@@ -1,6 +1,6 @@
 -- What a place shows, as a run of entries of one page of the table: the child's own page or, if the child is lost, its
 -- previous one, cut to the place's range.
-use Rattle.std.specs.Prelude.{◌≡◌, ℕ, zero, suc, ◌+◌, ◌-◌, ◌*◌, ◌<◌, ◌≤◌, true, false, List, [], ◌∷◌, length, drop, ◌==◌, ◌≢◌, nat_le}
+use Rattle.std.specs.Prelude.{◌≡◌, ℕ, zero, suc, ◌+◌, ◌-◌, ◌*◌, ◌<◌, ◌≤◌, true, false, List, [], ◌∷◌, length, drop, ◌==◌, ◌≢◌, nat_le, Option, Some, None}
 use Rattle.fields.specs.Field.{le_at}
 use Rattle.rules.specs.Layout.{page_size, inner_header, child_size, leaf_room, inner_room, leaf_kind}
 use Rattle.rules.specs.Entry.{Child, cut}
@@ -10,11 +10,13 @@ use Rattle.rules.specs.Place.{place_of, places_in, high_before, fits, mendable}
 use Rattle.rules.specs.declared.Place.{Place}
 use Rattle.head.specs.Head.{child_at}
 use Rattle.seen.specs.declared.Run.{Run}
-use Rattle.seen.specs.declared.Shown.{Shown}
 
 -- so many entries of a page, from an index on
+abbrev pub entries_from : ℕ → ℕ → List ℕ → List Child
+entries_from first left b = read_each child_in child_size left (drop (inner_header + child_size * first) b)
+
 unfoldable pub entries_in : List ℕ → ℕ → ℕ → ℕ → List Child
-entries_in t page first left = read_each child_in child_size left (drop (inner_header + child_size * first) (page_at t page))
+entries_in t page first left = entries_from first left (page_at t page)
 
 -- how many entries stand at the front with keys up to k, and with keys below low
 unfoldable pub up_to : ℕ → List Child → ℕ
@@ -65,12 +67,12 @@ pub record Counts (t : List ℕ) (e : Place) (page : ℕ) : Type 0 where
   pub roomy : Roomy t page
   pub own : page ≡ e.child → cut e.low e.high (read t page).view.certs ≡ (read t page).view.certs
 
-unfoldable pub shown_of : ℕ → List ℕ → Place → Shown
+unfoldable pub shown_of : ℕ → List ℕ → Place → Option Run
 shown_of n t e =
     elim (fits n e (read t e.child)) [
-      | true ↦ Shown.Entries (run_of t e.child e.low e.high)
+      | true ↦ Some (run_of t e.child e.low e.high)
       | false ↦ elim (mendable n e (read t e.previous))
-          [ true ↦ Shown.Entries (run_of t e.previous e.low e.high) | false ↦ Shown.Damaged ]
+          [ true ↦ Some (run_of t e.previous e.low e.high) | false ↦ None ]
     ]
 
 -- ── Walking a run ───────────────────────────────────────────────────────────────────────────────────────────────

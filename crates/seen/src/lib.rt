@@ -11,20 +11,21 @@
 #![tactic(auto)]
 
 ghost use Rattle.std.specs.Prelude.{◌≡◌, ℕ, ◌+◌, ◌-◌, ◌*◌, ◌<◌, ◌≤◌, true, false, List, length, slice_index_or, slice_set};
-ghost use Rattle.rules.specs.Layout.{page_size, inner_room};
+ghost use Rattle.rules.specs.Layout.{page_size, inner_header, child_size, inner_room};
 ghost use Rattle.rules.specs.Entry.{Cert, cut};
 ghost use Rattle.rules.specs.Table.{read};
 ghost use Rattle.rules.specs.Tree.{tree, tree_of, tree_each};
 ghost use Rattle.seen.specs.Note.{count_on, count_if, tally, seen_of, note, nothing, named, good_marks};
-ghost use Rattle.seen.specs.Run.{entries_in, up_to, run_of, shown_of, place_in, places, rest_of, Runs, Roomy, Counts, Lies};
+ghost use Rattle.seen.specs.Run.{entries_from, up_to, below, run_of, shown_of, place_in, places, rest_of, Runs, Roomy, Counts, Lies};
 
-use head::{Table, cert_key_at, child_key_at, head_at, kid_at, root_place};
+use head::{Table, cert_key, child_key, kid, page_at, read_head, root_place};
 use rules::{LEAF, LEVELS, MOST, Place};
 use sound::{fits_at, mendable_at};
 use std::num::wrapping_add_u32;
 
 // What a walk has noted so far: whether every place was whole and no child named twice, how many certificates there were,
-// the numbers named as child, and the previous pages of lost entries.
+// the numbers named as child, and the previous pages of lost entries. The rules go on noting behind damage, so the rest
+// has its value whether all is whole or not, and `whole` stands beside it.
 #[derive(Clone, Copy)]
 pub struct Seen {
     pub whole: bool,
@@ -49,26 +50,28 @@ pub struct Run {
     pub want: u16,
 }
 
-// What a place shows: entries of its child or, if that is lost, of its previous page.
-#[derive(Clone, Copy)]
-pub enum Shown {
-    Entries(Run),
-    Damaged,
-}
-
 // How many entries, from an index on, have keys up to a given one.
-fn up_to(table: &[u8], page: usize, from: usize, count: usize, key: u64) -> usize
-    requires { ((page + 1) * page_size ≤ length table.now) × ((from ≤ count) × (count ≤ inner_room)) }
-    ensures { result ≡ up_to key (entries_in table.now page from (count - from)) }
+fn up_to(page: &[u8], from: usize, count: usize, key: u64) -> usize
+    requires { (from ≤ count) × (inner_header + child_size * count ≤ length page.now) }
+    ensures { result ≡ up_to key (entries_from from (count - from) page.now) }
 {
-    let mut j = from;
-    while j < count {
-        if child_key_at(table, page, j) > key {
+    for j in from..count {
+        if child_key(page, j) > key {
             return j - from;
         }
-        j += 1;
     }
-    j - from
+    count - from
+}
+
+// How many have keys below a given one.
+fn below(page: &[u8], count: usize, low: u64) -> usize
+    requires { inner_header + child_size * count ≤ length page.now }
+    ensures { result ≡ below low (entries_from 0 count page.now) }
+{
+    if low == 0 {
+        return 0;
+    }
+    up_to(page, 0, count, low - 1)
 }
 
 // The entries of a page with keys in a range; none of a leaf.
@@ -76,63 +79,50 @@ pub fn run_in(table: &[u8], page: usize, low: u64, high: u64) -> Run
     requires { Runs table.now page }
     ensures { result ≡ run_of table.now page low high }
 {
-    let head = head_at(table, page);
+    let bytes = page_at(table, page);
+    let head = read_head(bytes);
     if head.kind == LEAF {
         return Run {
             page,
-            first: 0,
-            left: 0,
-            want: 0,
+            ..Run::default()
         };
     }
     let count = head.count as usize;
-    let want = head.kind - 1;
-    if low == 0 {
-        return Run {
-            page,
-            first: 0,
-            left: up_to(table, page, 0, count, high),
-            want,
-        };
-    }
-    let first = up_to(table, page, 0, count, low - 1);
+    let first = below(bytes, count, low);
     Run {
         page,
         first,
-        left: up_to(table, page, first, count, high),
-        want,
+        left: up_to(bytes, first, count, high),
+        want: head.kind - 1,
     }
 }
 
-fn shown_at(table: Table<'_>, e: Place) -> Shown
+// What a place shows: entries of its child or, if that is lost, of its previous page. A damaged place shows nothing.
+fn shown_at(table: Table<'_>, e: Place) -> Option<Run>
     ensures { result ≡ shown_of table.entry.pages table.entry.bytes.now e }
 {
     if fits_at(table, e) {
-        return Shown::Entries(run_in(table.bytes, e.child as usize, e.low, e.high));
+        return Some(run_in(table.bytes, e.child as usize, e.low, e.high));
     }
     if mendable_at(table, e) {
-        return Shown::Entries(run_in(table.bytes, e.previous as usize, e.low, e.high));
+        return Some(run_in(table.bytes, e.previous as usize, e.low, e.high));
     }
-    Shown::Damaged
+    None
 }
 
 // Whether a number is marked. One beyond the marks never is, and marking it changes nothing.
 pub fn marked(marks: &[bool], i: usize) -> bool
     ensures { result ≡ slice_index_or marks.now i false }
 {
-    if i >= marks.len() {
-        return false;
-    }
-    marks[i]
+    marks.get(i).copied().unwrap_or(false)
 }
 
 pub fn mark(marks: &mut [bool], i: usize)
     ensures { marks.new ≡ slice_set marks.old i true }
 {
-    if i >= marks.len() {
-        return;
+    if i < marks.len() {
+        marks[i] = true;
     }
-    marks[i] = true;
 }
 
 // A place is noted: its child, and the page that shows it if the child is lost. The answer is whether all is whole
@@ -175,7 +165,7 @@ fn count_all(table: &[u8], page: usize, total: u32) -> u32
     requires { (page + 1) * page_size ≤ length table.now }
     ensures { result ≡ count_on total (read table.now page).view.certs }
 {
-    let head = head_at(table, page);
+    let head = read_head(page_at(table, page));
     if head.kind != LEAF {
         return total;
     }
@@ -187,16 +177,14 @@ fn count_in(table: &[u8], page: usize, low: u64, high: u64, total: u32) -> u32
     requires { Roomy table.now page }
     ensures { result ≡ count_on total (cut low high (read table.now page).view.certs) }
 {
-    let head = head_at(table, page);
+    let bytes = page_at(table, page);
+    let head = read_head(bytes);
     if head.kind != LEAF {
         return total;
     }
-    let count = head.count as usize;
     let mut sum = total;
-    let mut j = 0;
-    while j < count {
-        sum = count_key(low, high, cert_key_at(table, page, j), sum);
-        j += 1;
+    for j in 0..head.count as usize {
+        sum = count_key(low, high, cert_key(bytes, j), sum);
     }
     sum
 }
@@ -217,7 +205,8 @@ pub fn place_in(table: &[u8], r: Run, high: u64) -> Place
     requires { ((r.page + 1) * page_size ≤ length table.now) × ((r.first + r.left ≤ inner_room) × (0 < r.left)) }
     ensures { result ≡ place_in table.now high r }
 {
-    kid_at(table, r.page, r.first + r.left, r.first, r.want, high)
+    let bytes = page_at(table, r.page);
+    kid(bytes, r.first + r.left, r.first, r.want, high)
 }
 
 pub fn rest_of(r: Run) -> Run
@@ -257,7 +246,7 @@ fn walk_page(
     if level == 0 {
         return damaged(sum);
     }
-    let Shown::Entries(r) = shown_at(table, e) else {
+    let Some(r) = shown_at(table, e) else {
         return damaged(sum);
     };
     let whole = name_place(sum.whole, e.child as usize, r.page, children, spared);
@@ -320,12 +309,10 @@ pub fn walk(table: Table<'_>) -> Seen
 pub fn good(s: Seen) -> bool
     ensures { result ≡ good_marks s }
 {
-    let mut i = 0;
-    while i < MOST {
-        if s.children[i] & s.spared[i] {
+    for (child, spared) in s.children.iter().zip(&s.spared) {
+        if *child && *spared {
             return false;
         }
-        i += 1;
     }
     s.whole
 }

@@ -53,22 +53,22 @@ walk_page-returns-in_default t c =
 
 pub walk_page-count_at-total-requires : goal.walk_page-count_at-total-requires
 walk_page-count_at-total-requires t c =
-    (showing c.args.table.pages c.args.table.bytes.now c.args.e c.args.table.whole c.in-Entries.r (sym c.shown_at.ensures ∙ c.in-Entries.is)).counts
+    (showing c.args.table.pages c.args.table.bytes.now c.args.e c.args.table.whole c.in-Some.r (sym c.shown_at.ensures ∙ c.in-Some.is)).counts
 
 pub walk_page-walk_entries-requires : goal.walk_page-walk_entries-requires
 walk_page-walk_entries-requires t c =
     let args = c.args in
-    let w = showing args.table.pages args.table.bytes.now args.e args.table.whole c.in-Entries.r
-    (sym c.shown_at.ensures ∙ c.in-Entries.is) in
+    let w = showing args.table.pages args.table.bytes.now args.e args.table.whole c.in-Some.r
+    (sym c.shown_at.ensures ∙ c.in-Some.is) in
     (omega (arith, c.decreases, w.lies.end, c.if-level-eq0.false), w.lies)
 
 pub walk_page-returns : goal.walk_page-returns
 walk_page-returns t c =
     let args = c.args in
     let name_place = c.name_place-whole in
-    let certs = certs_of args.table.pages args.table.bytes.now args.e args.table.whole c.in-Entries.r in
-    page-walk args.table.pages args.table.bytes.now args.e args.table.whole args.level c.in-Entries.r
+    let certs = certs_of args.table.pages args.table.bytes.now args.e args.table.whole c.in-Some.r in
+    page-walk args.table.pages args.table.bytes.now args.e args.table.whole args.level c.in-Some.r
     (seen_of args.sum args.children.now args.spared.now)
     (seen_of (tally name_place.result c.count_at-total.result) name_place.new.children name_place.new.spared)
     (seen_of c.walk_entries.result c.walk_entries.new.children c.walk_entries.new.spared)
-    c.if-level-eq0.false (sym c.shown_at.ensures ∙ c.in-Entries.is) (ap (λ (i : ℕ). seen_of (tally name_place.result i) name_place.new.children name_place.new.spared) c.count_at-total.ensures ∙ name_place.ensures args.sum.total certs) c.walk_entries.ensures
+    c.if-level-eq0.false (sym c.shown_at.ensures ∙ c.in-Some.is) (ap (λ (i : ℕ). seen_of (tally name_place.result i) name_place.new.children name_place.new.spared) c.count_at-total.ensures ∙ name_place.ensures args.sum.total certs) c.walk_entries.ensures

@@ -1,30 +1,29 @@
--- `seen::good`: the loop's invariant says that no number below i has both marks.
+-- `seen::good`: the loop's invariant says that no number so far has both marks.
 -- Assumes nothing.
-use Rattle.std.proofs.Common.{refl, rules}
-use Rattle.seen.proofs.Goods.{both-marked, one_at_most, all_compared}
+use Rattle.std.proofs.Common.{◌≡◌, false, ◌&&◌}
+use mathlib.Core.Bool.{and-false}
+use mathlib.Core.Logic.{inl, inr}
+use Rattle.seen.proofs.Goods.{both-marked, one_at_most, no_child, no_spared}
+use Rattle.seen.proofs.good.Goals.{else-child-via-then-child+else-spared, else-child-via-else-child}
 use Rattle.seen.proofs.good.Goals as goal
 
-pub loop-i-init : goal.loop-i-init
-loop-i-init c = (search rules, refl)
+pub returns-then-spared : goal.returns-then-spared
+returns-then-spared c =
+    let now = c.in-Some.ensures.steps in
+    both-marked c.args.s c.loop-child.child-iterator.a.rest.now c.loop-child.child-iterator.b.rest.now c.loop-child.invariant c.in-Some.child.now c.in-Some.spared.now _ _ now.0 now.1
+    c.if-child.true c.if-spared.true
 
-pub returns-then-s-i : goal.returns-then-s-i
-returns-then-s-i c =
-    let args = c.args in
-    let loop = c.loop-i in
-    both-marked args.s 128 (search rules) (search rules) loop.i c.loop-i-test.true
-    c.if-s-i.true loop.invariant.1
-
-pub loop-i-preserved : goal.loop-i-preserved
-loop-i-preserved c =
-    let args = c.args in
-    let loop = c.loop-i in (
-      search rules,
-      one_at_most args.s 128 (search rules) (search rules) loop.i c.loop-i-test.true
-          c.if-s-i.false loop.invariant.1,
-    )
+pub loop-child-preserved : goal.loop-child-preserved
+loop-child-preserved c =
+    let now = c.in-Some.ensures.steps in
+    let one : (c.in-Some.child.now && c.in-Some.spared.now) ≡ false = elim c.else-child.branch [
+      | else-child-via-then-child+else-spared w ↦ rw (w.if-spared.false, and-false)
+      | else-child-via-else-child w ↦ rw w.if-child.false
+    ] in
+    one_at_most c.args.s c.loop-child.child-iterator.a.rest.now c.loop-child.child-iterator.b.rest.now c.loop-child.invariant c.in-Some.child.now c.in-Some.spared.now _ _ now.0 now.1 one
 
 pub returns : goal.returns
-returns c =
-    let loop = c.loop-i in
-    all_compared c.args.s 128 (search rules) (search rules) loop.i c.loop-i-test.false
-    loop.invariant.1
+returns c = elim c.in-None.ensures.steps [
+  | inl h ↦ no_child c.args.s c.loop-child.child-iterator.a.rest.now c.loop-child.child-iterator.b.rest.now c.loop-child.invariant h.1.0
+  | inr h ↦ no_spared c.args.s c.loop-child.child-iterator.a.rest.now c.loop-child.child-iterator.b.rest.now c.loop-child.invariant h.1.0
+]

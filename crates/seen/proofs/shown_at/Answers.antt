@@ -1,8 +1,7 @@
 -- `seen::shown_at`: each return is one of the three things that a place can show.
 -- Assumes nothing.
 use Rattle.std.proofs.Common.{sym, ap, ◌∙◌}
-use Rattle.seen.specs.declared.Run.{Run}
-use Rattle.seen.specs.declared.Shown.{Shown}
+use Rattle.std.specs.Prelude.{Some}
 use Rattle.seen.proofs.Shows.{shown-fitting, shown-lost, shown-damaged, runs_fitting, runs_lost}
 use Rattle.seen.proofs.shown_at.Goals as goal
 
@@ -15,7 +14,7 @@ run_in-requires c =
 pub returns-then-fits_at : goal.returns-then-fits_at
 returns-then-fits_at c =
     let args = c.args in
-    ap (λ (r : Run). Shown.Entries r) c.run_in.ensures ∙ shown-fitting args.table.pages args.table.bytes.now args.e
+    ap Some c.run_in.ensures ∙ shown-fitting args.table.pages args.table.bytes.now args.e
     (sym c.fits_at.ensures ∙ c.if-fits_at.true)
 
 pub run_in-requires-then-mendable_at : goal.run_in-requires-then-mendable_at
@@ -29,7 +28,7 @@ returns-then-mendable_at c =
     let args = c.args in
     let fits-at = c.fits_at in
     let if1 = c.if-fits_at in
-    ap (λ (r : Run). Shown.Entries r) c.run_in-then-mendable_at.ensures ∙ shown-lost args.table.pages args.table.bytes.now args.e
+    ap Some c.run_in-then-mendable_at.ensures ∙ shown-lost args.table.pages args.table.bytes.now args.e
     (sym fits-at.ensures ∙ if1.false)
     (sym c.mendable_at.ensures ∙ c.if-mendable_at.true)
 
