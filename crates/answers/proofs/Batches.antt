@@ -4,9 +4,9 @@ use mathlib.Core.Path.{◌≡◌, refl}
 use mathlib.Core.Logic.{inl, inr}
 use mathlib.Core.Bool.{Bool, true, false}
 use mathlib.Core.List.{List}
-use Rattle.rules.specs.Call.{lengths_for}
+use Rattle.rules.specs.Call.{batched_no, lengths_for, length_error_no}
 use Rattle.rules.specs.Reports.{insert_reported}
-use Rattle.rules.specs.Batch.{Between, insert_item, item_no, batched_no, batch}
+use Rattle.rules.specs.Batch.{Between, insert_item, item_no, batch}
 use Rattle.rules.specs.declared.Session.{Session}
 use Rattle.rules.specs.declared.Item.{Item}
 use Rattle.answers.specs.Given.{Given}
@@ -17,7 +17,7 @@ use Rattle.answers.proofs.Inserts.{insert-given}
 
 pub batch-given : (w t : List ℕ) (s : Session) (xs : List Item)
     → Given (batch_causes w t s) (batched_no (batch w t s xs).left.answer)
-unfolding batch batched_no
+unfolding batch length_error_no
 batch-given w t s xs = go (lengths_for s w t) refl
   where
     go : (a : Bool) → lengths_for s w t ≡ a → Given (batch_causes w t s) (batched_no (batch w t s xs).left.answer)
@@ -32,7 +32,7 @@ item-given t m x = insert-given m.working t m.session x.model x.serial x.issue x
 
 pub batch-unchanged : (w t : List ℕ) (s : Session) (xs : List Item) → Refused (batched_no (batch w t s xs).left.answer)
     → BatchUnchanged w t s xs (batch w t s xs).left
-unfolding batch batched_no
+unfolding batch length_error_no
 batch-unchanged w t s xs h = go (lengths_for s w t) refl
   where
     go : (a : Bool) → lengths_for s w t ≡ a → BatchUnchanged w t s xs (batch w t s xs).left

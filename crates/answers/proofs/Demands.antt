@@ -1,25 +1,23 @@
 -- Demand 1. Assumes nothing.
+use Rattle.std.specs.Prelude.{Ok, Err, true}
 use mathlib.Core.Path.{◌≡◌, refl, ap}
 use mathlib.Core.Bool.{false}
-use Rattle.rules.specs.Call.{formatted_no, opened_no, inserted_no, withdrawn_no, looked_no, looked_record, newest_no, newest_issue, newest_record, any_no, any_yes, listed_no, listed_count, synced_no}
+use Rattle.rules.specs.Call.{batched_no, formatted_no, opened_no, inserted_no, withdrawn_no, looked_no, looked_record, newest_no, newest_issue, newest_record, any_no, any_yes, listed_no, listed_count, synced_no, any_error_no, find_error_no, length_error_no, list_error_no, open_error_no, sync_error_no}
 use Rattle.rules.specs.Format.{format}
 use Rattle.rules.specs.Open.{opening}
 use Rattle.rules.specs.Insert.{insert}
 use Rattle.rules.specs.Withdraw.{withdraw}
 use Rattle.exchange.specs.ReadFile.{read_no, read_file}
-use Rattle.rules.specs.Batch.{item_no, batched_no, batch}
+use Rattle.rules.specs.Batch.{item_no, batch}
 use Rattle.rules.specs.Lookup.{lookup}
 use Rattle.rules.specs.Newest.{newest}
 use Rattle.rules.specs.HasAny.{has_any}
 use Rattle.rules.specs.List.{list}
 use Rattle.rules.specs.Sync.{sync}
-use Rattle.rules.specs.declared.Formatted.{Formatted}
-use Rattle.rules.specs.declared.Opened.{Opened}
-use Rattle.rules.specs.declared.Looked.{Looked}
-use Rattle.rules.specs.declared.Newest.{Newest}
-use Rattle.rules.specs.declared.Any.{Any}
-use Rattle.rules.specs.declared.Listed.{Listed}
-use Rattle.rules.specs.declared.Synced.{Synced}
+use Rattle.rules.specs.Answer.{Formatted, Opened, Looked, Newest, Any, Listed, Synced, newest_is}
+use Rattle.rules.specs.declared.FindError.{FindError}
+use Rattle.rules.specs.declared.AnyError.{AnyError}
+use Rattle.rules.specs.declared.ListError.{ListError}
 use Rattle.rules.proofs.Demand1.Refusals as rules
 use Rattle.rules.proofs.Demand1.Withdrawals.{withdraw_stable}
 use Rattle.rules.proofs.Demand1.Batches.{batch_stable}
@@ -39,62 +37,49 @@ use Rattle.answers.proofs.Lefts.{newest-mended, newest_stands, any-mended, any_s
 -- ── The numbers beside a refusal ────────────────────────────────────────────────────────────────────────────────
 
 looked-zero : (a : Looked) → Refused (looked_no a) → looked_record a ≡ 0
-unfolding looked_no looked_record
-looked-zero (Looked.Found x) h = absurd (h refl)
-looked-zero Looked.Length h = refl
-looked-zero Looked.BadKey h = refl
-looked-zero Looked.Damaged h = refl
-looked-zero Looked.Missing h = refl
+unfolding find_error_no looked_record
+looked-zero (Ok x) h = absurd (h refl)
+looked-zero (Err e) h = refl
 
 issue-zero : (a : Newest) → Refused (newest_no a) → newest_issue a ≡ 0
-unfolding newest_no newest_issue
-issue-zero (Newest.Found i x) h = absurd (h refl)
-issue-zero Newest.Length h = refl
-issue-zero Newest.BadKey h = refl
-issue-zero Newest.Damaged h = refl
-issue-zero Newest.Missing h = refl
+unfolding find_error_no newest_issue
+issue-zero (Ok x) h = absurd (h refl)
+issue-zero (Err e) h = refl
 
 record_of-newest-zero : (a : Newest) → Refused (newest_no a) → newest_record a ≡ 0
-unfolding newest_no newest_record
-record_of-newest-zero (Newest.Found i x) h = absurd (h refl)
-record_of-newest-zero Newest.Length h = refl
-record_of-newest-zero Newest.BadKey h = refl
-record_of-newest-zero Newest.Damaged h = refl
-record_of-newest-zero Newest.Missing h = refl
+unfolding find_error_no newest_record
+record_of-newest-zero (Ok x) h = absurd (h refl)
+record_of-newest-zero (Err e) h = refl
 
 no_yes : (a : Any) → Refused (any_no a) → any_yes a ≡ 0
-unfolding any_no any_yes
-no_yes Any.Yes h = absurd (h refl)
-no_yes Any.No h = absurd (h refl)
-no_yes Any.Length h = refl
-no_yes Any.BadKey h = refl
-no_yes Any.Damaged h = refl
+unfolding any_error_no any_yes
+no_yes (Ok true) h = absurd (h refl)
+no_yes (Ok false) h = absurd (h refl)
+no_yes (Err e) h = refl
 
 listed-zero : (a : Listed) → Refused (listed_no a) → listed_count a ≡ 0
-unfolding listed_no listed_count
-listed-zero (Listed.Filled k) h = absurd (h refl)
-listed-zero Listed.Length h = refl
-listed-zero Listed.Damaged h = refl
+unfolding list_error_no listed_count
+listed-zero (Ok k) h = absurd (h refl)
+listed-zero (Err e) h = refl
 
 -- a refused listing has filled nothing
 not_filled : (a : Listed) → Refused (listed_no a) → rules.is_filled a ≡ false
-unfolding listed_no rules.is_filled
-not_filled (Listed.Filled k) h = absurd (h refl)
-not_filled Listed.Length h = refl
-not_filled Listed.Damaged h = refl
+unfolding list_error_no rules.is_filled
+not_filled (Ok k) h = absurd (h refl)
+not_filled (Err e) h = refl
 
 -- ── A refusal is no done ────────────────────────────────────────────────────────────────────────────────────────
 
-not_formatted : (a : Formatted) → Refused (formatted_no a) → a ≡ Formatted.Done → ⊥
-unfolding formatted_no
+not_formatted : (a : Formatted) → Refused (formatted_no a) → a ≡ Ok tt → ⊥
+unfolding length_error_no
 not_formatted a h e = h (ap formatted_no e)
 
-not_opened : (a : Opened) → Refused (opened_no a) → a ≡ Opened.Done → ⊥
-unfolding opened_no
+not_opened : (a : Opened) → Refused (opened_no a) → a ≡ Ok tt → ⊥
+unfolding open_error_no
 not_opened a h e = h (ap opened_no e)
 
-not_synced : (a : Synced) → Refused (synced_no a) → a ≡ Synced.Done → ⊥
-unfolding synced_no
+not_synced : (a : Synced) → Refused (synced_no a) → a ≡ Ok tt → ⊥
+unfolding sync_error_no
 not_synced a h e = h (ap synced_no e)
 
 -- ── The demand ──────────────────────────────────────────────────────────────────────────────────────────────────

@@ -10,7 +10,7 @@ use Rattle.rules.specs.Entry.{find}
 use Rattle.rules.specs.Table.{fit0}
 use Rattle.rules.specs.Walk.{Step, numbers, certs_at, way_of}
 use Rattle.rules.specs.Marks.{free_pages}
-use Rattle.rules.specs.Call.{inserted_no, lengths_for}
+use Rattle.rules.specs.Call.{inserted_no, lengths_for, insert_error_no}
 use Rattle.rules.specs.Insert.{insert, insert_key, insert_along, insert_done, insert_refused, splitting, too_soon, no_room}
 use Rattle.rules.specs.declared.Session.{Session}
 use Rattle.rules.proofs.Entries.Tests.{not_both}
@@ -30,7 +30,7 @@ module _ (k x : ℕ) (s : Session) (w u t : List ℕ) (steps : List Step) (h : (
   GivenLater = Given (later_causes s k w) (inserted_no (insert_along k x s steps u t).answer)
 
   along_given : GivenLater
-  unfolding insert_along insert_refused insert_done inserted_no
+  unfolding insert_along insert_refused insert_done insert_error_no
   along_given =
       go (find k (certs_at steps)) refl (too_soon s.c (splitting steps)) refl
       (no_room steps (free_pages s (numbers steps))) refl
@@ -60,7 +60,7 @@ module _ (w t : List ℕ) (s : Session) (model serial issue x : ℕ) where
   GivenInsert = Given (insert_causes w t s model serial issue) (inserted_no (insert w t s model serial issue x).answer)
 
   pub insert-given : GivenInsert
-  unfolding insert insert_key insert_refused inserted_no
+  unfolding insert insert_key insert_refused insert_error_no
   insert-given =
       go (lengths_for s w t) refl (good_parts model serial issue) refl (fit0 s.n w) refl
       (way_of s.n s.c k w).steps refl

@@ -8,7 +8,7 @@ use lib.Dec.{ltb}
 use Rattle.rules.specs.Entry.{Cert}
 use Rattle.rules.specs.Table.{fit0}
 use Rattle.rules.specs.Walk.{walk_of}
-use Rattle.rules.specs.Call.{lengths_for, newest_no, any_no, listed_no}
+use Rattle.rules.specs.Call.{lengths_for, newest_no, any_no, listed_no, any_error_no, find_error_no, list_error_no}
 use Rattle.rules.specs.Newest.{newest, newest_meter, newest_left, newest_in, meter}
 use Rattle.rules.specs.HasAny.{has_any, any_meter, any_left, any_in, first_of}
 use Rattle.rules.specs.List.{list, list_from, list_done, list_refused, up_from}
@@ -24,7 +24,7 @@ use Rattle.answers.proofs.RangeMeets.{cut-stops}
 
 -- what was found is no damage
 not_damaged : (xs : List Cert) → newest_no (newest_in xs) ≡ 3 → ⊥
-unfolding newest_no newest_in
+unfolding find_error_no newest_in
 not_damaged [] h = omega (arith, h)
 not_damaged (x ∷ []) h = omega (arith, h)
 not_damaged (x ∷ (y ∷ ys)) h = not_damaged (y ∷ ys) h
@@ -58,7 +58,7 @@ module _ (w t : List ℕ) (s : Session) (model serial : ℕ) where
 
   pub newest_stands : fit0 s.n w ≡ true → newest_no (newest w t s model serial).answer ≡ 3
       → StopsIn s.n s.c (meter model serial) w (newest w t s model serial).working
-  unfolding newest newest_meter newest_left newest_no
+  unfolding newest newest_meter newest_left find_error_no
   newest_stands f h =
       go (lengths_for s w t) refl (ltb 0 model && ltb 0 serial) refl (walk_of s.n s.c (meter model serial) w).whole refl
     where
@@ -75,7 +75,7 @@ module _ (w t : List ℕ) (s : Session) (model serial : ℕ) where
 
 -- yes or no is no damage
 any_not_damaged : (xs : List Cert) → any_no (any_in xs) ≡ 3 → ⊥
-unfolding any_no any_in
+unfolding any_error_no any_in
 any_not_damaged [] h = omega (arith, h)
 any_not_damaged (x ∷ xs) h = omega (arith, h)
 
@@ -108,7 +108,7 @@ module _ (w t : List ℕ) (s : Session) (model serial : ℕ) where
 
   pub any_stands : fit0 s.n w ≡ true → any_no (has_any w t s model serial).answer ≡ 3
       → StopsIn s.n s.c (first_of model serial) w (has_any w t s model serial).working
-  unfolding has_any any_meter any_left any_no
+  unfolding has_any any_meter any_left any_error_no
   any_stands f h =
       go (lengths_for s w t) refl (ltb 0 model && ltb 0 serial) refl (walk_of s.n s.c (first_of model serial) w).whole refl
     where
@@ -151,7 +151,7 @@ module _ (w t : List ℕ) (s : Session) (start : ℕ) (ks xs : List ℕ) where
 
   pub list_stands : fit0 s.n w ≡ true → listed_no (list w t s start ks xs).answer ≡ 3
       → StopsIn s.n s.c (up_from start ks xs) w (list w t s start ks xs).working
-  unfolding list list_from list_done list_refused listed_no
+  unfolding list list_from list_done list_refused list_error_no
   list_stands f h = go (lengths_for s w t) refl (walk_of s.n s.c (up_from start ks xs) w).whole refl
     where
       go : (a : Bool) → lengths_for s w t ≡ a → (b : Bool) → (walk_of s.n s.c (up_from start ks xs) w).whole ≡ b

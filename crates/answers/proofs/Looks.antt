@@ -1,4 +1,5 @@
 -- Lookup: each number exactly when document 01's table says, and the record found. Assumes nothing.
+use Rattle.std.specs.Prelude.{Ok}
 use Prim.Native.Nat.{ℕ}
 use native.Mathlib.Omega.{arith}
 use mathlib.Core.Path.{◌≡◌, refl, sym, ◌∙◌}
@@ -10,10 +11,9 @@ use Rattle.rules.specs.Key.{key_of, good_parts}
 use Rattle.rules.specs.Entry.{find}
 use Rattle.rules.specs.Table.{fit0}
 use Rattle.rules.specs.Walk.{Step, certs_at, way_of}
-use Rattle.rules.specs.Call.{looked_no, lengths_for}
+use Rattle.rules.specs.Call.{looked_no, lengths_for, find_error_no}
 use Rattle.rules.specs.Lookup.{lookup, lookup_key, lookup_left, found_in}
 use Rattle.rules.specs.declared.Session.{Session}
-use Rattle.rules.specs.declared.Looked.{Looked}
 use Rattle.answers.specs.Given.{Given}
 use Rattle.answers.specs.Causes.{lookup_causes, under}
 use Rattle.answers.proofs.Meets.{none_damage}
@@ -27,7 +27,7 @@ module _ (w t : List ℕ) (s : Session) (model serial issue : ℕ) where
   GivenLookup = Given (lookup_causes w t s model serial issue) (looked_no (lookup w t s model serial issue).answer)
 
   pub lookup-given : GivenLookup
-  unfolding lookup lookup_key lookup_left found_in looked_no
+  unfolding lookup lookup_key lookup_left found_in find_error_no
   lookup-given =
       go (lengths_for s w t) refl (good_parts model serial issue) refl (fit0 s.n w) refl
       (way_of s.n s.c k w).steps refl
@@ -72,14 +72,14 @@ module _ (w t : List ℕ) (s : Session) (model serial issue : ℕ) where
 
   -- done: the answer is the record that stands under the key
   pub lookup-done : looked_no (lookup w t s model serial issue).answer ≡ 0
-      → (x : ℕ) × ((lookup w t s model serial issue).answer ≡ Looked.Found x) × (under s k w ≡ some x)
-  unfolding lookup lookup_key lookup_left found_in looked_no
+      → (x : ℕ) × ((lookup w t s model serial issue).answer ≡ Ok x) × (under s k w ≡ some x)
+  unfolding lookup lookup_key lookup_left found_in find_error_no
   lookup-done z =
       go (lengths_for s w t) refl (good_parts model serial issue) refl (fit0 s.n w) refl
       (way_of s.n s.c k w).steps refl
     where
       Done : Type 0
-      Done = (x : ℕ) × ((lookup w t s model serial issue).answer ≡ Looked.Found x) × (under s k w ≡ some x)
+      Done = (x : ℕ) × ((lookup w t s model serial issue).answer ≡ Ok x) × (under s k w ≡ some x)
 
       found : lengths_for s w t ≡ true → good_parts model serial issue ≡ true → fit0 s.n w ≡ true
           → (steps : List Step) → (way_of s.n s.c k w).steps ≡ some steps

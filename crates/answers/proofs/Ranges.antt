@@ -1,4 +1,5 @@
 -- Newest, has-any and list: each number exactly when document 01's table says. Assumes nothing.
+use Rattle.std.specs.Prelude.{Ok}
 use Prim.Native.Nat.{ℕ}
 use native.Mathlib.Omega.{arith}
 use mathlib.Core.Path.{◌≡◌, refl, sym, ◌∙◌}
@@ -10,12 +11,11 @@ use lib.ListN.{length}
 use Rattle.rules.specs.Entry.{Cert}
 use Rattle.rules.specs.Table.{fit0}
 use Rattle.rules.specs.Walk.{Walked, walk_of}
-use Rattle.rules.specs.Call.{newest_no, any_no, listed_no, lengths_for}
+use Rattle.rules.specs.Call.{newest_no, any_no, listed_no, lengths_for, any_error_no, find_error_no, list_error_no}
 use Rattle.rules.specs.Newest.{newest, newest_meter, newest_left, newest_in, meter}
 use Rattle.rules.specs.HasAny.{has_any, any_meter, any_left, any_in, first_of}
 use Rattle.rules.specs.List.{list, list_from, list_done, list_refused, up_from}
 use Rattle.rules.specs.declared.Session.{Session}
-use Rattle.rules.specs.declared.Listed.{Listed}
 use Rattle.answers.specs.Given.{Given}
 use Rattle.answers.specs.Causes.{newest_causes, any_causes, list_causes}
 use Rattle.answers.proofs.RangeMeets.{cut_damage}
@@ -25,7 +25,7 @@ use Rattle.answers.proofs.Tells.{bad_lengths, good_lengths_lem, bad_meter, good-
 
 -- what is found is answered
 newest-some : (x : Cert) (xs : List Cert) → newest_no (newest_in (x ∷ xs)) ≡ 0
-unfolding newest_in newest_no
+unfolding newest_in find_error_no
 newest-some x [] = refl
 newest-some x (y ∷ ys) = newest-some y ys
 
@@ -37,7 +37,7 @@ module _ (w t : List ℕ) (s : Session) (model serial : ℕ) where
   GivenNewest = Given (newest_causes w t s model serial) (newest_no (newest w t s model serial).answer)
 
   pub newest-given : GivenNewest
-  unfolding newest newest_meter newest_left newest_no newest_in
+  unfolding newest newest_meter newest_left find_error_no newest_in
   newest-given =
       go (lengths_for s w t) refl (ltb 0 model && ltb 0 serial) refl (fit0 s.n w) refl
       walked.whole refl walked.found refl
@@ -77,7 +77,7 @@ module _ (w t : List ℕ) (s : Session) (model serial : ℕ) where
   -- done: the answer is the last certificate found
   pub newest-done : newest_no (newest w t s model serial).answer ≡ 0
       → (newest w t s model serial).answer ≡ newest_in walked.found
-  unfolding newest newest_meter newest_left newest_no
+  unfolding newest newest_meter newest_left find_error_no
   newest-done z =
       go (lengths_for s w t) refl (ltb 0 model && ltb 0 serial) refl (fit0 s.n w) refl walked.whole refl
     where
@@ -94,7 +94,7 @@ module _ (w t : List ℕ) (s : Session) (model serial : ℕ) where
 
 -- yes and no are 0
 any_zero : (xs : List Cert) → any_no (any_in xs) ≡ 0
-unfolding any_in any_no
+unfolding any_in any_error_no
 any_zero [] = refl
 any_zero (x ∷ xs) = refl
 
@@ -106,7 +106,7 @@ module _ (w t : List ℕ) (s : Session) (model serial : ℕ) where
   GivenAny = Given (any_causes w t s model serial) (any_no (has_any w t s model serial).answer)
 
   pub any-given : GivenAny
-  unfolding has_any any_meter any_left any_no
+  unfolding has_any any_meter any_left any_error_no
   any-given = go (lengths_for s w t) refl (ltb 0 model && ltb 0 serial) refl (fit0 s.n w) refl first.whole refl
     where
       go : (a : Bool) → lengths_for s w t ≡ a → (b : Bool) → (ltb 0 model && ltb 0 serial) ≡ b
@@ -128,7 +128,7 @@ module _ (w t : List ℕ) (s : Session) (model serial : ℕ) where
 
   -- done: yes, if one was found
   pub any-done : any_no (has_any w t s model serial).answer ≡ 0 → (has_any w t s model serial).answer ≡ any_in first.found
-  unfolding has_any any_meter any_left any_no
+  unfolding has_any any_meter any_left any_error_no
   any-done z = go (lengths_for s w t) refl (ltb 0 model && ltb 0 serial) refl (fit0 s.n w) refl first.whole refl
     where
       go : (a : Bool) → lengths_for s w t ≡ a → (b : Bool) → (ltb 0 model && ltb 0 serial) ≡ b
@@ -150,7 +150,7 @@ module _ (w t : List ℕ) (s : Session) (start : ℕ) (ks xs : List ℕ) where
   GivenList = Given (list_causes w t s start ks xs) (listed_no (list w t s start ks xs).answer)
 
   pub list-given : GivenList
-  unfolding list list_from list_done list_refused listed_no
+  unfolding list list_from list_done list_refused list_error_no
   list-given = go (lengths_for s w t) refl (fit0 s.n w) refl listing.whole refl
     where
       go : (a : Bool) → lengths_for s w t ≡ a → (b : Bool) → fit0 s.n w ≡ b → (c : Bool) → listing.whole ≡ c → GivenList
@@ -162,12 +162,12 @@ module _ (w t : List ℕ) (s : Session) (start : ℕ) (ks xs : List ℕ) where
 
   -- done: as many as were found
   pub list_done_lem : listed_no (list w t s start ks xs).answer ≡ 0
-      → (list w t s start ks xs).answer ≡ Listed.Filled (length listing.found)
-  unfolding list list_from list_done list_refused listed_no
+      → (list w t s start ks xs).answer ≡ Ok (length listing.found)
+  unfolding list list_from list_done list_refused list_error_no
   list_done_lem z = go (lengths_for s w t) refl (fit0 s.n w) refl listing.whole refl
     where
       go : (a : Bool) → lengths_for s w t ≡ a → (b : Bool) → fit0 s.n w ≡ b → (c : Bool) → listing.whole ≡ c
-          → (list w t s start ks xs).answer ≡ Listed.Filled (length listing.found)
+          → (list w t s start ks xs).answer ≡ Ok (length listing.found)
       go false p b q c h = absurd (omega (arith, rw (p, list) at z))
       go true p false q c h = absurd (omega (arith, rw (p, list, q) at z))
       go true p true q false h = absurd (omega (arith, rw (p, list, q, list_from, h) at z))

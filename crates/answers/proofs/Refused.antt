@@ -10,7 +10,7 @@ use Rattle.rules.specs.Entry.{find}
 use Rattle.rules.specs.Table.{fit0}
 use Rattle.rules.specs.Walk.{Step, numbers, certs_at, way_of}
 use Rattle.rules.specs.Marks.{free_pages}
-use Rattle.rules.specs.Call.{Unchanged, inserted_no, lengths_for}
+use Rattle.rules.specs.Call.{Unchanged, inserted_no, lengths_for, insert_error_no}
 use Rattle.rules.specs.Insert.{insert, insert_key, insert_along, insert_done, insert_refused, splitting, too_soon, no_room}
 use Rattle.rules.specs.Lookup.{lookup, lookup_key, lookup_left}
 use Rattle.rules.specs.declared.Session.{Session}
@@ -28,7 +28,7 @@ use Rattle.answers.proofs.Walks.{way-mended}
 -- past the walk nothing more is written
 along_left : (k x : ℕ) (s : Session) (way : List Step) (w t : List ℕ)
     → Refused (inserted_no (insert_along k x s way w t).answer) → (insert_along k x s way w t).working ≡ w
-unfolding insert_along insert_refused insert_done inserted_no
+unfolding insert_along insert_refused insert_done insert_error_no
 along_left k x s way w t h =
     go (find k (certs_at way)) refl (too_soon s.c (splitting way)) refl (no_room way (free_pages s (numbers way))) refl
   where
@@ -70,7 +70,7 @@ module _ (w t : List ℕ) (s : Session) (model serial issue x : ℕ) where
 
   pub insert-mended : Refused (inserted_no (insert w t s model serial issue x).answer)
       → WalkMended k w t s (insert w t s model serial issue x)
-  unfolding inserted_no
+  unfolding insert_error_no
   insert-mended h =
       let r = rules.insert_refused_lem w t s model serial issue x (λ e. h (ap inserted_no e)) in
       record { working = insert-left h; stable = r.stable; session = r.session }

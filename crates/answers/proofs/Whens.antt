@@ -1,4 +1,5 @@
 -- Document 01's table of answers: each number of each call is given exactly when it says. Assumes nothing.
+use Rattle.std.specs.Prelude.{Ok}
 use Prim.Native.Nat.{ℕ}
 use mathlib.Core.Path.{◌≡◌, refl, sym, ap, ◌∙◌}
 use mathlib.Core.Logic.{◌↔◌}
@@ -9,23 +10,20 @@ use Rattle.rules.specs.Test.{every}
 use Rattle.rules.specs.Key.{key_of}
 use Rattle.rules.specs.Entry.{rising, rises_from}
 use Rattle.rules.specs.Walk.{walk_of}
-use Rattle.rules.specs.Call.{formatted_no, opened_no, inserted_no, withdrawn_no, looked_no, newest_no, any_no, listed_no, listed_count, synced_no}
+use Rattle.rules.specs.Call.{batched_no, formatted_no, opened_no, inserted_no, withdrawn_no, looked_no, newest_no, any_no, listed_no, listed_count, synced_no, find_error_no, list_error_no}
 use Rattle.rules.specs.Format.{format}
 use Rattle.rules.specs.Open.{opening}
 use Rattle.rules.specs.Insert.{insert}
 use Rattle.rules.specs.Withdraw.{withdraw}
 use Rattle.exchange.specs.ReadFile.{read_no, read_file}
-use Rattle.rules.specs.Batch.{batched_no, item_no, batch}
+use Rattle.rules.specs.Batch.{item_no, batch}
 use Rattle.rules.specs.Lookup.{lookup}
 use Rattle.rules.specs.Newest.{newest, newest_in, meter}
 use Rattle.rules.specs.HasAny.{has_any, any_in, first_of}
 use Rattle.rules.specs.List.{list, up_from}
 use Rattle.rules.specs.Sync.{sync}
 use Rattle.rules.specs.declared.Session.{Session}
-use Rattle.rules.specs.declared.Looked.{Looked}
-use Rattle.rules.specs.declared.Newest.{Newest}
-use Rattle.rules.specs.declared.Any.{Any}
-use Rattle.rules.specs.declared.Listed.{Listed}
+use Rattle.rules.specs.Answer.{Any, newest_is}
 use Rattle.answers.specs.Given.{Given}
 use Rattle.answers.specs.Causes.{under, format_causes, open_causes, insert_causes, withdraw_causes, batch_causes, read_causes, lookup_causes, newest_causes, any_causes, list_causes, sync_causes}
 use Rattle.answers.specs.When.{When}
@@ -41,16 +39,16 @@ use Rattle.answers.proofs.Ranges.{newest-given, newest-done, any-given, any-done
 -- ── What is answered beside 0 ───────────────────────────────────────────────────────────────────────────────────
 
 module _ (w t : List ℕ) (s : Session) (model serial issue x : ℕ) where
-  found_exactly : ((lookup w t s model serial issue).answer ≡ Looked.Found x)
+  found_exactly : ((lookup w t s model serial issue).answer ≡ Ok x)
       ↔ (Given (lookup_causes w t s model serial issue) 0 × (under s (key_of model serial issue) w ≡ some x))
-  unfolding looked_no
+  unfolding find_error_no
   found_exactly = (to, from)
     where
       is : (looked_no (lookup w t s model serial issue).answer ≡ 0) ↔ Given (lookup_causes w t s model serial issue) 0
       is = exactly (lookup_causes w t s model serial issue) (looked_no (lookup w t s model serial issue).answer) 0
           (lookup-given w t s model serial issue)
 
-      to : (lookup w t s model serial issue).answer ≡ Looked.Found x
+      to : (lookup w t s model serial issue).answer ≡ Ok x
           → Given (lookup_causes w t s model serial issue) 0 × (under s (key_of model serial issue) w ≡ some x)
       to e =
           let z : looked_no (lookup w t s model serial issue).answer ≡ 0 = ap looked_no e in
@@ -58,14 +56,14 @@ module _ (w t : List ℕ) (s : Session) (model serial issue x : ℕ) where
           (is.0 z, cc (r.1, r.2, e))
 
       from : Given (lookup_causes w t s model serial issue) 0 × (under s (key_of model serial issue) w ≡ some x)
-          → (lookup w t s model serial issue).answer ≡ Looked.Found x
+          → (lookup w t s model serial issue).answer ≡ Ok x
       from g = let r = lookup-done w t s model serial issue (is.1 g.0) in cc (r.1, r.2, g.1)
 
 module _ (w t : List ℕ) (s : Session) (model serial i x : ℕ) where
-  newest_exactly : ((newest w t s model serial).answer ≡ Newest.Found i x)
+  newest_exactly : ((newest w t s model serial).answer ≡ Ok (newest_is i x))
       ↔ (Given (newest_causes w t s model serial) 0
-      × (newest_in (walk_of s.n s.c (meter model serial) w).found ≡ Newest.Found i x))
-  unfolding newest_no
+      × (newest_in (walk_of s.n s.c (meter model serial) w).found ≡ Ok (newest_is i x)))
+  unfolding find_error_no
   newest_exactly =
       let is = exactly (newest_causes w t s model serial) (newest_no (newest w t s model serial).answer) 0
       (newest-given w t s model serial) in (
@@ -86,16 +84,16 @@ module _ (w t : List ℕ) (s : Session) (model serial : ℕ) (yes_or_no : Any) (
       )
 
 module _ (w t : List ℕ) (s : Session) (start : ℕ) (ks xs : List ℕ) (k : ℕ) where
-  filled_exactly : ((list w t s start ks xs).answer ≡ Listed.Filled k)
+  filled_exactly : ((list w t s start ks xs).answer ≡ Ok k)
       ↔ (Given (list_causes w t s start ks xs) 0
       × (length (walk_of s.n s.c (up_from start ks xs) w).found ≡ k))
-  unfolding listed_no listed_count
+  unfolding list_error_no listed_count
   filled_exactly =
       let is = exactly (list_causes w t s start ks xs) (listed_no (list w t s start ks xs).answer) 0
       (list-given w t s start ks xs) in (
         (λ e. let z : listed_no (list w t s start ks xs).answer ≡ 0 = ap listed_no e in
             (is.0 z, ap listed_count (sym (list_done_lem w t s start ks xs z) ∙ e))),
-        (λ g. list_done_lem w t s start ks xs (is.1 g.0) ∙ ap Listed.Filled g.1),
+        (λ g. list_done_lem w t s start ks xs (is.1 g.0) ∙ ap Ok g.1),
       )
 
 -- ── The table ───────────────────────────────────────────────────────────────────────────────────────────────────

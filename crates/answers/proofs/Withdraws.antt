@@ -1,4 +1,5 @@
 -- Withdraw: each number exactly when a lookup gives it, and a refusal leaves what a lookup leaves. Assumes nothing.
+use Rattle.std.specs.Prelude.{Ok, Err}
 use Prim.Native.Nat.{ℕ}
 use mathlib.Core.Path.{◌≡◌, refl, sym, ap, ◌∙◌, subst}
 use mathlib.Core.Logic.{inl, inr}
@@ -6,12 +7,12 @@ use mathlib.Core.Bool.{Bool, true, false}
 use mathlib.Core.List.{List}
 use Rattle.rules.specs.Key.{key_of, good_parts}
 use Rattle.rules.specs.Table.{fit0}
-use Rattle.rules.specs.Call.{Unchanged, withdrawn_no, looked_no, lengths_for}
+use Rattle.rules.specs.Call.{Unchanged, withdrawn_no, looked_no, lengths_for, find_error_no}
 use Rattle.rules.specs.Withdraw.{withdraw, withdraw_refused}
 use Rattle.rules.specs.Lookup.{lookup}
 use Rattle.rules.specs.declared.Session.{Session}
-use Rattle.rules.specs.declared.Withdrawn.{Withdrawn}
-use Rattle.rules.specs.declared.Looked.{Looked}
+use Rattle.rules.specs.Answer.{Looked}
+use Rattle.rules.specs.declared.FindError.{FindError}
 use Rattle.rules.proofs.Entries.Tests.{not_both}
 use Rattle.rules.proofs.Demand1.Withdrawals as rules
 use Rattle.answers.specs.Given.{Given}
@@ -25,12 +26,9 @@ use Rattle.answers.proofs.Refused.{lookup-mended, lookup_stands}
 -- ── The number ──────────────────────────────────────────────────────────────────────────────────────────────────
 
 same_number : (a : Looked) → withdrawn_no (rules.withdrawn_as a) ≡ looked_no a
-unfolding withdrawn_no looked_no rules.withdrawn_as
-same_number (Looked.Found x) = refl
-same_number Looked.Length = refl
-same_number Looked.BadKey = refl
-same_number Looked.Damaged = refl
-same_number Looked.Missing = refl
+unfolding find_error_no rules.withdrawn_as
+same_number (Ok x) = refl
+same_number (Err e) = refl
 
 module _ (w t : List ℕ) (s : Session) (model serial issue : ℕ) where
   pub withdraw-given : Given (withdraw_causes w t s model serial issue) (withdrawn_no (withdraw w t s model serial issue).answer)
@@ -42,8 +40,8 @@ module _ (w t : List ℕ) (s : Session) (model serial issue : ℕ) where
   -- ── What is left ──────────────────────────────────────────────────────────────────────────────────────────────
 
   not_done : Refused (withdrawn_no (withdraw w t s model serial issue).answer)
-      → (withdraw w t s model serial issue).answer ≡ Withdrawn.Done → ⊥
-  unfolding withdrawn_no
+      → (withdraw w t s model serial issue).answer ≡ Ok tt → ⊥
+  unfolding find_error_no
   not_done h e = h (ap withdrawn_no e)
 
   pub withdraw-mended : Refused (withdrawn_no (withdraw w t s model serial issue).answer)

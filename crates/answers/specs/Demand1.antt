@@ -6,12 +6,12 @@ use Rattle.rules.specs.Test.{mem}
 use Rattle.rules.specs.Key.{key_of}
 use Rattle.rules.specs.Table.{fit0}
 use Rattle.rules.specs.Marks.{nobody}
-use Rattle.rules.specs.Call.{Left, formatted_no, opened_no, inserted_no, withdrawn_no, looked_no, looked_record, newest_no, newest_issue, newest_record, any_no, any_yes, listed_no, listed_count, synced_no, Unchanged}
+use Rattle.rules.specs.Call.{batched_no, Left, formatted_no, opened_no, inserted_no, withdrawn_no, looked_no, looked_record, newest_no, newest_issue, newest_record, any_no, any_yes, listed_no, listed_count, synced_no, Unchanged}
 use Rattle.rules.specs.Format.{format}
 use Rattle.rules.specs.Open.{opening}
 use Rattle.rules.specs.Insert.{insert}
 use Rattle.rules.specs.Withdraw.{withdraw}
-use Rattle.rules.specs.Batch.{Between, item_no, BatchLeft, batched_no, batch}
+use Rattle.rules.specs.Batch.{Between, item_no, BatchLeft, batch}
 use Rattle.rules.specs.Lookup.{lookup}
 use Rattle.rules.specs.Newest.{newest, meter}
 use Rattle.rules.specs.HasAny.{has_any, first_of}
@@ -21,10 +21,7 @@ use Rattle.rules.specs.declared.Session.{Session}
 use Rattle.exchange.specs.ReadFile.{Read, read_no, read_count, read_place, read_file}
 use Rattle.rules.specs.declared.Item.{Item}
 use Rattle.rules.specs.declared.Asked.{Asked}
-use Rattle.rules.specs.declared.Looked.{Looked}
-use Rattle.rules.specs.declared.Newest.{Newest}
-use Rattle.rules.specs.declared.Any.{Any}
-use Rattle.rules.specs.declared.Listed.{Listed}
+use Rattle.rules.specs.Answer.{Looked, Newest, Any, Listed}
 use Rattle.answers.specs.OneKey.{EndsIn, MendedBy}
 use Rattle.answers.specs.Range.{StopsIn, MendedIn}
 use Rattle.answers.specs.Causes.{BeforeWalk}

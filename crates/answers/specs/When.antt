@@ -1,17 +1,17 @@
 -- Document 01's table of answers as statements: each number is given exactly when the table says.
-use Rattle.std.specs.Prelude.{ℕ, ◌≡◌, ◌↔◌, true, List, [], ◌∷◌, length}
+use Rattle.std.specs.Prelude.{ℕ, ◌≡◌, ◌↔◌, true, List, [], ◌∷◌, length, Ok}
 use Rattle.std.proofs.Math.Option.{some}
 use Rattle.fields.specs.Field.{Bytes}
 use Rattle.rules.specs.Test.{every}
 use Rattle.rules.specs.Key.{key_of}
 use Rattle.rules.specs.Entry.{rising}
 use Rattle.rules.specs.Walk.{walk_of}
-use Rattle.rules.specs.Call.{formatted_no, opened_no, inserted_no, withdrawn_no, looked_no, newest_no, any_no, listed_no, synced_no}
+use Rattle.rules.specs.Call.{batched_no, formatted_no, opened_no, inserted_no, withdrawn_no, looked_no, newest_no, any_no, listed_no, synced_no}
 use Rattle.rules.specs.Format.{format}
 use Rattle.rules.specs.Open.{opening}
 use Rattle.rules.specs.Insert.{insert}
 use Rattle.rules.specs.Withdraw.{withdraw}
-use Rattle.rules.specs.Batch.{Between, item_no, batched_no, batch}
+use Rattle.rules.specs.Batch.{Between, item_no, batch}
 use Rattle.rules.specs.Lookup.{lookup}
 use Rattle.rules.specs.Newest.{newest, newest_in, meter}
 use Rattle.rules.specs.HasAny.{has_any, any_in, first_of}
@@ -20,10 +20,7 @@ use Rattle.rules.specs.Sync.{sync}
 use Rattle.rules.specs.declared.Session.{Session}
 use Rattle.rules.specs.declared.Item.{Item}
 use Rattle.exchange.specs.ReadFile.{read_no, read_file}
-use Rattle.rules.specs.declared.Looked.{Looked}
-use Rattle.rules.specs.declared.Newest.{Newest}
-use Rattle.rules.specs.declared.Any.{Any}
-use Rattle.rules.specs.declared.Listed.{Listed}
+use Rattle.rules.specs.Answer.{Any, newest_is}
 use Rattle.answers.specs.Given.{Given, numbers_in}
 use Rattle.answers.specs.Causes.{under, format_causes, open_causes, insert_causes, withdraw_causes, batch_causes, read_causes, lookup_causes, newest_causes, any_causes, list_causes, sync_causes}
 
@@ -68,17 +65,17 @@ pub record When : Type 0 where
   pub sync_when : (w t : List ℕ) (s : Session) (k : ℕ) → (synced_no (sync w t s).answer ≡ k) ↔ Given (sync_causes w t s) k
   -- and with 0, what is answered beside it
   pub found_when : (w t : List ℕ) (s : Session) (model serial issue x : ℕ)
-      → ((lookup w t s model serial issue).answer ≡ Looked.Found x)
+      → ((lookup w t s model serial issue).answer ≡ Ok x)
       ↔ (Given (lookup_causes w t s model serial issue) 0 × (under s (key_of model serial issue) w ≡ some x))
   pub newest_found_when : (w t : List ℕ) (s : Session) (model serial i x : ℕ)
-      → ((newest w t s model serial).answer ≡ Newest.Found i x)
+      → ((newest w t s model serial).answer ≡ Ok (newest_is i x))
       ↔ (Given (newest_causes w t s model serial) 0
-      × (newest_in (walk_of s.n s.c (meter model serial) w).found ≡ Newest.Found i x))
+      × (newest_in (walk_of s.n s.c (meter model serial) w).found ≡ Ok (newest_is i x)))
   pub any_told_when : (w t : List ℕ) (s : Session) (model serial : ℕ) (yes_or_no : Any) → any_no yes_or_no ≡ 0
       → ((has_any w t s model serial).answer ≡ yes_or_no)
       ↔ (Given (any_causes w t s model serial) 0
       × (any_in (walk_of s.n s.c (first_of model serial) w).found ≡ yes_or_no))
   pub filled_when : (w t : List ℕ) (s : Session) (start : ℕ) (ks xs : List ℕ) (k : ℕ)
-      → ((list w t s start ks xs).answer ≡ Listed.Filled k)
+      → ((list w t s start ks xs).answer ≡ Ok k)
       ↔ (Given (list_causes w t s start ks xs) 0
       × (length (walk_of s.n s.c (up_from start ks xs) w).found ≡ k))

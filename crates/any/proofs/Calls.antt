@@ -1,4 +1,5 @@
 -- The call, by the tests it passed. Assumes nothing.
+use Rattle.std.specs.Prelude.{Err}
 use mathlib.Core.Path.{◌≡◌, refl, sym, ap, ◌∙◌}
 use mathlib.Core.Bool.{Bool, true, false, ◌&&◌}
 use mathlib.Core.List.{List}
@@ -15,7 +16,8 @@ use Rattle.rules.specs.Call.{Left, lengths_for}
 use Rattle.rules.specs.HasAny as rules
 use Rattle.rules.specs.Reports.{once_tested, has_any_reported}
 use Rattle.rules.specs.declared.Session.{Session}
-use Rattle.rules.specs.declared.Any.{Any}
+use Rattle.rules.specs.Answer.{Any}
+use Rattle.rules.specs.declared.AnyError.{AnyError}
 use Rattle.rules.specs.declared.Asked.{Asked}
 use Rattle.rules.specs.declared.Report.{Report}
 use Rattle.rules.proofs.Demand1.Tested.{tested-length, tested-key, tested-zero, tested-done}
@@ -53,18 +55,18 @@ module _ (w t : List ℕ) (s : Session) {n c : ℕ} (same-n : s.n ≡ n) (same-c
   told p q = cc
 
   pub bad_length_lem : {x : Report} → lengths_for s w t ≡ false → x ≡ nothing
-      → leaving (record { answer = Any.Length; report = x; session = s }) w t ≡ has_any_reported w t s model serial
+      → leaving (record { answer = Err AnyError.Length; report = x; session = s }) w t ≡ has_any_reported w t s model serial
   unfolding rules.has_any rules.any_left
   bad_length_lem h q = told (rw (rules.has_any, h)) (q ∙ sym (tested-length s w t good along h))
 
   module _ (h : lengths_for s w t ≡ true) where
     bad_key : {x : Report} → good ≡ false → x ≡ nothing
-        → leaving (record { answer = Any.BadKey; report = x; session = s }) w t ≡ has_any_reported w t s model serial
+        → leaving (record { answer = Err AnyError.BadKey; report = x; session = s }) w t ≡ has_any_reported w t s model serial
     unfolding rules.has_any rules.any_left good
     bad_key k q = told (rw (rules.has_any, h, k)) (q ∙ sym (tested-key s w t good along h k))
 
     pub bad_model : {x : Report} → model ≡ 0 → x ≡ nothing
-        → leaving (record { answer = Any.BadKey; report = x; session = s }) w t ≡ has_any_reported w t s model serial
+        → leaving (record { answer = Err AnyError.BadKey; report = x; session = s }) w t ≡ has_any_reported w t s model serial
     unfolding good
     bad_model z = bad_key (rw (le-ltb 0 model (omega arith)))
 
@@ -73,7 +75,7 @@ module _ (w t : List ℕ) (s : Session) {n c : ℕ} (same-n : s.n ≡ n) (same-c
       model-above = lt-ltb 0 model (omega arith)
 
       pub bad_serial : {x : Report} → serial ≡ 0 → x ≡ nothing
-          → leaving (record { answer = Any.BadKey; report = x; session = s }) w t ≡ has_any_reported w t s model serial
+          → leaving (record { answer = Err AnyError.BadKey; report = x; session = s }) w t ≡ has_any_reported w t s model serial
       unfolding good
       bad_serial z = bad_key (rw (model-above, le-ltb 0 serial (omega arith)))
 
@@ -86,7 +88,7 @@ module _ (w t : List ℕ) (s : Session) {n c : ℕ} (same-n : s.n ≡ n) (same-c
         fit0-same z = ap (λ (m : ℕ). fit0 m w) same-n ∙ z
 
         pub bad_zero : {x : Report} → fit0 n w ≡ false → x ≡ nothing
-            → leaving (record { answer = Any.Damaged; report = x; session = s }) w t ≡ has_any_reported w t s model serial
+            → leaving (record { answer = Err AnyError.Damaged; report = x; session = s }) w t ≡ has_any_reported w t s model serial
         unfolding rules.has_any rules.any_left good
         bad_zero z' q =
             let z = fit0-same z' in

@@ -1,4 +1,5 @@
 -- A leaf holds a certificate of a range exactly if the last one not above it is not below it. Assumes nothing.
+use Rattle.std.specs.Prelude.{Ok}
 use Prim.Native.Nat.{ℕ, zero, suc, ◌-◌, ◌≤◌, ◌<◌}
 use native.Mathlib.Omega.{arith}
 use mathlib.Core.Path.{◌≡◌, refl, sym, ap, ◌∙◌}
@@ -14,7 +15,7 @@ use Rattle.rules.specs.Entry.{Cert, keys, cut, rising}
 use Rattle.rules.specs.Page.{cert_in, page_in}
 use Rattle.rules.specs.Table.{page_at, read}
 use Rattle.rules.specs.HasAny.{any_in}
-use Rattle.rules.specs.declared.Any.{Any}
+use Rattle.rules.specs.Answer.{Any}
 use Rattle.rules.proofs.Entries.Tests.{between-of, between-below, between-above, mem-at}
 use Rattle.rules.proofs.Entries.Rises.{rises-mem, rising-from, rising_tail, get_d_keys, length-keys}
 use Rattle.rules.proofs.Entries.Entries.{cut_in, cut_out, cut-nil, cut-none}
@@ -69,8 +70,8 @@ holds_read low s t i d l h =
 -- ── One of the range ────────────────────────────────────────────────────────────────────────────────────────────
 
 unfoldable yes_if : Bool → Any
-yes_if true = Any.Yes
-yes_if false = Any.No
+yes_if true = Ok true
+yes_if false = Ok false
 
 module _ (low high : ℕ) (d : Cert) where
   holds-cut : (xs : List Cert) → rising (keys xs) ≡ true
@@ -120,11 +121,11 @@ module _ (low high : ℕ) (d : Cert) where
           ∙ ap up_to (sym (spot-cons high x.key (keys xs) h))))
 
   pub holds_yes : (xs : List Cert) → rising (keys xs) ≡ true → holds_before low (spot_of high (keys xs)) xs d ≡ true
-      → any_in (cut low high xs) ≡ Any.Yes
+      → any_in (cut low high xs) ≡ Ok true
   unfolding yes_if
   holds_yes xs r h = holds-cut xs r ∙ ap yes_if h
 
   pub holds_no : (xs : List Cert) → rising (keys xs) ≡ true → holds_before low (spot_of high (keys xs)) xs d ≡ false
-      → any_in (cut low high xs) ≡ Any.No
+      → any_in (cut low high xs) ≡ Ok false
   unfolding yes_if
   holds_no xs r h = holds-cut xs r ∙ ap yes_if h

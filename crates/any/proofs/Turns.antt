@@ -1,5 +1,6 @@
 -- Has-any goes from leaf to leaf while nothing is found: what is left to do is the rules' walk behind the last leaf, with the
 -- report of the ways so far. Assumes nothing.
+use Rattle.std.specs.Prelude.{Ok, Err}
 use Prim.Native.Nat.{ℕ, ◌+◌, ◌-◌, ◌≤◌, ◌<◌}
 use native.Mathlib.Omega.{arith}
 use mathlib.Core.Path.{◌≡◌, refl, sym, ap, ◌∙◌}
@@ -17,7 +18,8 @@ use Rattle.rules.specs.Walk.{Way, way_of, way_report, Walked, finds, stops, walk
 use Rattle.rules.specs.Call.{any_yes}
 use Rattle.rules.specs.HasAny.{any_in}
 use Rattle.rules.specs.declared.Asked.{Asked}
-use Rattle.rules.specs.declared.Any.{Any}
+use Rattle.rules.specs.Answer.{Any}
+use Rattle.rules.specs.declared.AnyError.{AnyError}
 use Rattle.rules.specs.declared.Report.{Report}
 use Rattle.rules.proofs.Entries.Rises.{length-keys}
 use Rattle.entries.specs.Spot.{spot_of}
@@ -49,12 +51,12 @@ unfolding any_in
 any-one [] = refl
 any-one (x ∷ xs) = refl
 
-found-one : (xs : List Cert) → any_in xs ≡ Any.Yes → 1 ≤ length xs
+found-one : (xs : List Cert) → any_in xs ≡ Ok true → 1 ≤ length xs
 unfolding any_in any_yes
 found-one [] h = absurd (omega (arith, ap any_yes h))
 found-one (x ∷ xs) h = omega arith
 
-found_none : (xs : List Cert) → any_in xs ≡ Any.No → xs ≡ []
+found_none : (xs : List Cert) → any_in xs ≡ Ok false → xs ≡ []
 unfolding any_in any_yes
 found_none [] h = refl
 found_none (x ∷ xs) h = absurd (omega (arith, ap any_yes h))
@@ -97,11 +99,11 @@ module _ {n c low high : ℕ} {t₀ t : List ℕ} {cursor : Above} {key : ℕ} {
 
   -- damage ends the walk
   pub ends-damaged : {y : Report} → r ≡ Stepped.Damaged y
-      → seeing u (record { answer = Any.Damaged; report = y }) ≡ seen (walk_of n c (first low high) t₀)
+      → seeing u (record { answer = Err AnyError.Damaged; report = y }) ≡ seen (walk_of n c (first low high) t₀)
   unfolding answer_of stops
   ends-damaged {y} e =
       let q = next-damaged x.ground key-within high report y (ap (nexting u) (sym e) ∙ f) in
-      ap (λ (z : Report). seeing u (record { answer = Any.Damaged; report = z })) q.1
+      ap (λ (z : Report). seeing u (record { answer = Err AnyError.Damaged; report = z })) q.1
       ∙ sym (ap seen (x.left ∙ (climb_damaged x.ground asks (ap (λ (w : Way). w.steps) q.0)
       ∙ ap (λ (w : Way). stops (sofar t [] (way_report n c key t report)) w.table) q.0)))
 
@@ -151,7 +153,7 @@ module _ {n c low high : ℕ} {t₀ t : List ℕ} {cursor : Above} {key : ℕ} {
       spot-held h = ap (λ (i : ℕ). holds_before key i certs no_cert_lem) (sym reached.spot) ∙ (sym held ∙ h)
 
       -- the leaf holds a certificate of the range
-      pub ends_yes : b ≡ true → seeing u (record { answer = Any.Yes; report = l.report }) ≡ seen (walk_of n c (first low high) t₀)
+      pub ends_yes : b ≡ true → seeing u (record { answer = Ok true; report = l.report }) ≡ seen (walk_of n c (first low high) t₀)
       unfolding answer_of
       ends_yes h =
           let y = any-one more ∙ holds_yes key high no_cert_lem certs reached.fits.sound.certs_rise (spot-held h) in
@@ -167,7 +169,7 @@ module _ {n c low high : ℕ} {t₀ t : List ℕ} {cursor : Above} {key : ℕ} {
         goes-empty = goes_on ∙ ap (λ (xs : List Cert). rest n c (after l.high (first key high)) (sofar u xs l.report)) nothing-found
 
         -- the range ends in this leaf
-        pub ends_no : high ≤ l.high → seeing u (record { answer = Any.No; report = l.report }) ≡ seen (walk_of n c (first low high) t₀)
+        pub ends_no : high ≤ l.high → seeing u (record { answer = Ok false; report = l.report }) ≡ seen (walk_of n c (first low high) t₀)
         unfolding answer_of any_in
         ends_no k = sym (ap seen (goes-empty ∙ rest_ended n c l.high (first key high) (sofar u [] l.report) k))
 

@@ -1,12 +1,13 @@
 -- What the call has-any hands back, piece by piece, as the rules say it.
-use Rattle.std.specs.Prelude.{ℕ, zero, suc, Bool, true, false, List, leb}
+use Rattle.std.specs.Prelude.{ℕ, zero, suc, Bool, true, false, List, leb, Err}
 use Rattle.rules.specs.Report.{Reported}
 use Rattle.rules.specs.Walk.{Walked}
 use Rattle.rules.specs.Call.{Left}
 use Rattle.rules.specs.HasAny.{any_in}
 use Rattle.rules.specs.declared.Session.{Session}
 use Rattle.rules.specs.declared.Asked.{Asked}
-use Rattle.rules.specs.declared.Any.{Any}
+use Rattle.rules.specs.Answer.{Any}
+use Rattle.rules.specs.declared.AnyError.{AnyError}
 use Rattle.rules.specs.declared.AnyOf.{AnyOf}
 use Rattle.rules.specs.declared.Report.{Report}
 use Rattle.head.specs.Head.{cert_at}
@@ -34,7 +35,7 @@ holds_in low (suc j) b = leb low (cert_at b j).key
 
 -- the answer from what a walk has come to: whether it met a damaged place, and the certificates found
 unfoldable pub answer_of : Walked → Any
-answer_of w = elim w.whole [ false ↦ Any.Damaged | true ↦ any_in w.found ]
+answer_of w = elim w.whole [ false ↦ Err AnyError.Damaged | true ↦ any_in w.found ]
 
 -- the table left, the answer and the report, before the session is handed back
 pub record Seen : Type 0 where

@@ -24,7 +24,7 @@ ghost use Rattle.rules.specs.declared.Session.{Session};
 ghost use Rattle.any.specs.Anys.{beside, leaving, first, holds_in, seeing, seen};
 
 use leaves::Stepped;
-use rules::{Any, AnyOf, LARGEST_ISSUE, Report, Session};
+use rules::{Any, AnyError, AnyOf, LARGEST_ISSUE, Report, Session};
 
 // Whether the last certificate before a spot of leaf i is not below a key.
 fn holds(t: &[u8], i: u16, spot: usize, low: u64) -> bool
@@ -56,7 +56,7 @@ fn look(t: &mut [u8], n: usize, c: u32, low: u64, high: u64) -> Sought
         match leaves::next(t, n, c, key, high, cursor, report) {
             Stepped::Damaged(last) => {
                 return Sought {
-                    answer: Any::Damaged,
+                    answer: Err(AnyError::Damaged),
                     report: last,
                 };
             }
@@ -64,13 +64,13 @@ fn look(t: &mut [u8], n: usize, c: u32, low: u64, high: u64) -> Sought
                 report = leaf.report;
                 if holds(t, leaf.child, leaf.spot, key) {
                     return Sought {
-                        answer: Any::Yes,
+                        answer: Ok(true),
                         report,
                     };
                 }
                 if leaf.high >= high {
                     return Sought {
-                        answer: Any::No,
+                        answer: Ok(false),
                         report,
                     };
                 }
@@ -80,7 +80,7 @@ fn look(t: &mut [u8], n: usize, c: u32, low: u64, high: u64) -> Sought
         }
     }
     Sought {
-        answer: Any::No,
+        answer: Ok(false),
         report,
     }
 }
@@ -92,26 +92,26 @@ pub fn lean(working: &mut [u8], stable: &[u8], n: u16, c: u32, model: u16, seria
 {
     if !tables::lengths_for(n, working, stable) {
         return Sought {
-            answer: Any::Length,
+            answer: Err(AnyError::Length),
             report: Report::nothing(),
         };
     }
     if model == 0 {
         return Sought {
-            answer: Any::BadKey,
+            answer: Err(AnyError::BadKey),
             report: Report::nothing(),
         };
     }
     if serial == 0 {
         return Sought {
-            answer: Any::BadKey,
+            answer: Err(AnyError::BadKey),
             report: Report::nothing(),
         };
     }
     let pages = n as usize;
     if !head::fit0(working, pages) {
         return Sought {
-            answer: Any::Damaged,
+            answer: Err(AnyError::Damaged),
             report: Report::nothing(),
         };
     }

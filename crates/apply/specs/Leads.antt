@@ -1,5 +1,5 @@
 -- What is known of a way that was walked, and of the numbers chosen for new pages.
-use Rattle.std.specs.Prelude.{ℕ, zero, suc, ◌+◌, ◌-◌, ◌^◌, ◌*◌, ◌≤◌, ◌<◌, ◌≡◌, true, false, List, [], ◌∷◌, eqb, length, take, get_or}
+use Rattle.std.specs.Prelude.{ℕ, zero, suc, ◌+◌, ◌-◌, ◌^◌, ◌*◌, ◌≤◌, ◌<◌, ◌≡◌, true, false, List, [], ◌∷◌, eqb, length, take, get_or, Ok}
 use Rattle.std.proofs.Math.Option.{some, none}
 use Rattle.fields.specs.Field.{Bytes}
 use Rattle.rules.specs.Layout.{page_size, most_pages, top_kind, last_key}
@@ -13,7 +13,7 @@ use Rattle.rules.specs.Walk.{Step, numbers, certs_at}
 use Rattle.rules.specs.Call.{Left}
 use Rattle.rules.specs.Insert.{root_splits, too_high, new_pages, no_room, Making, making, grow}
 use Rattle.rules.specs.declared.Session.{Session}
-use Rattle.rules.specs.declared.Inserted.{Inserted}
+use Rattle.rules.specs.Answer.{Inserted}
 use Rattle.rules.proofs.Bytes.All.{All}
 use Rattle.rules.proofs.Entries.Places.{Fits}
 use Rattle.head.proofs.Headers.{head_of}
@@ -176,4 +176,4 @@ pub record ReadySession (s : Session) (w : Way) (chosen : List ℕ) : Type 0 whe
 
 -- what is left by an insert that is done
 abbrev pub done : Session → List ℕ → List ℕ → Left Inserted
-done s w t = record { answer = Inserted.Done; session = s; working = w; stable = t }
+done s w t = record { answer = Ok tt; session = s; working = w; stable = t }

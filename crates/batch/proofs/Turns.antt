@@ -3,7 +3,7 @@ use mathlib.Core.Path.{◌≡◌, refl, sym, ap, ◌∙◌, subst}
 use Prim.Native.Nat.{ℕ, suc, ◌+◌, ◌<◌}
 use mathlib.Core.Bool.{Bool, true, false}
 use mathlib.Core.List.{List, [], ◌∷◌, ◌++◌}
-use Rattle.std.proofs.Common.{length, take, drop, get_or, set, arith, add-one, append_assoc}
+use Rattle.std.proofs.Common.{length, take, drop, get_or, set, arith, add-one, append_assoc, Ok, Err}
 use Rattle.std.proofs.Math.Seq.{drop-cons, take-suc-set, drop-set-lt, drop-length, take-length}
 use Rattle.std.proofs.lemmas.List.{append-nil}
 use Rattle.rules.specs.Report.{Reported, nothing}
@@ -14,7 +14,8 @@ use Rattle.rules.specs.declared.Session.{Session}
 use Rattle.rules.specs.declared.Item.{Item}
 use Rattle.rules.specs.declared.Report.{Report}
 use Rattle.rules.specs.declared.Inserting.{Inserting}
-use Rattle.rules.specs.declared.Batched.{Batched}
+use Rattle.rules.specs.Answer.{Batched}
+use Rattle.rules.specs.declared.LengthError.{LengthError}
 use Rattle.rules.specs.declared.Batching.{Batching}
 use Rattle.insert.specs.Inserts.{leaving as inserted}
 use Rattle.rules.proofs.Demand1.Batches.{batch_refused, batch-done}
@@ -66,10 +67,10 @@ module _ (t : List ℕ) (ys : List Item) (i : ℕ) (end : i ≡ length ys) (m : 
 
 -- ── An item that is left as it is ───────────────────────────────────────────────────────────────────────────────
 
-pub left_alone : (t w : List ℕ) (m : Batching) (x : Item) → m.answer ≡ Batched.Length
+pub left_alone : (t w : List ℕ) (m : Batching) (x : Item) (e : LengthError) → m.answer ≡ Err e
     → turning (record { item = x; made = m }) w ≡ turn_of t (running m w) x
 unfolding turn_of
-left_alone t w m x h =
+left_alone t w m x e h =
     subst
     (λ (a : Batched). turning (record { item = x; made = record { answer = a; report = m.report; session = m.session } }) w
     ≡ turn_of t (running (record { answer = a; report = m.report; session = m.session }) w) x)
@@ -80,7 +81,7 @@ left_alone t w m x h =
 pub tried-is : (w t : List ℕ) (m : Batching) (x : Item) (r : Inserting) (l : List ℕ) (k : ℕ) (q : Report)
     → inserted r l t ≡ insert_reported w t m.session x.model x.serial x.issue x.value
     → k ≡ inserted_no r.answer → q ≡ joins m.report r.report
-    → turning (record { item = answered k x; made = record { answer = Batched.Done; report = q; session = r.session } }) l
+    → turning (record { item = answered k x; made = record { answer = Ok tt; report = q; session = r.session } }) l
     ≡ tried_of t (running m w) x
 unfolding tried_of item_no after_item insert_item
 tried-is w t m x r l k q e f g =
@@ -90,28 +91,28 @@ tried-is w t m x r l k q e f g =
     made : ℕ → Report → Session → List ℕ → Turning
     made j y s v = record {
       item = answered j x;
-      running = running (record { answer = Batched.Done; report = y; session = s }) v;
+      running = running (record { answer = Ok tt; report = y; session = s }) v;
     }
 
 -- ── All turns ───────────────────────────────────────────────────────────────────────────────────────────────────
 
 module _ (t : List ℕ) where
-  refused-goes : (m : Between) (xs : List Item) → goes t (standing Batched.Length m) xs ≡ standing Batched.Length m
+  refused-goes : (m : Between) (xs : List Item) → goes t (standing (Err LengthError.Length) m) xs ≡ standing (Err LengthError.Length) m
   unfolding goes turn_of
   refused-goes m [] = refl
   refused-goes m (x ∷ xs) = refused-goes m xs
 
-  refused-fills : (m : Between) (xs : List Item) → fills t (standing Batched.Length m) xs ≡ xs
+  refused-fills : (m : Between) (xs : List Item) → fills t (standing (Err LengthError.Length) m) xs ≡ xs
   unfolding fills turn_of
   refused-fills m [] = refl
   refused-fills m (x ∷ xs) = ap (λ (ys : List Item). x ∷ ys) (refused-fills m xs)
 
-  done-goes : (m : Between) (xs : List Item) → goes t (standing Batched.Done m) xs ≡ standing Batched.Done (after_items t m xs)
+  done-goes : (m : Between) (xs : List Item) → goes t (standing (Ok tt) m) xs ≡ standing (Ok tt) (after_items t m xs)
   unfolding goes turn_of tried_of after_items
   done-goes m [] = refl
   done-goes m (x ∷ xs) = done-goes (after_item t m x) xs
 
-  done-fills : (m : Between) (xs : List Item) → fills t (standing Batched.Done m) xs ≡ items_answered t m xs
+  done-fills : (m : Between) (xs : List Item) → fills t (standing (Ok tt) m) xs ≡ items_answered t m xs
   unfolding fills turn_of tried_of items_answered
   done-fills m [] = refl
   done-fills m (x ∷ xs) = ap (λ (ys : List Item). answered (item_no t m x) x ∷ ys) (done-fills (after_item t m x) xs)

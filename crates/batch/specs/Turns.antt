@@ -1,11 +1,12 @@
 -- A batch as its loop goes: what stands between two turns, what one turn makes of it, and all turns in a row.
-use Rattle.std.specs.Prelude.{ℕ, true, false, List, [], ◌∷◌}
+use Rattle.std.specs.Prelude.{ℕ, true, false, List, [], ◌∷◌, Ok, Err}
 use Rattle.rules.specs.Report.{Reported, nothing}
 use Rattle.rules.specs.Call.{lengths_for}
 use Rattle.rules.specs.Batch.{Between, between, answered, item_no, after_item, BatchLeft}
 use Rattle.rules.specs.declared.Session.{Session}
 use Rattle.rules.specs.declared.Item.{Item}
-use Rattle.rules.specs.declared.Batched.{Batched}
+use Rattle.rules.specs.Answer.{Batched}
+use Rattle.rules.specs.declared.LengthError.{LengthError}
 use Rattle.rules.specs.declared.Batching.{Batching}
 use Rattle.batch.specs.declared.Turned.{Turned}
 
@@ -42,22 +43,22 @@ stands_at m = between m.working m.made.session m.made.report
 unfoldable pub begun : List ℕ → List ℕ → Session → Running
 begun w t s =
     elim (lengths_for s w t) [
-      | false ↦ standing Batched.Length (between w s nothing)
-      | true ↦ standing Batched.Done (between w s nothing)
+      | false ↦ standing (Err LengthError.Length) (between w s nothing)
+      | true ↦ standing (Ok tt) (between w s nothing)
     ]
 
 -- an item is inserted
 unfoldable pub tried_of : List ℕ → Running → Item → Turning
 tried_of t m x = record {
   item = answered (item_no t (stands_at m) x) x;
-  running = standing Batched.Done (after_item t (stands_at m) x);
+  running = standing (Ok tt) (after_item t (stands_at m) x);
 }
 
 -- unless the batch is refused
 unfoldable pub turn_of : List ℕ → Running → Item → Turning
 turn_of t m x =
     elim m.made.answer
-    [ Batched.Length ↦ record { item = x; running = m } | Batched.Done ↦ tried_of t m x ]
+    [ Err e ↦ record { item = x; running = m } | Ok u ↦ tried_of t m x ]
 
 -- what stands after all turns, and the items
 unfoldable pub goes : List ℕ → Running → List Item → Running

@@ -14,7 +14,7 @@ ghost use Rattle.std.specs.Prelude.{◌≡◌};
 ghost use Rattle.rules.specs.Batch;
 ghost use Rattle.batch.specs.Turns.{running, turning, begun, tried_of, turn_of, leaving};
 
-use rules::{Batched, Batching, Item, Report, Session};
+use rules::{Batching, Item, LengthError, Report, Session};
 
 // An item with its answer, and what the call would hand back now.
 #[derive(Clone, Copy)]
@@ -30,13 +30,13 @@ fn begin(working: &mut [u8], stable: &[u8], session: Session) -> Batching
     let report = Report::nothing();
     if !tables::lengths_for(session.n, working, stable) {
         return Batching {
-            answer: Batched::Length,
+            answer: Err(LengthError::Length),
             report,
             session,
         };
     }
     Batching {
-        answer: Batched::Done,
+        answer: Ok(()),
         report,
         session,
     }
@@ -67,10 +67,10 @@ fn tried(working: &mut [u8], stable: &[u8], made: Batching, item: Item) -> Turne
             serial: item.serial,
             issue: item.issue,
             value: item.value,
-            answer: numbers::inserted(answer),
+            answer: numbers::number(answer),
         },
         made: Batching {
-            answer: Batched::Done,
+            answer: Ok(()),
             report: before.join(next),
             session: left,
         },
@@ -84,8 +84,8 @@ fn turn(working: &mut [u8], stable: &[u8], made: Batching, item: Item) -> Turned
 {
     let answer = made.answer;
     match answer {
-        Batched::Done => tried(working, stable, made, item),
-        Batched::Length => Turned { item, made },
+        Ok(()) => tried(working, stable, made, item),
+        Err(_) => Turned { item, made },
     }
 }
 

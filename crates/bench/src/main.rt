@@ -105,7 +105,7 @@ fn serve(
 fn main(rt: HostRuntime) {
     let mut working = [0u8; BYTES];
     let mut stable = [0u8; BYTES];
-    format::format(&working, &mut stable);
+    let _ = format::format(&working, &mut stable);
     let opened = opening::open(&mut working, &mut stable);
     let bench = Bench::new(opened.session);
     if let Err(trouble) = serve(rt, &mut working, &mut stable, bench) {

@@ -1,6 +1,6 @@
 -- One line's effect on the bench program's store, in the rules' words: the call that the line asks for, with its answer
 -- as what is to be printed.
-use Rattle.std.specs.Prelude.{ℕ, true, false, List, eqb, Some, None, unwrap_or}
+use Rattle.std.specs.Prelude.{ℕ, true, false, List, eqb, Some, None, unwrap_or, Ok, Err}
 use Rattle.rules.specs.Call.{Left, opened_no, inserted_no, looked_no, synced_no}
 use Rattle.rules.specs.Open.{opening}
 use Rattle.rules.specs.Insert.{insert}
@@ -8,10 +8,7 @@ use Rattle.rules.specs.Lookup.{lookup}
 use Rattle.rules.specs.Sync.{sync}
 use Rattle.rules.specs.Crash.{crashed}
 use Rattle.rules.specs.declared.Session.{Session}
-use Rattle.rules.specs.declared.Opened.{Opened}
-use Rattle.rules.specs.declared.Inserted.{Inserted}
-use Rattle.rules.specs.declared.Looked.{Looked}
-use Rattle.rules.specs.declared.Synced.{Synced}
+use Rattle.rules.specs.Answer.{Opened, Inserted, Looked, Synced}
 use Rattle.lines.specs.declared.Line.{Line}
 use Rattle.words.specs.declared.Reply.{Reply}
 use Rattle.lines.specs.declared.Reader.{Reader}
@@ -41,11 +38,8 @@ opened_reply a = Reply.Answer (opened_no a)
 
 -- after a successful find, the record
 abbrev pub looked_reply : Looked → Reply
-looked_reply (Looked.Found x) = Reply.Record x
-looked_reply Looked.Length = Reply.Answer (looked_no Looked.Length)
-looked_reply Looked.BadKey = Reply.Answer (looked_no Looked.BadKey)
-looked_reply Looked.Damaged = Reply.Answer (looked_no Looked.Damaged)
-looked_reply Looked.Missing = Reply.Answer (looked_no Looked.Missing)
+looked_reply (Ok x) = Reply.Record x
+looked_reply (Err e) = Reply.Answer (looked_no (Err e))
 
 -- ── What a line does ────────────────────────────────────────────────────────────────────────────────────────────
 

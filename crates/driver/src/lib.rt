@@ -55,10 +55,10 @@ pub struct Step {
 fn looked_reply(answer: Looked) -> Reply
     ensures { result ≡ looked_reply answer }
 {
-    if let Looked::Found(x) = answer {
+    if let Ok(x) = answer {
         return Reply::Record(x);
     }
-    Reply::Answer(numbers::looked(answer))
+    Reply::Answer(numbers::number(answer))
 }
 
 // The pages of the stable table as a crash leaves them: those that are written become the working ones.
@@ -89,7 +89,7 @@ fn crash_line(
     }
     let left = opening::open(working, stable);
     Turn {
-        reply: Reply::Answer(numbers::opened(left.answer)),
+        reply: Reply::Answer(numbers::number(left.answer)),
         session: left.session,
     }
 }
@@ -103,7 +103,7 @@ pub fn act(working: &mut Table, stable: &mut Table, session: Session, line: Line
         Line::Insert(model, serial, issue, x) => {
             let left = insert::insert(working, stable, session, model, serial, issue, x);
             Turn {
-                reply: Reply::Answer(numbers::inserted(left.answer)),
+                reply: Reply::Answer(numbers::number(left.answer)),
                 session: left.session,
             }
         }
@@ -117,7 +117,7 @@ pub fn act(working: &mut Table, stable: &mut Table, session: Session, line: Line
         Line::Sync => {
             let left = sync::sync(working, stable, session);
             Turn {
-                reply: Reply::Answer(numbers::synced(left.answer)),
+                reply: Reply::Answer(numbers::number(left.answer)),
                 session: left.session,
             }
         }

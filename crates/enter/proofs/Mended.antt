@@ -10,10 +10,9 @@ use Rattle.fields.specs.Field.{Bytes}
 use Rattle.rules.specs.Layout.{page_size}
 use Rattle.rules.specs.Page.{fresh}
 use Rattle.rules.specs.Table.{page_at, read, build}
-use Rattle.rules.specs.Place.{mendable, mended, cut_view}
+use Rattle.rules.specs.Place.{mendable, mended, cut_view, Why}
 use Rattle.rules.specs.Enter as rules
 use Rattle.rules.specs.declared.Place.{Place}
-use Rattle.rules.specs.declared.Reason.{Reason}
 use Rattle.head.specs.Head.{head_in}
 use Rattle.head.specs.declared.Head.{Head}
 use Rattle.head.proofs.Headers.{head_of, head_in-page}
@@ -58,7 +57,7 @@ head_read t i e = e ∙ head_in-page (page_at t i)
 
 module _ (n c : ℕ) (t : List ℕ) (e : Place) (b : Bytes t) (w : Narrow c e) (l : length t ≡ n * page_size) (h : e.child < n) where
   -- the table after a mend, and the header read there
-  pub mended-told : mendable n e (read t e.previous) ≡ true → (u : List ℕ) (a : Head) (r : Reason)
+  pub mended-told : mendable n e (read t e.previous) ≡ true → (u : List ℕ) (a : Head) (r : Why)
       → u ≡ build t e.child (mended c e (read t e.previous)) → a ≡ head_in (page_at u e.child)
       → entering u (enters.found a r) ≡ told r (rules.mend n c t e)
   mended-told m u a r f g =

@@ -10,10 +10,9 @@ use lib.Dec.{eqb}
 use Rattle.rules.specs.Test.{mem}
 use Rattle.rules.specs.Page.{Page}
 use Rattle.rules.specs.Table.{read, build}
-use Rattle.rules.specs.Place.{fits, mendable, mended}
+use Rattle.rules.specs.Place.{fits, mendable, mended, Why}
 use Rattle.rules.specs.Enter as rules
 use Rattle.rules.specs.declared.Place.{Place}
-use Rattle.rules.specs.declared.Reason.{Reason}
 use Rattle.head.specs.declared.Head.{Head}
 use Rattle.head.proofs.Headers.{head_of}
 use Rattle.enter.specs.Entering as enters
@@ -21,7 +20,7 @@ use Rattle.enter.specs.Entering.{Entering, entering, answer_of, told}
 use Rattle.std.specs.Prelude.{Option as Maybe}
 use Rattle.enter.specs.declared.Entered.{Entered}
 
-module _ (n c : ℕ) (t : List ℕ) (e : Place) (r : Reason) where
+module _ (n c : ℕ) (t : List ℕ) (e : Place) (r : Why) where
   pub mend-damaged : mendable n e (read t e.previous) ≡ false → entering t enters.damaged ≡ told r (rules.mend n c t e)
   unfolding rules.mend told answer_of
   mend-damaged m = rw (m, rules.mend)
@@ -67,11 +66,11 @@ enter-same n c xs ys t e h = rw (h, rules.enter)
 
 -- ── An answer taken apart ───────────────────────────────────────────────────────────────────────────────────────
 
-pub told-table : {t : List ℕ} {a : Maybe Entered} (r : Reason) (x : rules.Entered) → entering t a ≡ told r x → t ≡ x.table
+pub told-table : {t : List ℕ} {a : Maybe Entered} (r : Why) (x : rules.Entered) → entering t a ≡ told r x → t ≡ x.table
 unfolding told
 told-table r x h = ap (λ (y : Entering). y.table) h
 
-pub told-page : {t : List ℕ} (r : Reason) (h : Head) (s : Reason) (x : rules.Entered) → entering t (enters.found h s) ≡ told r x
+pub told-page : {t : List ℕ} (r : Why) (h : Head) (s : Why) (x : rules.Entered) → entering t (enters.found h s) ≡ told r x
     → (p : Page) × (x.page ≡ some p) × (h ≡ head_of p) × (s ≡ r)
 unfolding told answer_of
 told-page r h s x f = go x.page refl (ap (λ (y : Entering). y.answer) f)
@@ -82,7 +81,7 @@ told-page r h s x f = go x.page refl (ap (λ (y : Entering). y.answer) f)
         let same : ◌≡◌ {A = Entered} (record { head = h; reason = s }) (record { head = head_of p; reason = r }) = cc in
         (p, q, ap (λ (y : Entered). y.head) same, ap (λ (y : Entered). y.reason) same)
 
-pub told-damaged : {t : List ℕ} (r : Reason) (x : rules.Entered) → entering t enters.damaged ≡ told r x → x.page ≡ none
+pub told-damaged : {t : List ℕ} (r : Why) (x : rules.Entered) → entering t enters.damaged ≡ told r x → x.page ≡ none
 unfolding told answer_of
 told-damaged r x h = go x.page refl (ap (λ (y : Entering). y.answer) h)
   where

@@ -1,9 +1,9 @@
 -- What entering leaves and answers, as the code says it: the table, the header of the page found, and why it was mended.
+use Rattle.rules.specs.Place.{Why}
 use Rattle.std.specs.Prelude.{ℕ, List, [], ◌∷◌, Option, Some, None}
 use Rattle.std.proofs.Math.Option as math
 use Rattle.rules.specs.Page.{Page}
 use Rattle.rules.specs.Enter as rules
-use Rattle.rules.specs.declared.Reason.{Reason}
 use Rattle.head.specs.declared.Head.{Head}
 use Rattle.head.proofs.Headers.{head_of}
 use Rattle.enter.specs.declared.Above.{Above}
@@ -21,16 +21,16 @@ abbrev pub above_of : Above → List ℕ
 above_of a = a.parent ∷ a.top ∷ []
 
 -- the two answers: a page by its header, and none
-abbrev pub found : Head → Reason → Option Entered
+abbrev pub found : Head → Why → Option Entered
 found h r = Some (record { head = h; reason = r })
 
 abbrev pub damaged : Option Entered
 damaged = None
 
-unfoldable pub answer_of : Reason → math.Option Page → Option Entered
+unfoldable pub answer_of : Why → math.Option Page → Option Entered
 answer_of r math.none = damaged
 answer_of r (math.some p) = found (head_of p) r
 
 -- what the rules leave and find, where the page was lost for a reason
-unfoldable pub told : Reason → rules.Entered → Entering
+unfoldable pub told : Why → rules.Entered → Entering
 told r x = record { table = x.table; answer = answer_of r x.page }

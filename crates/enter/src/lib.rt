@@ -29,7 +29,7 @@ pub struct Above {
 #[derive(Clone, Copy)]
 pub struct Entered {
     pub head: Head,
-    pub reason: Reason,
+    pub reason: Option<Reason>,
 }
 
 fn stands_above(above: Above, child: u16) -> bool
@@ -42,7 +42,7 @@ fn stands_above(above: Above, child: u16) -> bool
 }
 
 // A child that doesn't fit is lost: it is mended where its previous page allows it.
-fn mend(t: &mut [u8], n: usize, c: u32, e: Place, reason: Reason) -> Option<Entered>
+fn mend(t: &mut [u8], n: usize, c: u32, e: Place, reason: Option<Reason>) -> Option<Entered>
     requires { (length t.old ≡ n * page_size) × (e.child < n) }
     ensures { entering t.new result ≡ told reason (mend n c t.old e) }
 {

@@ -12,7 +12,6 @@ use Rattle.rules.specs.Report.{nothing}
 use Rattle.rules.specs.Call.{lengths_for}
 use Rattle.rules.specs.Batch.{between, after_items, items_answered, batch_left, batch}
 use Rattle.rules.specs.declared.Session.{Session}
-use Rattle.rules.specs.declared.Batched.{Batched}
 use Rattle.rules.specs.History.{State, run}
 use Rattle.rules.proofs.Demand1.Batches.{batch_refused, batch-done}
 use Rattle.rules.proofs.Demand3.Histories.Batches.{row_of, Leaves, batch-is_row}
@@ -57,7 +56,7 @@ module _ (w t : List ℕ) (s : Session) (f : List ℕ) where
   pub read_fine : lengths_for s w t ≡ true → judged f ≡ Ok tt
       → let m = between w s nothing in
       let xs = as_items (certs_in f) in
-      read_file w t s f ≡ read_done (batch_left Batched.Done t (after_items t m xs) (items_answered t m xs))
+      read_file w t s f ≡ read_done (batch_left (Ok tt) t (after_items t m xs) (items_answered t m xs))
   read_fine h e = read-batch h e ∙ ap read_done (batch-done w t s (as_items (certs_in f)) h)
 
 -- in a history it is a row of inserts, the refused ones included

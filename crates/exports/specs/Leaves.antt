@@ -2,20 +2,14 @@
 -- numbers beside a refusal are 0.
 use Rattle.std.specs.Prelude.{ℕ, List}
 use Rattle.rules.specs.Report.{Reported, reason_no}
-use Rattle.rules.specs.Call.{Left, formatted_no, inserted_no, withdrawn_no, looked_no, looked_record, newest_no, newest_issue, newest_record, any_no, any_yes, listed_no, listed_count}
-use Rattle.rules.specs.Batch.{BatchLeft, batched_no}
+use Rattle.rules.specs.Call.{batched_no, Left, formatted_no, inserted_no, withdrawn_no, looked_no, looked_record, newest_no, newest_issue, newest_record, any_no, any_yes, listed_no, listed_count}
+use Rattle.rules.specs.Batch.{BatchLeft}
 use Rattle.rules.specs.Format.{Formatting}
 use Rattle.rules.specs.List.{ListLeft}
 use Rattle.rules.specs.declared.Session.{Session}
 use Rattle.rules.specs.declared.Report.{Report}
-use Rattle.rules.specs.declared.Inserted.{Inserted}
-use Rattle.rules.specs.declared.Withdrawn.{Withdrawn}
+use Rattle.rules.specs.Answer.{Inserted, Withdrawn, Batched, Looked, Newest, Any, Listed}
 use Rattle.rules.specs.declared.Item.{Item}
-use Rattle.rules.specs.declared.Batched.{Batched}
-use Rattle.rules.specs.declared.Looked.{Looked}
-use Rattle.rules.specs.declared.Newest.{Newest}
-use Rattle.rules.specs.declared.Any.{Any}
-use Rattle.rules.specs.declared.Listed.{Listed}
 use Rattle.exchange.specs.ReadFile.{Read, read_no, read_count, read_place}
 use Rattle.exports.specs.declared.KhAnswered.{KhAnswered}
 use Rattle.exports.specs.declared.KhChanged.{KhChanged}

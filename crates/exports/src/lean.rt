@@ -78,7 +78,7 @@ pub extern "C" fn kh_lean_lookup(
     let report = left.report;
     let reason = report.reason;
     KhLeanLooked {
-        answer: numbers::looked(answer),
+        answer: numbers::number(answer),
         record: numbers::looked_record(answer),
         mended: report.mended,
         reason: numbers::reason(reason),
@@ -102,7 +102,7 @@ pub extern "C" fn kh_lean_newest(
     let report = left.report;
     let reason = report.reason;
     KhLeanNewest {
-        answer: numbers::newest(answer),
+        answer: numbers::number(answer),
         issue: numbers::newest_issue(answer),
         record: numbers::newest_record(answer),
         mended: report.mended,
@@ -127,7 +127,7 @@ pub extern "C" fn kh_lean_has_any(
     let report = left.report;
     let reason = report.reason;
     KhLeanAny {
-        answer: numbers::any(answer),
+        answer: numbers::number(answer),
         any: numbers::any_yes(answer),
         mended: report.mended,
         reason: numbers::reason(reason),
@@ -153,7 +153,7 @@ pub extern "C" fn kh_lean_list(
     let report = left.report;
     let reason = report.reason;
     KhLeanListed {
-        answer: numbers::listed(answer),
+        answer: numbers::number(answer),
         count: numbers::listed_count(answer),
         mended: report.mended,
         reason: numbers::reason(reason),

@@ -114,7 +114,7 @@ pub extern "C" fn kh_format(working: &[u8], stable: &mut [u8]) -> u32
     ensures { C.formatting result stable.new
         ≡ C.formatted (Format.format working.now stable.old) }
 {
-    numbers::formatted(store::format(working, stable))
+    numbers::number(store::format(working, stable))
 }
 
 #[unsafe(no_mangle)]
@@ -126,7 +126,7 @@ pub extern "C" fn kh_open(working: &mut [u8], stable: &mut [u8]) -> KhAnswered
     let answer = left.answer;
     let session = left.session;
     KhAnswered {
-        answer: numbers::opened(answer),
+        answer: numbers::number(answer),
         session,
     }
 }
@@ -150,7 +150,7 @@ pub extern "C" fn kh_insert(
     let reason = report.reason;
     let session = left.session;
     KhChanged {
-        answer: numbers::inserted(answer),
+        answer: numbers::number(answer),
         mended: report.mended,
         reason: numbers::reason(reason),
         session,
@@ -166,7 +166,7 @@ fn delivered(left: Batching) -> KhChanged
     let reason = report.reason;
     let session = left.session;
     KhChanged {
-        answer: numbers::batched(answer),
+        answer: numbers::number(answer),
         mended: report.mended,
         reason: numbers::reason(reason),
         session,
@@ -205,7 +205,7 @@ pub extern "C" fn kh_withdraw(
     let reason = report.reason;
     let session = left.session;
     KhChanged {
-        answer: numbers::withdrawn(answer),
+        answer: numbers::number(answer),
         mended: report.mended,
         reason: numbers::reason(reason),
         session,
@@ -254,7 +254,7 @@ pub extern "C" fn kh_lookup(
     let report = left.report;
     let reason = report.reason;
     KhLooked {
-        answer: numbers::looked(answer),
+        answer: numbers::number(answer),
         record: numbers::looked_record(answer),
         mended: report.mended,
         reason: numbers::reason(reason),
@@ -278,7 +278,7 @@ pub extern "C" fn kh_newest(
     let report = left.report;
     let reason = report.reason;
     KhNewest {
-        answer: numbers::newest(answer),
+        answer: numbers::number(answer),
         issue: numbers::newest_issue(answer),
         record: numbers::newest_record(answer),
         mended: report.mended,
@@ -303,7 +303,7 @@ pub extern "C" fn kh_has_any(
     let report = left.report;
     let reason = report.reason;
     KhAny {
-        answer: numbers::any(answer),
+        answer: numbers::number(answer),
         any: numbers::any_yes(answer),
         mended: report.mended,
         reason: numbers::reason(reason),
@@ -328,7 +328,7 @@ pub extern "C" fn kh_list(
     let report = left.report;
     let reason = report.reason;
     KhListed {
-        answer: numbers::listed(answer),
+        answer: numbers::number(answer),
         count: numbers::listed_count(answer),
         mended: report.mended,
         reason: numbers::reason(reason),
@@ -368,7 +368,7 @@ pub extern "C" fn kh_sync(working: &mut [u8], stable: &mut [u8], session: Sessio
     let answer = left.answer;
     let session = left.session;
     KhAnswered {
-        answer: numbers::synced(answer),
+        answer: numbers::number(answer),
         session,
     }
 }

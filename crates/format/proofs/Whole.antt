@@ -1,5 +1,6 @@
 -- Format as a whole: what a refused one leaves, the zeros that page 1 is built on, and the table that is made.
 -- Assumes nothing.
+use Rattle.std.specs.Prelude.{Ok, Err}
 use mathlib.Core.Path.{◌≡◌, ap, sym, ◌∙◌}
 use mathlib.Core.Bool.{true, false}
 use mathlib.Core.List.{List, ◌++◌}
@@ -12,11 +13,11 @@ use Rattle.rules.specs.Layout.{page_size, most_pages, zero_kind}
 use Rattle.rules.specs.Page.{blank, build_bytes}
 use Rattle.rules.specs.Table.{set_page, build, pages, good_lengths, set_number, set_root}
 use Rattle.rules.specs.Format.{formatted, format}
-use Rattle.rules.specs.declared.Formatted.{Formatted}
+use Rattle.rules.specs.declared.LengthError.{LengthError}
 use Rattle.rules.proofs.Bytes.Lengths.{good_lengths_true}
 use Rattle.format.specs.Formats.{formatting, named, first_leaf}
 
-pub refused : (w s : List ℕ) → good_lengths w s ≡ false → formatting Formatted.Length s ≡ format w s
+pub refused : (w s : List ℕ) → good_lengths w s ≡ false → formatting (Err LengthError.Length) s ≡ format w s
 unfolding format
 refused w s e = rw (e, format)
 
@@ -47,6 +48,6 @@ pub page-blank : (n bytes : ℕ) → 2 * page_size ≤ bytes → take page_size 
 unfolding blank
 page-blank n bytes h = rw behind-named (part_zeros page_size page_size bytes h)
 
-pub made : (w s : List ℕ) → good_lengths w s ≡ true → formatting Formatted.Done (set_page (named (pages s) (replicate (length s) 0)) 1 (build_bytes first_leaf)) ≡ format w s
+pub made : (w s : List ℕ) → good_lengths w s ≡ true → formatting (Ok tt) (set_page (named (pages s) (replicate (length s) 0)) 1 (build_bytes first_leaf)) ≡ format w s
 unfolding format formatted named build
 made w s e = rw (e, format)

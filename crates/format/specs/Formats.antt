@@ -5,7 +5,7 @@ use Rattle.rules.specs.Layout.{zero_kind, last_key}
 use Rattle.rules.specs.Page.{Page, fresh}
 use Rattle.rules.specs.Table.{set_number, set_root}
 use Rattle.rules.specs.Format.{Formatting, empty_leaf}
-use Rattle.rules.specs.declared.Formatted.{Formatted}
+use Rattle.rules.specs.Answer.{Formatted}
 
 -- what a format leaves
 abbrev pub formatting : Formatted → List ℕ → Formatting

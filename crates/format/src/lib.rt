@@ -14,7 +14,7 @@ ghost use Rattle.format.specs.Formats.{formatting, named, first_leaf};
 
 use rules::{
     AT_BIRTH, AT_BUILT, AT_HIGH, AT_KIND, AT_N, AT_NUMBER, AT_ROOT, AT_ROOT_BIRTH,
-    AT_ROOT_PREVIOUS, AT_TOUCHED, Formatted, LAST_KEY, LEAF, PAGE, ZERO,
+    AT_ROOT_PREVIOUS, AT_TOUCHED, Formatted, LAST_KEY, LEAF, LengthError, PAGE, ZERO,
 };
 
 // Where page 1 ends.
@@ -54,11 +54,11 @@ pub fn format(working: &[u8], stable: &mut [u8]) -> Formatted
     ensures { formatting result stable.new ≡ Format.format working.now stable.old }
 {
     if !tables::good_lengths(working, stable) {
-        return Formatted::Length;
+        return Err(LengthError::Length);
     }
     let n = (stable.len() / PAGE) as u16;
     tables::clear(stable);
     name_root(stable, n);
     empty_leaf(&mut stable[PAGE..PAGE_END]);
-    Formatted::Done
+    Ok(())
 }

@@ -1,4 +1,5 @@
 -- What is planned along a way is what the rules' chain comes to, and where it is to go on all is ready. Assumes nothing.
+use Rattle.std.specs.Prelude.{Ok, Err}
 use Prim.Native.Nat.{ℕ, zero, suc, ◌+◌, ◌*◌, ◌≤◌}
 use native.Mathlib.Omega.{arith}
 use mathlib.Core.Path.{◌≡◌, refl, sym, ap, ◌∙◌, subst}
@@ -17,8 +18,8 @@ use Rattle.rules.specs.Walk as rules
 use Rattle.rules.specs.Call.{Left}
 use Rattle.rules.specs.Insert.{splitting, too_soon, new_pages, no_room, insert_refused, insert_done, insert_along}
 use Rattle.rules.specs.declared.Session.{Session}
-use Rattle.rules.specs.declared.Inserted.{Inserted}
-use Rattle.rules.specs.declared.Looked.{Looked}
+use Rattle.rules.specs.Answer.{Inserted, Looked}
+use Rattle.rules.specs.declared.InsertError.{InsertError}
 use Rattle.rules.proofs.Bytes.All.{All, all_head}
 use Rattle.head.proofs.Headers.{head_of}
 use Rattle.marks.specs.declared.Chosen.{Chosen}
@@ -38,7 +39,7 @@ use Rattle.insert.specs.Inserts.{left, present_in, answer_of, steps_of, Walked, 
 
 -- ── The rules' chain, by the plan ───────────────────────────────────────────────────────────────────────────────
 
-done-goes : (p : Planned) → answer_of p ≡ Inserted.Done → Planned.Go ≡ p
+done-goes : (p : Planned) → answer_of p ≡ Ok tt → Planned.Go ≡ p
 unfolding answer_of
 done-goes Planned.Present e = let z : ◌≡◌ {A = ℕ} 0 1 = cc in absurd (omega arith)
 done-goes Planned.SyncFirst e = let z : ◌≡◌ {A = ℕ} 0 1 = cc in absurd (omega arith)
@@ -50,9 +51,9 @@ module _ (k x : ℕ) (s : Session) (steps : List rules.Step) (w t : List ℕ) wh
   planned = plan_of s (present_in (find k (certs_at steps))) steps
 
   abbrev left_by : Planned → Left Inserted
-  left_by Planned.Present = insert_refused Inserted.Present s w t
-  left_by Planned.SyncFirst = insert_refused Inserted.SyncFirst s w t
-  left_by Planned.Full = insert_refused Inserted.Full s w t
+  left_by Planned.Present = insert_refused (Err InsertError.Present) s w t
+  left_by Planned.SyncFirst = insert_refused (Err InsertError.SyncFirst) s w t
+  left_by Planned.Full = insert_refused (Err InsertError.Full) s w t
   left_by Planned.Go = insert_done k x (counted s) steps w t
 
   along_planned : left_by planned ≡ insert_along k x s steps w t
@@ -67,17 +68,17 @@ module _ (k x : ℕ) (s : Session) (steps : List rules.Step) (w t : List ℕ) wh
       go none f false q false r = rw (f, insert_along, q, r) (rw (plan_of, q, r))
 
   module _ (a : Inserted) (f : a ≡ answer_of planned) where
-    pub refused_along : (a ≡ Inserted.Done → ⊥) → left a s w t ≡ insert_along k x s steps w t
+    pub refused_along : (a ≡ Ok tt → ⊥) → left a s w t ≡ insert_along k x s steps w t
     unfolding insert_refused answer_of
     refused_along n = ap (λ (b : Inserted). insert_refused b s w t) f ∙ (go planned (λ e. n (f ∙ e)) ∙ along_planned)
       where
-        go : (q : Planned) → (answer_of q ≡ Inserted.Done → ⊥) → insert_refused (answer_of q) s w t ≡ left_by q
+        go : (q : Planned) → (answer_of q ≡ Ok tt → ⊥) → insert_refused (answer_of q) s w t ≡ left_by q
         go Planned.Present m = refl
         go Planned.SyncFirst m = refl
         go Planned.Full m = refl
         go Planned.Go m = absurd (m refl)
 
-    pub done_along : a ≡ Inserted.Done → (r : Session) (u : List ℕ) → done r u t ≡ insert_done k x (counted s) steps w t
+    pub done_along : a ≡ Ok tt → (r : Session) (u : List ℕ) → done r u t ≡ insert_done k x (counted s) steps w t
         → left a r u t ≡ insert_along k x s steps w t
     done_along g r u d =
         ap (λ (b : Inserted). left b r u t) g
@@ -105,12 +106,12 @@ module _ (s : Session) (steps : List rules.Step) where
 
 -- ── What a refusal is told by ───────────────────────────────────────────────────────────────────────────────────
 
-pub not_found : (o : Option ℕ) (r : Looked) → r ≡ looked_in o → ((x : ℕ) → r ≡ Looked.Found x → ⊥) → false ≡ present_in o
+pub not_found : (o : Option ℕ) (r : Looked) → r ≡ looked_in o → ((x : ℕ) → r ≡ Ok x → ⊥) → false ≡ present_in o
 unfolding looked_in present_in
 not_found none r e h = refl
 not_found (some x) r e h = absurd (h x e)
 
-pub is_found_lem : (o : Option ℕ) (x : ℕ) → Looked.Found x ≡ looked_in o → true ≡ present_in o
+pub is_found_lem : (o : Option ℕ) (x : ℕ) → Ok x ≡ looked_in o → true ≡ present_in o
 unfolding looked_in present_in
 is_found_lem none x e = let z : ◌≡◌ {A = ℕ} 0 1 = cc in absurd (omega arith)
 is_found_lem (some y) x e = refl
@@ -122,7 +123,7 @@ take-first zero x xs h = absurd (omega arith)
 take-first (suc len) x xs h = (take len xs, refl)
 
 -- no pages, a damaged place
-pub decided-nowhere : (k : ℕ) (s : Session) (w : Way) (t : List ℕ) → w.len ≡ 0 → Inserted.Damaged ≡ decided_on k s w t
+pub decided-nowhere : (k : ℕ) (s : Session) (w : Way) (t : List ℕ) → w.len ≡ 0 → Err InsertError.Damaged ≡ decided_on k s w t
 unfolding decided_on
 decided-nowhere k s w t z = rw (decided_on, eq-eqb w.len 0 z)
 
@@ -183,7 +184,7 @@ module _ {k : ℕ} {t : List ℕ} {s : Session} {w : Way} (W : Walked k t s w) w
       let z = splits-within w few (splits_by (heads_of w)) refl in
       omega (arith, need-is W.headed, need-few w.len (splits_by (heads_of w)) (omega (arith, few)))
 
-  pub ready : (x : Chosen) → x ≡ chosen_by s w → answer_of (plan_of s (present_in (find k (certs_at (steps_of t w)))) (steps_of t w)) ≡ Inserted.Done
+  pub ready : (x : Chosen) → x ≡ chosen_by s w → answer_of (plan_of s (present_in (find k (certs_at (steps_of t w)))) (steps_of t w)) ≡ Ok tt
       → ReadyWay k t (counted s) w x.pages
   unfolding free_pages
   ready x e d = record {

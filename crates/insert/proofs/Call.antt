@@ -1,4 +1,5 @@
 -- What an insert answers, test after test, and what its walk comes to. Assumes nothing.
+use Rattle.std.specs.Prelude.{Ok, Err}
 use Prim.Native.Nat.{ℕ, ◌*◌, ◌^◌, ◌≤◌, ◌<◌}
 use native.Mathlib.Omega.{arith}
 use mathlib.Core.Path.{◌≡◌, refl, sym, ap, ◌∙◌, subst}
@@ -21,7 +22,8 @@ use Rattle.rules.specs.Insert.{insert, insert_key, insert_along, insert_done, in
 use Rattle.rules.specs.Reports.{key_report, insert_reported}
 use Rattle.rules.specs.declared.Session.{Session}
 use Rattle.rules.specs.declared.Report.{Report}
-use Rattle.rules.specs.declared.Inserted.{Inserted}
+use Rattle.rules.specs.Answer.{Inserted}
+use Rattle.rules.specs.declared.InsertError.{InsertError}
 use Rattle.rules.proofs.Demand1.Tested.{tested-length, tested-key, tested-zero, tested-done}
 use Rattle.rules.proofs.Bytes.Lengths.{lengths_for_true}
 use Rattle.marks.specs.declared.Chosen.{Chosen}
@@ -43,11 +45,11 @@ module _ (k x : ℕ) (s : Session) (t : List ℕ) (long : length t ≡ s.n * pag
   way = rules.way_of s.n s.c k t
 
   -- a damaged place was met
-  key-nowhere : (stable : List ℕ) → w.len ≡ 0 → insert_refused Inserted.Damaged s u stable ≡ insert_key k x s t stable
+  key-nowhere : (stable : List ℕ) → w.len ≡ 0 → insert_refused (Err InsertError.Damaged) s u stable ≡ insert_key k x s t stable
   unfolding insert_key
   key-nowhere stable z =
       let d = went-nowhere way u w h s.n k (way-stands s.n s.c k t long fit bytes counter key) z in
-      rw (insert_key, d.0) (ap (λ (v : List ℕ). insert_refused Inserted.Damaged s v stable) d.1)
+      rw (insert_key, d.0) (ap (λ (v : List ℕ). insert_refused (Err InsertError.Damaged) s v stable) d.1)
 
   module _ (o : w.len ≡ 0 → ⊥) where
     gone : Went way u w
@@ -94,14 +96,14 @@ module _ (k x : ℕ) (s : Session) (t : List ℕ) (long : length t ≡ s.n * pag
       unfolding decided_on
       by_plan o = f ∙ rw (decided_on, ne_eqb w.len 0 o)
 
-      damaged : w.len ≡ 0 → a ≡ Inserted.Damaged
+      damaged : w.len ≡ 0 → a ≡ Err InsertError.Damaged
       unfolding decided_on
       damaged z = f ∙ rw (decided_on, eq-eqb w.len 0 z)
 
-      some-pages : a ≡ Inserted.Done → w.len ≡ 0 → ⊥
+      some-pages : a ≡ Ok tt → w.len ≡ 0 → ⊥
       some-pages g z = let e : ◌≡◌ {A = ℕ} 0 1 = cc (damaged z) in omega arith
 
-      pub key-refused : (stable : List ℕ) → (a ≡ Inserted.Done → ⊥) → left a s u stable ≡ insert_key k x s t stable
+      pub key-refused : (stable : List ℕ) → (a ≡ Ok tt → ⊥) → left a s u stable ≡ insert_key k x s t stable
       unfolding insert_refused
       key-refused stable n = go (eqb w.len 0) refl
         where
@@ -113,7 +115,7 @@ module _ (k x : ℕ) (s : Session) (t : List ℕ) (long : length t ≡ s.n * pag
               let o = eqb-false w.len 0 e in
               refused_along k x s (steps_of u w) u stable a (by_plan o) n ∙ key_along o stable
 
-      module _ (g : a ≡ Inserted.Done) where
+      module _ (g : a ≡ Ok tt) where
         pub key-ready : ReadyWay k u (counted s) w y.pages
         key-ready = let o = some-pages g in ready (key-walked o few l b) y q (sym (by_plan o) ∙ g)
 
@@ -132,21 +134,21 @@ has-page n w t r f e =
     omega (arith, l.working, l.least)
 
 module _ (w t : List ℕ) (s : Session) (model serial issue : ℕ) where
-  pub length-tested : lengths_for s w t ≡ false → Inserted.Length ≡ tested_by s w t model serial issue
+  pub length-tested : lengths_for s w t ≡ false → Err InsertError.Length ≡ tested_by s w t model serial issue
   unfolding tested_by
   length-tested l = rw (tested_by, l)
 
   module _ (l : lengths_for s w t ≡ true) where
-    pub key-tested : good_parts model serial issue ≡ false → Inserted.BadKey ≡ tested_by s w t model serial issue
+    pub key-tested : good_parts model serial issue ≡ false → Err InsertError.BadKey ≡ tested_by s w t model serial issue
     unfolding tested_by
     key-tested g = rw (tested_by, l, g)
 
     module _ (g : good_parts model serial issue ≡ true) where
-      pub zero-tested : fit0 s.n w ≡ false → Inserted.Damaged ≡ tested_by s w t model serial issue
+      pub zero-tested : fit0 s.n w ≡ false → Err InsertError.Damaged ≡ tested_by s w t model serial issue
       unfolding tested_by
       zero-tested f = rw (tested_by, l, g, f)
 
-      pub all_tested : fit0 s.n w ≡ true → Inserted.Done ≡ tested_by s w t model serial issue
+      pub all_tested : fit0 s.n w ≡ true → Ok tt ≡ tested_by s w t model serial issue
       unfolding tested_by
       all_tested f = rw (tested_by, l, g, f)
 
@@ -160,8 +162,8 @@ module _ (w t : List ℕ) (s : Session) (model serial issue : ℕ) where
 
     abbrev Told : Inserted → Type 0
     Told a =
-        (a ≡ Inserted.Done → Passed)
-        × ((a ≡ Inserted.Done → ⊥) → insert_refused a s w t ≡ insert w t s model serial issue x)
+        (a ≡ Ok tt → Passed)
+        × ((a ≡ Ok tt → ⊥) → insert_refused a s w t ≡ insert w t s model serial issue x)
 
     good : Bool
     good = good_parts model serial issue
@@ -170,7 +172,7 @@ module _ (w t : List ℕ) (s : Session) (model serial issue : ℕ) where
     along = rules.way_report s.n s.c (key_of model serial issue) w nothing
 
     -- a call that the tests refuse has nothing to report
-    quiet : (tested_by s w t model serial issue ≡ Inserted.Done → ⊥) → key_report w t s model serial issue ≡ nothing
+    quiet : (tested_by s w t model serial issue ≡ Ok tt → ⊥) → key_report w t s model serial issue ≡ nothing
     unfolding key_report good along
     quiet n = go (lengths_for s w t) refl (good_parts model serial issue) refl (fit0 s.n w) refl
       where
@@ -205,12 +207,12 @@ module _ (w t : List ℕ) (s : Session) (model serial issue : ℕ) where
     passed-report p = tested-done s w t good along p.lengths p.parts p.zero
 
     module _ (a : Inserted) (e : a ≡ tested_by s w t model serial issue) where
-      pub nothing-told : (a ≡ Inserted.Done → ⊥) → key_report w t s model serial issue ≡ nothing
+      pub nothing-told : (a ≡ Ok tt → ⊥) → key_report w t s model serial issue ≡ nothing
       nothing-told n = quiet (λ q. n (e ∙ q))
 
-      pub test_refused : (a ≡ Inserted.Done → ⊥) → left a s w t ≡ insert w t s model serial issue x
+      pub test_refused : (a ≡ Ok tt → ⊥) → left a s w t ≡ insert w t s model serial issue x
       unfolding insert_refused
       test_refused n = (subst Told (sym e) tests).1 n
 
-      pub test_passed : a ≡ Inserted.Done → Passed
+      pub test_passed : a ≡ Ok tt → Passed
       test_passed g = (subst Told (sym e) tests).0 g

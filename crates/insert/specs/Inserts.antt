@@ -1,5 +1,5 @@
 -- What an insert hands back, piece by piece, as the rules say it, and what it knows once its way is walked.
-use Rattle.std.specs.Prelude.{ℕ, ◌≤◌, ◌≡◌, Bool, true, false, List, eqb}
+use Rattle.std.specs.Prelude.{ℕ, ◌≤◌, ◌≡◌, Bool, true, false, List, eqb, Ok, Err}
 use Rattle.std.proofs.Math.Option.{Option, some, none}
 use Rattle.rules.specs.Key.{good_parts}
 use Rattle.rules.specs.Entry.{find}
@@ -8,7 +8,8 @@ use Rattle.rules.specs.Report.{Reported}
 use Rattle.rules.specs.Walk.{Step, certs_at}
 use Rattle.rules.specs.Call.{Left, lengths_for}
 use Rattle.rules.specs.declared.Session.{Session}
-use Rattle.rules.specs.declared.Inserted.{Inserted}
+use Rattle.rules.specs.Answer.{Inserted}
+use Rattle.rules.specs.declared.InsertError.{InsertError}
 use Rattle.rules.specs.declared.Inserting.{Inserting}
 use Rattle.rules.proofs.Bytes.All.{All}
 use Rattle.marks.specs.declared.Chosen.{Chosen}
@@ -31,10 +32,10 @@ present_in (some x) = true
 
 -- the answer of an insert that was planned so
 unfoldable pub answer_of : Planned → Inserted
-answer_of Planned.Present = Inserted.Present
-answer_of Planned.SyncFirst = Inserted.SyncFirst
-answer_of Planned.Full = Inserted.Full
-answer_of Planned.Go = Inserted.Done
+answer_of Planned.Present = Err InsertError.Present
+answer_of Planned.SyncFirst = Err InsertError.SyncFirst
+answer_of Planned.Full = Err InsertError.Full
+answer_of Planned.Go = Ok tt
 
 -- the rules' steps, read where their pages stand
 abbrev pub steps_of : List ℕ → Way → List Step
@@ -55,7 +56,7 @@ pub record Walked (k : ℕ) (t : List ℕ) (s : Session) (w : Way) : Type 0 wher
 unfoldable pub decided_on : ℕ → Session → Way → List ℕ → Inserted
 decided_on k s w t =
     elim (eqb w.len 0) [
-      | true ↦ Inserted.Damaged
+      | true ↦ Err InsertError.Damaged
       | false ↦ answer_of (plan_of s (present_in (find k (certs_at (steps_of t w)))) (steps_of t w))
     ]
 
@@ -71,9 +72,9 @@ pub record Deciding (c k : ℕ) (t : List ℕ) (w : Way) (x : Chosen) : Type 0 w
 unfoldable pub tested_by : Session → List ℕ → List ℕ → ℕ → ℕ → ℕ → Inserted
 tested_by s w t model serial issue =
     elim (lengths_for s w t) [
-      | false ↦ Inserted.Length
+      | false ↦ Err InsertError.Length
       | true ↦ elim (good_parts model serial issue) [
-        | false ↦ Inserted.BadKey
-        | true ↦ elim (fit0 s.n w) [ false ↦ Inserted.Damaged | true ↦ Inserted.Done ]
+        | false ↦ Err InsertError.BadKey
+        | true ↦ elim (fit0 s.n w) [ false ↦ Err InsertError.Damaged | true ↦ Ok tt ]
       ]
     ]

@@ -22,7 +22,7 @@ ghost use Rattle.insert.specs.Inserts.{leaving, present_in, answer_of, decided_o
 
 use marks::Chosen;
 use plan::Planned;
-use rules::{Inserted, Inserting, Looked, Report, Session};
+use rules::{InsertError, Inserted, Inserting, Report, Session};
 use way::{Step, Way};
 
 // The key is in the leaf, with any record.
@@ -31,7 +31,7 @@ fn is_present(table: &[u8], leaf: Step, key: u64) -> bool
         × (leaf.head ≡ head_of (read table.now leaf.place.child)) × (Holds (read table.now leaf.place.child).view) }
     ensures { result ≡ present_in (find key (read table.now leaf.place.child).view.certs) }
 {
-    let Looked::Found(_) = lookup::find_at(table, leaf, key) else {
+    let Ok(_) = lookup::find_at(table, leaf, key) else {
         return false;
     };
     true
@@ -42,10 +42,10 @@ fn answer_of(planned: Planned) -> Inserted
     ensures { result ≡ answer_of planned }
 {
     match planned {
-        Planned::Present => Inserted::Present,
-        Planned::SyncFirst => Inserted::SyncFirst,
-        Planned::Full => Inserted::Full,
-        Planned::Go => Inserted::Done,
+        Planned::Present => Err(InsertError::Present),
+        Planned::SyncFirst => Err(InsertError::SyncFirst),
+        Planned::Full => Err(InsertError::Full),
+        Planned::Go => Ok(()),
     }
 }
 
@@ -55,7 +55,7 @@ fn decided(t: &[u8], c: u32, key: u64, way: Way, chosen: Chosen) -> Inserted
     ensures { (d : Deciding c key t.now way chosen) → result ≡ decided_on key d.session way t.now }
 {
     if way.len == 0 {
-        return Inserted::Damaged;
+        return Err(InsertError::Damaged);
     }
     let present = is_present(t, way.leaf, key);
     answer_of(plan::plan(c, way, present, chosen))
@@ -67,15 +67,15 @@ fn tested(working: &[u8], stable: &[u8], n: u16, model: u16, serial: u32, issue:
         → result ≡ tested_by s working.now stable.now model serial issue }
 {
     if !tables::lengths_for(n, working, stable) {
-        return Inserted::Length;
+        return Err(InsertError::Length);
     }
     if !keys::good_parts(model, serial, issue) {
-        return Inserted::BadKey;
+        return Err(InsertError::BadKey);
     }
     if !head::fit0(working, n as usize) {
-        return Inserted::Damaged;
+        return Err(InsertError::Damaged);
     }
-    Inserted::Done
+    Ok(())
 }
 
 pub fn insert(
@@ -91,7 +91,7 @@ pub fn insert(
         ≡ insert_reported working.old stable.now session model serial issue value }
 {
     let tests = tested(working, stable, session.n, model, serial, issue);
-    let Inserted::Done = tests else {
+    let Ok(()) = tests else {
         return Inserting {
             answer: tests,
             report: Report::nothing(),
@@ -103,7 +103,7 @@ pub fn insert(
     let report = went.report;
     let chosen = plan::choose(session, went.way);
     let answer = decided(working, session.c, key, went.way, chosen);
-    let Inserted::Done = answer else {
+    let Ok(()) = answer else {
         return Inserting {
             answer,
             report,

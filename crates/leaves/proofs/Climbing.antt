@@ -12,12 +12,11 @@ use Rattle.rules.specs.Layout.{top_kind, leaf_kind, leaf_header, cert_size, leaf
 use Rattle.rules.specs.Entry.{keys, rising}
 use Rattle.rules.specs.Page.{Page, page_in, count}
 use Rattle.rules.specs.Table.{page_at, read}
-use Rattle.rules.specs.Place.{root_place, kids, pick}
+use Rattle.rules.specs.Place.{root_place, kids, pick, Why}
 use Rattle.rules.specs.Enter as entry
 use Rattle.rules.specs.Report.{Reported, adds, reason_at}
 use Rattle.rules.specs.Walk as rules
 use Rattle.rules.specs.declared.Place.{Place}
-use Rattle.rules.specs.declared.Reason.{Reason}
 use Rattle.rules.specs.declared.Report.{Report}
 use Rattle.rules.proofs.Entries.Places.{fits_true}
 use Rattle.head.specs.declared.Head.{Head}
@@ -155,7 +154,7 @@ module _ {n c k : ℕ} {t₀ t : List ℕ} {x : Above} {e : Place} {level : ℕ}
     damaged upto u h =
         rw (way.damaged-way m.descent o x m.above u h, way.damaged-report m.descent o x m.above u h)
 
-    module _ (u : List ℕ) (h : Head) (why : Reason)
+    module _ (u : List ℕ) (h : Head) (why : Why)
         (f : enters.entering u (enters.found h why) ≡ enters.told (reason_at n t e) (entry.enter n c (enters.above_of x) t e)) where
       head-here : h ≡ head_of (read u e.child)
       head-here = way.head-here m.descent o x m.above u h why f

@@ -1,4 +1,5 @@
 -- The call, by the tests it passed. Assumes nothing.
+use Rattle.std.specs.Prelude.{Err}
 use mathlib.Core.Path.{◌≡◌, refl, sym, ap, ◌∙◌}
 use mathlib.Core.Bool.{Bool, true, false}
 use mathlib.Core.List.{List}
@@ -14,7 +15,7 @@ use Rattle.rules.specs.Walk.{walk_of}
 use Rattle.rules.specs.Call.{lengths_for}
 use Rattle.rules.specs.List as rules
 use Rattle.rules.specs.declared.Session.{Session}
-use Rattle.rules.specs.declared.Listed.{Listed}
+use Rattle.rules.specs.declared.ListError.{ListError}
 use Rattle.rules.specs.declared.Asked.{Asked}
 use Rattle.rules.specs.declared.Report.{Report}
 use Rattle.rules.proofs.Demand1.Tested.{tested-length, tested-zero, tested-done}
@@ -55,21 +56,21 @@ module _ (w t : List ℕ) (s : Session) {n c : ℕ} (same-n : s.n ≡ n) (same-c
   hands x p q = cc
 
   pub bad_length_lem : (y : Report) → y ≡ nothing → lengths_for s w t ≡ false
-      → handed s t (telling w (sought Listed.Length y) ks xs) ≡ list_reported w t s start ks xs
+      → handed s t (telling w (sought (Err ListError.Length) y) ks xs) ≡ list_reported w t s start ks xs
   unfolding rules.list rules.list_refused
   bad_length_lem y q h =
-      hands (telling w (sought Listed.Length y) ks xs) (rw (rules.list, h)) (q ∙ sym (tested-length s w t true along h))
+      hands (telling w (sought (Err ListError.Length) y) ks xs) (rw (rules.list, h)) (q ∙ sym (tested-length s w t true along h))
 
   module _ (h : lengths_for s w t ≡ true) where
     fit0-same : {b : Bool} → fit0 n w ≡ b → fit0 s.n w ≡ b
     fit0-same z = ap (λ (m : ℕ). fit0 m w) same-n ∙ z
 
     pub bad_zero : (y : Report) → y ≡ nothing → fit0 n w ≡ false
-        → handed s t (telling w (sought Listed.Damaged y) ks xs) ≡ list_reported w t s start ks xs
+        → handed s t (telling w (sought (Err ListError.Damaged) y) ks xs) ≡ list_reported w t s start ks xs
     unfolding rules.list rules.list_refused
     bad_zero y q z' =
         let z = fit0-same z' in
-        hands (telling w (sought Listed.Damaged y) ks xs) (rw (rules.list, h, z)) (q ∙ sym (tested-zero s w t true along h refl z))
+        hands (telling w (sought (Err ListError.Damaged) y) ks xs) (rw (rules.list, h, z)) (q ∙ sym (tested-zero s w t true along h refl z))
 
     module _ (z' : fit0 n w ≡ true) where
       z : fit0 s.n w ≡ true

@@ -14,7 +14,7 @@ use Rattle.rules.specs.Report.{Reported, nothing}
 use Rattle.rules.specs.Walk.{Walked, walk_of}
 use Rattle.rules.specs.List.{records_of}
 use Rattle.rules.specs.declared.Asked.{Asked}
-use Rattle.rules.specs.declared.Listed.{Listed}
+use Rattle.rules.specs.declared.ListError.{ListError}
 use Rattle.rules.specs.declared.Report.{Report}
 use Rattle.dry.specs.Walk.{none_marked, dry_over, dry_of}
 use Rattle.dry.specs.declared.Dry.{Dry}
@@ -59,25 +59,25 @@ module _ (n : ℕ) (a : Asked) (t : List ℕ) (fit : fit0 n t ≡ true) (long : 
           (dry-quiet n t fit long c a most bytes narrow (told-still n a t d (sym q ∙ e) k))
 
       pub tell_calm : (m : ℕ) (us vs : List ℕ) → listing m us vs ≡ lists_of ks xs (dry_over n a t).found → (y : Report) → y ≡ nothing
-          → telling t (sought (Listed.Filled m) y) us vs ≡ told ks xs (walk_of n c a t)
+          → telling t (sought (Ok m) y) us vs ≡ told ks xs (walk_of n c a t)
       unfolding told lists_of
       tell_calm m us vs p y z =
-          ap (λ (x : Lists). telling t (sought (Listed.Filled x.filled) y) x.keys x.records) p
-          ∙ (ap (λ (x : Report). telling t (sought (Listed.Filled (length (dry_over n a t).found)) x) (over (keys (dry_over n a t).found) ks) (over (records_of (dry_over n a t).found) xs)) z
+          ap (λ (x : Lists). telling t (sought (Ok x.filled) y) x.keys x.records) p
+          ∙ (ap (λ (x : Report). telling t (sought (Ok (length (dry_over n a t).found)) x) (over (keys (dry_over n a t).found) ks) (over (records_of (dry_over n a t).found) xs)) z
           ∙ ap (told ks xs) (sym calm_walk))
 
 module _ (ks xs : List ℕ) (w : Walked) where
   -- where damage lies ahead, the walk that only mends leaves the lists alone
   pub tell_damaged : w.whole ≡ false → (u : List ℕ) (y : Report) → mending u y ≡ mended_in w
-      → telling u (sought Listed.Damaged y) ks xs ≡ told ks xs w
+      → telling u (sought (Err ListError.Damaged) y) ks xs ≡ told ks xs w
   unfolding told
   tell_damaged h u y q =
-      rw (told, h) (ap (λ (x : Reported (List ℕ)). telling x.left (sought Listed.Damaged x.report) ks xs) q)
+      rw (told, h) (ap (λ (x : Reported (List ℕ)). telling x.left (sought (Err ListError.Damaged) x.report) ks xs) q)
 
   -- where none does, the filling walk has filled them
   pub tell_filled : w.whole ≡ true → (u : List ℕ) (r : Filled) (us vs : List ℕ) → filling u r us vs ≡ filled_in ks xs w
-      → telling u (sought (Listed.Filled r.count) r.report) us vs ≡ told ks xs w
+      → telling u (sought (Ok r.count) r.report) us vs ≡ told ks xs w
   unfolding told filled_in lists_of
   tell_filled h u r us vs q =
       rw (told, h)
-      (ap (λ (x : Fill). telling x.table (sought (Listed.Filled x.lists.filled) x.report) x.lists.keys x.lists.records) q)
+      (ap (λ (x : Fill). telling x.table (sought (Ok x.lists.filled) x.report) x.lists.keys x.lists.records) q)

@@ -1,12 +1,13 @@
 -- What a list hands back, piece by piece, as the rules say it.
-use Rattle.std.specs.Prelude.{ℕ, true, false, List, length}
+use Rattle.std.specs.Prelude.{ℕ, true, false, List, length, Ok, Err}
 use Rattle.rules.specs.Entry.{keys}
 use Rattle.rules.specs.Page.{over}
 use Rattle.rules.specs.Report.{Reported}
 use Rattle.rules.specs.Walk.{Walked}
 use Rattle.rules.specs.List.{ListLeft, records_of}
 use Rattle.rules.specs.declared.Session.{Session}
-use Rattle.rules.specs.declared.Listed.{Listed}
+use Rattle.rules.specs.Answer.{Listed}
+use Rattle.rules.specs.declared.ListError.{ListError}
 use Rattle.rules.specs.declared.Listing.{Listing}
 use Rattle.rules.specs.declared.Report.{Report}
 use Rattle.list.specs.declared.Sought.{Sought}
@@ -47,6 +48,6 @@ sought r x = record { answer = r; report = x }
 unfoldable pub told : List ℕ → List ℕ → Walked → Told
 told ks xs w =
     elim w.whole [
-      | false ↦ telling w.table (sought Listed.Damaged w.report) ks xs
-      | true ↦ telling w.table (sought (Listed.Filled (length w.found)) w.report) (over (keys w.found) ks) (over (records_of w.found) xs)
+      | false ↦ telling w.table (sought (Err ListError.Damaged) w.report) ks xs
+      | true ↦ telling w.table (sought (Ok (length w.found)) w.report) (over (keys w.found) ks) (over (records_of w.found) xs)
     ]

@@ -22,7 +22,7 @@ ghost use Rattle.rules.specs.declared.Session.{Session};
 ghost use Rattle.fill.specs.Fills.{Roomy};
 ghost use Rattle.list.specs.Lists.{beside, leaving, telling, told};
 
-use rules::{Asked, LAST_KEY, Listed, Listing, Report, Session};
+use rules::{Asked, LAST_KEY, ListError, Listed, Listing, Report, Session};
 use std::cmp::min;
 
 // An answer, and what was mended on the way.
@@ -53,21 +53,21 @@ fn look(t: &mut [u8], n: usize, c: u32, a: Asked, keys: &mut [u64], records: &mu
     let Ok(ahead) = dry::dry_of(t, n, a) else {
         let report = fill::mend(t, n, c, a);
         return Sought {
-            answer: Listed::Damaged,
+            answer: Err(ListError::Damaged),
             report,
         };
     };
     if ahead.mends_nothing() {
         let known = fill::fill_known(t, n, a, keys, records);
         return Sought {
-            answer: Listed::Filled(known),
+            answer: Ok(known),
             report: Report::nothing(),
         };
     }
     let filled = fill::fill(t, n, c, a, keys, records);
     let report = filled.report;
     Sought {
-        answer: Listed::Filled(filled.count),
+        answer: Ok(filled.count),
         report,
     }
 }
@@ -88,14 +88,14 @@ pub fn lean(
 {
     if !tables::lengths_for(n, working, stable) {
         return Sought {
-            answer: Listed::Length,
+            answer: Err(ListError::Length),
             report: Report::nothing(),
         };
     }
     let pages = n as usize;
     if !head::fit0(working, pages) {
         return Sought {
-            answer: Listed::Damaged,
+            answer: Err(ListError::Damaged),
             report: Report::nothing(),
         };
     }

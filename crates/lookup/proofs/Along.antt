@@ -5,14 +5,15 @@ use mathlib.Core.Option.{Option, some, none}
 use Prim.Native.Nat.{ℕ, ◌≤◌, ◌<◌}
 use native.Mathlib.Omega.{arith}
 use lib.ListN.{length}
-use Rattle.std.specs.Prelude.{Some, None}
+use Rattle.std.specs.Prelude.{Some, None, Err}
 use Rattle.rules.specs.Layout.{leaf_room}
 use Rattle.rules.specs.Entry.{find}
 use Rattle.rules.specs.Page.{Page, page_in}
 use Rattle.rules.specs.Table.{page_at, read}
 use Rattle.rules.specs.Walk as rules
 use Rattle.rules.specs.Lookup.{found_in}
-use Rattle.rules.specs.declared.Looked.{Looked}
+use Rattle.rules.specs.Answer.{Looked}
+use Rattle.rules.specs.declared.FindError.{FindError}
 use Rattle.rules.specs.declared.Report.{Report}
 use Rattle.rules.proofs.Bytes.All.{All, all_head}
 use Rattle.head.proofs.Headers.{head_of}
@@ -32,12 +33,12 @@ module _ (n k : ℕ) (x : rules.Way) (u : List ℕ) (a : (steps : List rules.Ste
   not_empty q = omega (arith, ap length (a [] q).are)
 
   -- no end: a damaged place was met
-  pub no_leaf : ending u None ≡ end_in k x → looked u Looked.Damaged ≡ looked_along k x
+  pub no_leaf : ending u None ≡ end_in k x → looked u (Err FindError.Damaged) ≡ looked_along k x
   unfolding end_in end_or looked_along answer_on
   no_leaf h = go x.steps refl (ap (λ (y : Ending). y.end) h)
     where
-      go : (o : Option (List rules.Step)) → x.steps ≡ o → None ≡ end_or k x.table o → looked u Looked.Damaged ≡ looked_along k x
-      go none q f = rw q (ap (λ (y : Ending). looked y.table Looked.Damaged) h)
+      go : (o : Option (List rules.Step)) → x.steps ≡ o → None ≡ end_or k x.table o → looked u (Err FindError.Damaged) ≡ looked_along k x
+      go none q f = rw q (ap (λ (y : Ending). looked y.table (Err FindError.Damaged)) h)
       go (some []) q f = absurd (not_empty q)
       go (some (s ∷ ss)) q f = absurd (let z : ◌≡◌ {A = ℕ} 0 1 = cc in omega arith)
 

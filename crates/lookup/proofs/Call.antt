@@ -1,4 +1,5 @@
 -- What a lookup answers, test after test. Assumes nothing.
+use Rattle.std.specs.Prelude.{Err}
 use mathlib.Core.Path.{◌≡◌, refl, sym, ap, ◌∙◌}
 use mathlib.Core.Bool.{Bool, true, false}
 use mathlib.Core.List.{List}
@@ -13,7 +14,8 @@ use Rattle.rules.specs.Lookup.{lookup, lookup_key, lookup_left}
 use Rattle.rules.specs.Reports.{key_report, lookup_reported}
 use Rattle.rules.specs.declared.Session.{Session}
 use Rattle.rules.specs.declared.Report.{Report}
-use Rattle.rules.specs.declared.Looked.{Looked}
+use Rattle.rules.specs.Answer.{Looked}
+use Rattle.rules.specs.declared.FindError.{FindError}
 use Rattle.rules.proofs.Demand1.Tested.{tested-length, tested-key, tested-zero, tested-done}
 use Rattle.way.specs.Ways.{reported}
 use Rattle.lookup.specs.declared.Sought.{Sought}
@@ -31,13 +33,13 @@ module _ (w t : List ℕ) (s : Session) {n c : ℕ} (same-n : s.n ≡ n) (same-c
   along = way_report s.n s.c (key_of model serial issue) w nothing
 
   pub bad_length_lem : {x : Report} → lengths_for s w t ≡ false → x ≡ nothing
-      → leaving (record { answer = Looked.Length; report = x; session = s }) w t ≡ lookup_reported w t s model serial issue
+      → leaving (record { answer = Err FindError.Length; report = x; session = s }) w t ≡ lookup_reported w t s model serial issue
   unfolding lookup lookup_left key_report along
   bad_length_lem l q = told model serial issue w (rw (lookup, l)) (q ∙ sym (tested-length s w t (good_parts model serial issue) along l))
 
   module _ (l : lengths_for s w t ≡ true) where
     pub bad_key : {x : Report} → good_parts model serial issue ≡ false → x ≡ nothing
-        → leaving (record { answer = Looked.BadKey; report = x; session = s }) w t ≡ lookup_reported w t s model serial issue
+        → leaving (record { answer = Err FindError.BadKey; report = x; session = s }) w t ≡ lookup_reported w t s model serial issue
     unfolding lookup lookup_left key_report along
     bad_key g q = told model serial issue w (rw (lookup, l, g)) (q ∙ sym (tested-key s w t (good_parts model serial issue) along l g))
 
@@ -46,7 +48,7 @@ module _ (w t : List ℕ) (s : Session) {n c : ℕ} (same-n : s.n ≡ n) (same-c
       fit0-same z = ap (λ (m : ℕ). fit0 m w) same-n ∙ z
 
       pub bad_zero : {x : Report} → fit0 n w ≡ false → x ≡ nothing
-          → leaving (record { answer = Looked.Damaged; report = x; session = s }) w t ≡ lookup_reported w t s model serial issue
+          → leaving (record { answer = Err FindError.Damaged; report = x; session = s }) w t ≡ lookup_reported w t s model serial issue
       unfolding lookup lookup_left key_report along
       bad_zero z q =
           let f = fit0-same z in

@@ -1,4 +1,5 @@
 -- A leaf's certificates by the spot of a key: the entry before it has the key, or none has. Assumes nothing.
+use Rattle.std.specs.Prelude.{Ok, Err}
 use mathlib.Core.Path.{◌≡◌, refl, sym, ap, ◌∙◌}
 use mathlib.Core.Bool.{Bool, true, false}
 use mathlib.Core.List.{List}
@@ -11,7 +12,7 @@ use lib.Seq.{drop-drop}
 use Rattle.rules.specs.Layout.{leaf_header, cert_size, leaf_room}
 use Rattle.rules.specs.Entry.{Cert, keys, find, rising}
 use Rattle.rules.specs.Page.{cert_in, view_in, page_in}
-use Rattle.rules.specs.declared.Looked.{Looked}
+use Rattle.rules.specs.declared.FindError.{FindError}
 use Rattle.rules.proofs.Bytes.Each.{read_each-at}
 use Rattle.head.specs.Head.{cert_at}
 use Rattle.head.specs.declared.Head.{Head}
@@ -26,30 +27,30 @@ use Rattle.lookup.specs.Looks.{found_before, looked_in}
 -- ── The entry before a spot, as the code looks at it ────────────────────────────────────────────────────────────
 
 module _ (b : List ℕ) (k : ℕ) where
-  pub first-missing : (s : ℕ) → s ≡ 0 → Looked.Missing ≡ found_before k s b
+  pub first-missing : (s : ℕ) → s ≡ 0 → Err FindError.Missing ≡ found_before k s b
   unfolding found_before
   first-missing s z = rw z
 
-  before_same : (j : ℕ) → (cert_at b j).key ≡ k → found_before k (suc j) b ≡ Looked.Found (cert_at b j).value
+  before_same : (j : ℕ) → (cert_at b j).key ≡ k → found_before k (suc j) b ≡ Ok (cert_at b j).value
   unfolding found_before
   before_same j q = rw (found_before, eq-eqb (cert_at b j).key k q)
 
-  before-other : (j : ℕ) → ((cert_at b j).key ≡ k → ⊥) → found_before k (suc j) b ≡ Looked.Missing
+  before-other : (j : ℕ) → ((cert_at b j).key ≡ k → ⊥) → found_before k (suc j) b ≡ Err FindError.Missing
   unfolding found_before
   before-other j n = rw (found_before, ne_eqb (cert_at b j).key k n)
 
-  pub other-missing : (s j : ℕ) → (s ≡ 0 → ⊥) → j ≡ (cert_at b (s - 1)).key → (j ≡ k → ⊥) → Looked.Missing ≡ found_before k s b
+  pub other-missing : (s j : ℕ) → (s ≡ 0 → ⊥) → j ≡ (cert_at b (s - 1)).key → (j ≡ k → ⊥) → Err FindError.Missing ≡ found_before k s b
   other-missing zero j o f n = absurd (o refl)
   other-missing (suc i) j o f n =
       let e : suc i - 1 ≡ i = omega arith in
       sym (before-other i (λ q. n ((rw e at f) ∙ q)))
 
   pub found_here : (s j v : ℕ) → (s ≡ 0 → ⊥) → j ≡ (cert_at b (s - 1)).key → j ≡ k → v ≡ (cert_at b (s - 1)).value
-      → Looked.Found v ≡ found_before k s b
+      → Ok v ≡ found_before k s b
   found_here zero j v o f q g = absurd (o refl)
   found_here (suc i) j v o f q g =
       let e : suc i - 1 ≡ i = omega arith in
-      ap Looked.Found (rw e at g) ∙ sym (before_same i (sym (rw e at f) ∙ q))
+      ap Ok (rw e at g) ∙ sym (before_same i (sym (rw e at f) ∙ q))
 
 -- ── Among keys that rise ────────────────────────────────────────────────────────────────────────────────────────
 
@@ -84,7 +85,7 @@ module _ (b : List ℕ) (count : ℕ) (r : rising (keys (certs_in count b)) ≡ 
             last true z =
                 let f = eqb-true (cert_at b j).key k z in
                 rw (find-spot k j (certs_in count b) (cert_at b 0) r q (ap (λ (x : Cert). x.key) here ∙ f))
-                (before_same b k j f ∙ ap Looked.Found (sym (ap (λ (x : Cert). x.value) here)))
+                (before_same b k j f ∙ ap Ok (sym (ap (λ (x : Cert). x.value) here)))
             last false z =
                 let f = eqb-false (cert_at b j).key k z in
                 rw (find_absent k j (certs_in count b) (cert_at b 0) r q (λ y. f (sym (ap (λ (x : Cert). x.key) here) ∙ y)))

@@ -29,7 +29,7 @@ ghost use Rattle.way.specs.Ways.{Holds, reported};
 ghost use Rattle.lookup.specs.Looks.{found_before, looked_in, beside, leaving, looking, looked_along};
 
 use entries::Entries;
-use rules::{Looked, Looking, PAGE, Report, Session};
+use rules::{FindError, Looked, Looking, PAGE, Report, Session};
 use way::Step;
 
 // What stands under a key in a leaf, by the key's spot: the entry before it has the key, or none has.
@@ -38,12 +38,12 @@ fn find_in(page: &[u8], spot: usize, key: u64) -> Looked
     ensures { result ≡ found_before key spot page.now }
 {
     if spot == 0 {
-        return Looked::Missing;
+        return Err(FindError::Missing);
     }
     if head::cert_key(page, spot - 1) != key {
-        return Looked::Missing;
+        return Err(FindError::Missing);
     }
-    Looked::Found(head::cert_record(page, spot - 1))
+    Ok(head::cert_record(page, spot - 1))
 }
 
 // The same on page i of a table.
@@ -94,7 +94,7 @@ fn look(t: &mut [u8], n: usize, c: u32, key: u64) -> Sought
     let report = ended.report;
     let Some(end) = ended.end else {
         return Sought {
-            answer: Looked::Damaged,
+            answer: Err(FindError::Damaged),
             report,
         };
     };
@@ -119,20 +119,20 @@ pub fn lean(
 {
     if !tables::lengths_for(n, working, stable) {
         return Sought {
-            answer: Looked::Length,
+            answer: Err(FindError::Length),
             report: Report::nothing(),
         };
     }
     if !keys::good_parts(model, serial, issue) {
         return Sought {
-            answer: Looked::BadKey,
+            answer: Err(FindError::BadKey),
             report: Report::nothing(),
         };
     }
     let pages = n as usize;
     if !head::fit0(working, pages) {
         return Sought {
-            answer: Looked::Damaged,
+            answer: Err(FindError::Damaged),
             report: Report::nothing(),
         };
     }

@@ -1,4 +1,5 @@
 -- The call, by the tests it passed. Assumes nothing.
+use Rattle.std.specs.Prelude.{Err}
 use mathlib.Core.Path.{◌≡◌, refl, sym, ap, ◌∙◌}
 use mathlib.Core.Bool.{Bool, true, false, ◌&&◌}
 use mathlib.Core.List.{List}
@@ -15,7 +16,8 @@ use Rattle.rules.specs.Call.{Left, lengths_for}
 use Rattle.rules.specs.Newest as rules
 use Rattle.rules.specs.Reports.{once_tested, newest_reported}
 use Rattle.rules.specs.declared.Session.{Session}
-use Rattle.rules.specs.declared.Newest.{Newest}
+use Rattle.rules.specs.Answer.{Newest}
+use Rattle.rules.specs.declared.FindError.{FindError}
 use Rattle.rules.specs.declared.Asked.{Asked}
 use Rattle.rules.specs.declared.Report.{Report}
 use Rattle.rules.proofs.Demand1.Tested.{tested-length, tested-key, tested-zero, tested-done}
@@ -57,18 +59,18 @@ module _ (w t : List ℕ) (s : Session) {n c : ℕ} (same-n : s.n ≡ n) (same-c
   told p q = cc
 
   pub bad_length_lem : {x : Report} → lengths_for s w t ≡ false → x ≡ nothing
-      → leaving (record { answer = Newest.Length; report = x; session = s }) w t ≡ newest_reported w t s model serial
+      → leaving (record { answer = Err FindError.Length; report = x; session = s }) w t ≡ newest_reported w t s model serial
   unfolding rules.newest rules.newest_left
   bad_length_lem h q = told (rw (rules.newest, h)) (q ∙ sym (tested-length s w t good along h))
 
   module _ (h : lengths_for s w t ≡ true) where
     bad_key : {x : Report} → good ≡ false → x ≡ nothing
-        → leaving (record { answer = Newest.BadKey; report = x; session = s }) w t ≡ newest_reported w t s model serial
+        → leaving (record { answer = Err FindError.BadKey; report = x; session = s }) w t ≡ newest_reported w t s model serial
     unfolding rules.newest rules.newest_left good
     bad_key k q = told (rw (rules.newest, h, k)) (q ∙ sym (tested-key s w t good along h k))
 
     pub bad_model : {x : Report} → model ≡ 0 → x ≡ nothing
-        → leaving (record { answer = Newest.BadKey; report = x; session = s }) w t ≡ newest_reported w t s model serial
+        → leaving (record { answer = Err FindError.BadKey; report = x; session = s }) w t ≡ newest_reported w t s model serial
     unfolding good
     bad_model z = bad_key (rw (le-ltb 0 model (omega arith)))
 
@@ -77,7 +79,7 @@ module _ (w t : List ℕ) (s : Session) {n c : ℕ} (same-n : s.n ≡ n) (same-c
       model-above = lt-ltb 0 model (omega arith)
 
       pub bad_serial : {x : Report} → serial ≡ 0 → x ≡ nothing
-          → leaving (record { answer = Newest.BadKey; report = x; session = s }) w t ≡ newest_reported w t s model serial
+          → leaving (record { answer = Err FindError.BadKey; report = x; session = s }) w t ≡ newest_reported w t s model serial
       unfolding good
       bad_serial z = bad_key (rw (model-above, le-ltb 0 serial (omega arith)))
 
@@ -90,7 +92,7 @@ module _ (w t : List ℕ) (s : Session) {n c : ℕ} (same-n : s.n ≡ n) (same-c
         fit0-same z = ap (λ (m : ℕ). fit0 m w) same-n ∙ z
 
         pub bad_zero : {x : Report} → fit0 n w ≡ false → x ≡ nothing
-            → leaving (record { answer = Newest.Damaged; report = x; session = s }) w t ≡ newest_reported w t s model serial
+            → leaving (record { answer = Err FindError.Damaged; report = x; session = s }) w t ≡ newest_reported w t s model serial
         unfolding rules.newest rules.newest_left good
         bad_zero z' q =
             let z = fit0-same z' in

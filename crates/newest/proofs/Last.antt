@@ -1,4 +1,5 @@
 -- The newest of a leaf's certificates in a range is the last one not above it, if that is not below it. Assumes nothing.
+use Rattle.std.specs.Prelude.{Err, Ok}
 use Prim.Native.Nat.{ℕ, zero, suc, ◌≤◌, ◌<◌}
 use native.Mathlib.Omega.{arith}
 use mathlib.Core.Path.{◌≡◌, refl, sym, ap, ◌∙◌}
@@ -11,7 +12,8 @@ use Rattle.rules.specs.Key.{issue_of}
 use Rattle.rules.specs.Test.{mem}
 use Rattle.rules.specs.Entry.{Cert, keys, cut, rising}
 use Rattle.rules.specs.Newest.{newest_in}
-use Rattle.rules.specs.declared.Newest.{Newest}
+use Rattle.rules.specs.Answer.{Newest, newest_is}
+use Rattle.rules.specs.declared.FindError.{FindError}
 use Rattle.rules.proofs.Entries.Tests.{between-of, between-below, between-above, mem-at}
 use Rattle.rules.proofs.Entries.Rises.{rises-mem, rising-from, rising_tail, get_d_keys, length-keys}
 use Rattle.rules.proofs.Entries.Entries.{cut_in, cut_out, cut-nil, cut-none}
@@ -25,9 +27,9 @@ use Rattle.newest.specs.Newests.{or_this}
 -- the newest once these have been passed too
 unfoldable pub newest_after : Newest → List Cert → Newest
 newest_after before [] = before
-newest_after before (x ∷ xs) = newest_after (Newest.Found (issue_of x.key) x.value) xs
+newest_after before (x ∷ xs) = newest_after (Ok (newest_is (issue_of x.key) x.value)) xs
 
-newest-after : (xs : List Cert) → newest_in xs ≡ newest_after Newest.Missing xs
+newest-after : (xs : List Cert) → newest_in xs ≡ newest_after (Err FindError.Missing) xs
 unfolding newest_in newest_after
 newest-after [] = refl
 newest-after (x ∷ []) = refl
@@ -36,16 +38,16 @@ newest-after (x ∷ (y ∷ ys)) = newest-after (y ∷ ys)
 after-append : (before : Newest) (xs ys : List Cert) → newest_after before (xs ++ ys) ≡ newest_after (newest_after before xs) ys
 unfolding newest_after
 after-append before [] ys = refl
-after-append before (x ∷ xs) ys = after-append (Newest.Found (issue_of x.key) x.value) xs ys
+after-append before (x ∷ xs) ys = after-append (Ok (newest_is (issue_of x.key) x.value)) xs ys
 
 pub newest-append : (xs ys : List Cert) → newest_in (xs ++ ys) ≡ newest_after (newest_in xs) ys
 newest-append xs ys =
     newest-after (xs ++ ys)
-    ∙ (after-append Newest.Missing xs ys ∙ ap (λ (a : Newest). newest_after a ys) (sym (newest-after xs)))
+    ∙ (after-append (Err FindError.Missing) xs ys ∙ ap (λ (a : Newest). newest_after a ys) (sym (newest-after xs)))
 
 -- ── The last of a range ─────────────────────────────────────────────────────────────────────────────────────────
 
-pub this_in : (low : ℕ) (x : Cert) (before : Newest) → low ≤ x.key → or_this low x before ≡ Newest.Found (issue_of x.key) x.value
+pub this_in : (low : ℕ) (x : Cert) (before : Newest) → low ≤ x.key → or_this low x before ≡ Ok (newest_is (issue_of x.key) x.value)
 unfolding or_this
 this_in low x before h = rw (le-leb low x.key h, or_this)
 
@@ -73,13 +75,13 @@ module _ (low high : ℕ) (d : Cert) where
 
       -- where this one is not below the range, none behind it is
       one_more_lem : low ≤ x.key → (s : ℕ) → s ≤ length xs
-          → last_before low s xs d (Newest.Found (issue_of x.key) x.value) ≡ or_this low (get_or (x ∷ xs) s d) before
+          → last_before low s xs d (Ok (newest_is (issue_of x.key) x.value)) ≡ or_this low (get_or (x ∷ xs) s d) before
       one_more_lem l zero h = sym (this_in low x before l)
       one_more_lem l (suc j) h =
           let y = get_or xs j d in
           let k : x.key < y.key =
           omega (arith, get_d_keys xs j d, later (get_or (keys xs) j d.key) (mem-at (keys xs) j d.key (omega (arith, length-keys xs)))) in
-          this_in low y (Newest.Found (issue_of x.key) x.value) (omega arith) ∙ sym (this_in low y before (omega arith))
+          this_in low y (Ok (newest_is (issue_of x.key) x.value)) (omega arith) ∙ sym (this_in low y before (omega arith))
 
       -- where this one is below the range, it counts for nothing
       one_less : x.key < low → (s : ℕ) → last_before low s xs d before ≡ or_this low (get_or (x ∷ xs) s d) before
@@ -102,7 +104,7 @@ module _ (low high : ℕ) (d : Cert) where
           let h = leb-true x.key high p in
           let l = leb-true low x.key q in
           ap (newest_after before) (cut_in low high x xs (between-of low high x.key l h))
-          ∙ (ih (Newest.Found (issue_of x.key) x.value)
+          ∙ (ih (Ok (newest_is (issue_of x.key) x.value))
           ∙ (one_more_lem l (spot_of high (keys xs)) (omega (arith, spot-bound high (keys xs), length-keys xs))
           ∙ ap up_to (sym (spot-cons high x.key (keys xs) h))))
       go true p false q ih =

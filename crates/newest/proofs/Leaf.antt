@@ -1,4 +1,5 @@
 -- A leaf's last certificate of a range, as the code looks at it. Assumes nothing.
+use Rattle.std.specs.Prelude.{Ok}
 use Prim.Native.Nat.{ℕ, zero, suc, ◌-◌, ◌%◌, ◌≤◌, ◌<◌}
 use native.Mathlib.Omega.{arith}
 use mathlib.Core.Path.{◌≡◌, refl, sym, ap, ◌∙◌}
@@ -10,7 +11,7 @@ use Rattle.rules.specs.Key.{issue_of}
 use Rattle.rules.specs.Entry.{Cert}
 use Rattle.rules.specs.Page.{cert_in, page_in}
 use Rattle.rules.specs.Table.{page_at, read}
-use Rattle.rules.specs.declared.Newest.{Newest}
+use Rattle.rules.specs.Answer.{Newest, newest_is}
 use Rattle.rules.proofs.Bytes.Each.{read_each-at, length-read_each}
 use Rattle.head.specs.Head.{cert_at}
 use Rattle.head.proofs.Headers.{head_of}
@@ -33,7 +34,7 @@ module _ (low : ℕ) (b : List ℕ) (before : Newest) where
     pub last-below : k < low → before ≡ last_in low s b before
     last-below h = sym (last_this s o ∙ this_below low (cert_at b (s - 1)) before (omega (arith, f)))
 
-    pub last-here : low ≤ k → (v : ℕ) → v ≡ (cert_at b (s - 1)).value → Newest.Found (k % 65536) v ≡ last_in low s b before
+    pub last-here : low ≤ k → (v : ℕ) → v ≡ (cert_at b (s - 1)).value → Ok (newest_is (k % 65536) v) ≡ last_in low s b before
     unfolding issue_of
     last-here h v g = rw (f, g) (sym (last_this s o ∙ this_in low (cert_at b (s - 1)) before (omega (arith, f))))
 

@@ -1,5 +1,6 @@
 -- Newest goes from leaf to leaf: what is left to do is the rules' walk behind the last leaf, and the answer so far is that of
 -- the certificates found so far; the report is that of the ways so far. Assumes nothing.
+use Rattle.std.specs.Prelude.{Err}
 use Prim.Native.Nat.{ℕ, ◌+◌, ◌-◌, ◌≤◌, ◌<◌}
 use native.Mathlib.Omega.{arith}
 use mathlib.Core.Path.{◌≡◌, refl, sym, ap, ◌∙◌}
@@ -15,7 +16,8 @@ use Rattle.rules.specs.Report.{nothing}
 use Rattle.rules.specs.Walk.{Way, way_of, way_report, Walked, finds, stops, walk_of}
 use Rattle.rules.specs.Newest.{newest_in}
 use Rattle.rules.specs.declared.Asked.{Asked}
-use Rattle.rules.specs.declared.Newest.{Newest}
+use Rattle.rules.specs.Answer.{Newest}
+use Rattle.rules.specs.declared.FindError.{FindError}
 use Rattle.rules.specs.declared.Report.{Report}
 use Rattle.rules.proofs.Entries.Rises.{length-keys}
 use Rattle.entries.proofs.KeysIn.{spot-bound}
@@ -55,7 +57,7 @@ pub record Going (n c low high : ℕ) (t₀ t : List ℕ) (newest : Newest) (cur
   pub ground : Ground n c t
 
 pub goes_first : {n c low high : ℕ} {t : List ℕ} {cursor : Above} {report : Report} → Ground n c t → low ≤ high → high < low + last_key → high ≤ last_key
-    → cursor ≡ no_cursor → report ≡ nothing → Going n c low high t t Newest.Missing cursor low report
+    → cursor ≡ no_cursor → report ≡ nothing → Going n c low high t t (Err FindError.Missing) cursor low report
 unfolding newest_in
 goes_first {n} {c} {low} {high} {t} {cursor} g h s m q o = record {
   found = [];
@@ -81,11 +83,11 @@ module _ {n c low high : ℕ} {t₀ t : List ℕ} {newest : Newest} {cursor : Ab
 
   -- damage ends the walk
   pub ends-damaged : {y : Report} → r ≡ Stepped.Damaged y
-      → seeing u (record { answer = Newest.Damaged; report = y }) ≡ seen (walk_of n c (range low high) t₀)
+      → seeing u (record { answer = Err FindError.Damaged; report = y }) ≡ seen (walk_of n c (range low high) t₀)
   unfolding answer_of stops
   ends-damaged {y} e =
       let q = next-damaged x.ground key-within high report y (ap (nexting u) (sym e) ∙ f) in
-      ap (λ (z : Report). seeing u (record { answer = Newest.Damaged; report = z })) q.1
+      ap (λ (z : Report). seeing u (record { answer = Err FindError.Damaged; report = z })) q.1
       ∙ sym (ap seen (x.left ∙ (climb_damaged x.ground asks (ap (λ (w : Way). w.steps) q.0)
       ∙ ap (λ (w : Way). stops (sofar t x.found (way_report n c key t report)) w.table) q.0)))
 

@@ -1,5 +1,5 @@
 -- What the call newest hands back, piece by piece, as the rules say it.
-use Rattle.std.specs.Prelude.{ℕ, zero, suc, true, false, List, leb}
+use Rattle.std.specs.Prelude.{ℕ, zero, suc, true, false, List, leb, Err, Ok}
 use Rattle.rules.specs.Layout.{last_key}
 use Rattle.rules.specs.Key.{issue_of}
 use Rattle.rules.specs.Entry.{Cert}
@@ -9,7 +9,8 @@ use Rattle.rules.specs.Call.{Left}
 use Rattle.rules.specs.Newest.{newest_in}
 use Rattle.rules.specs.declared.Session.{Session}
 use Rattle.rules.specs.declared.Asked.{Asked}
-use Rattle.rules.specs.declared.Newest.{Newest}
+use Rattle.rules.specs.Answer.{Newest, newest_is}
+use Rattle.rules.specs.declared.FindError.{FindError}
 use Rattle.rules.specs.declared.NewestOf.{NewestOf}
 use Rattle.rules.specs.declared.Report.{Report}
 use Rattle.head.specs.Head.{cert_at}
@@ -32,7 +33,7 @@ range low high = record { low = low; high = high; room = last_key }
 
 -- the newest is now this certificate, if it is not below the range
 unfoldable pub or_this : ℕ → Cert → Newest → Newest
-or_this low x before = elim (leb low x.key) [ true ↦ Newest.Found (issue_of x.key) x.value | false ↦ before ]
+or_this low x before = elim (leb low x.key) [ true ↦ Ok (newest_is (issue_of x.key) x.value) | false ↦ before ]
 
 -- the certificate before a spot of a leaf; there may be none
 unfoldable pub last_in : ℕ → ℕ → List ℕ → Newest → Newest
@@ -41,7 +42,7 @@ last_in low (suc j) b before = or_this low (cert_at b j) before
 
 -- the answer from what a walk has come to: whether it met a damaged place, and the certificates found
 unfoldable pub answer_of : Walked → Newest
-answer_of w = elim w.whole [ false ↦ Newest.Damaged | true ↦ newest_in w.found ]
+answer_of w = elim w.whole [ false ↦ Err FindError.Damaged | true ↦ newest_in w.found ]
 
 -- the table left, the answer and the report, before the session is handed back
 pub record Seen : Type 0 where

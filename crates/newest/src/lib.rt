@@ -24,7 +24,7 @@ ghost use Rattle.rules.specs.declared.Session.{Session};
 ghost use Rattle.newest.specs.Newests.{beside, leaving, range, last_in, seeing, seen};
 
 use leaves::Stepped;
-use rules::{LAST_FINAL, Newest, NewestOf, PAGE, Report, Session};
+use rules::{FindError, LAST_FINAL, Latest, Newest, NewestOf, PAGE, Report, Session};
 
 // How many issues a meter has, counting 0.
 const ISSUES: u64 = 65536;
@@ -42,7 +42,10 @@ fn last_in(page: &[u8], spot: usize, low: u64, newest: Newest) -> Newest
         return newest;
     }
     let record = head::cert_record(page, spot - 1);
-    Newest::Found((key % ISSUES) as u16, record)
+    Ok(Latest {
+        issue: (key % ISSUES) as u16,
+        value: record,
+    })
 }
 
 // The same on page i of a table.
@@ -67,7 +70,7 @@ fn look(t: &mut [u8], n: usize, c: u32, low: u64, high: u64) -> Sought
     requires { (length t.old ≡ n * page_size) × (fit0 n t.old ≡ true) × (low ≤ high) × (high < low + last_key) }
     ensures { seeing t.new result ≡ seen (walk_of n c (range low high) t.old) }
 {
-    let mut newest = Newest::Missing;
+    let mut newest = Err(FindError::Missing);
     let mut cursor = leaves::start();
     let mut key = low;
     let mut report = Report::nothing();
@@ -75,7 +78,7 @@ fn look(t: &mut [u8], n: usize, c: u32, low: u64, high: u64) -> Sought
         match leaves::next(t, n, c, key, high, cursor, report) {
             Stepped::Damaged(last) => {
                 return Sought {
-                    answer: Newest::Damaged,
+                    answer: Err(FindError::Damaged),
                     report: last,
                 };
             }
@@ -106,26 +109,26 @@ pub fn lean(working: &mut [u8], stable: &[u8], n: u16, c: u32, model: u16, seria
 {
     if !tables::lengths_for(n, working, stable) {
         return Sought {
-            answer: Newest::Length,
+            answer: Err(FindError::Length),
             report: Report::nothing(),
         };
     }
     if model == 0 {
         return Sought {
-            answer: Newest::BadKey,
+            answer: Err(FindError::BadKey),
             report: Report::nothing(),
         };
     }
     if serial == 0 {
         return Sought {
-            answer: Newest::BadKey,
+            answer: Err(FindError::BadKey),
             report: Report::nothing(),
         };
     }
     let pages = n as usize;
     if !head::fit0(working, pages) {
         return Sought {
-            answer: Newest::Damaged,
+            answer: Err(FindError::Damaged),
             report: Report::nothing(),
         };
     }

@@ -1,4 +1,5 @@
 -- The five ways through an opening, and what the lengths say. Assumes nothing.
+use Rattle.std.specs.Prelude.{Ok, Err}
 use mathlib.Core.Path.{◌≡◌, ap, sym, ◌∙◌}
 use mathlib.Core.Bool.{true, false}
 use mathlib.Core.List.{List}
@@ -11,7 +12,7 @@ use Rattle.rules.specs.Table.{pages, good_lengths, fit0, number0, set_number, Ta
 use Rattle.rules.specs.Tree.{tree_of, good_tree}
 use Rattle.rules.specs.Marks.{opened}
 use Rattle.rules.specs.Open.{open_refused, open_done, opening}
-use Rattle.rules.specs.declared.Opened.{Opened}
+use Rattle.rules.specs.declared.OpenError.{OpenError}
 use Rattle.rules.specs.declared.Session.{Session}
 use Rattle.rules.proofs.Bytes.Lengths.{pages-of, good_lengths_true}
 use Rattle.marks.specs.Opened.{opened_by}
@@ -22,7 +23,7 @@ use Rattle.seen.proofs.Wholes.{good_notes, noted-child, noted-spared, noted-tota
 use Rattle.opening.specs.Opens.{left, refused_with}
 
 module _ (w s : List ℕ) where
-  pub wrong-length : good_lengths w s ≡ false → left (refused_with Opened.Length) w s ≡ opening w s
+  pub wrong-length : good_lengths w s ≡ false → left (refused_with (Err OpenError.Length)) w s ≡ opening w s
   unfolding opening open_refused
   wrong-length e = rw (e, opening)
 
@@ -46,7 +47,7 @@ module _ (w s : List ℕ) where
     pub some : fewest_pages ≤ pages s
     some = omega (arith, n, l.least)
 
-    pub unfit : fit0 (pages s) s ≡ false → left (refused_with Opened.Damaged) w s ≡ opening w s
+    pub unfit : fit0 (pages s) s ≡ false → left (refused_with (Err OpenError.Damaged)) w s ≡ opening w s
     unfolding opening open_refused
     unfit f = rw (e, opening, f)
 
@@ -56,12 +57,12 @@ module _ (w s : List ℕ) where
       decided notes h = ap good_marks h ∙ good_notes (pages s) few (tree_of (pages s) s) (within-tree_of (pages s) s f)
 
       module _ (notes : Seen) (noted : notes ≡ note nothing (tree_of (pages s) s)) where
-        pub damaged : good_marks notes ≡ false → left (refused_with Opened.Damaged) w s ≡ opening w s
+        pub damaged : good_marks notes ≡ false → left (refused_with (Err OpenError.Damaged)) w s ≡ opening w s
         unfolding opening open_refused
         damaged g = rw (e, opening, f, sym (decided notes noted) ∙ g)
 
         module _ (g : good_marks notes ≡ true) where
-          pub spent : last_number < number0 s → left (refused_with Opened.Spent) w s ≡ opening w s
+          pub spent : last_number < number0 s → left (refused_with (Err OpenError.Spent)) w s ≡ opening w s
           unfolding opening open_refused
           spent h = rw (e, opening, f, sym (decided notes noted) ∙ g, lt-leb (number0 s) last_number h)
 
@@ -73,8 +74,8 @@ module _ (w s : List ℕ) where
               (noted-total (tree_of (pages s) s)) (noted-child (tree_of (pages s) s)) (noted-spared (tree_of (pages s) s))
 
           pub done : number0 s ≤ last_number
-              → left (record { answer = Opened.Done; session = opened_by (pages s) (number0 s) notes.total notes.children notes.spared }) (set_number s (number0 s + 1)) (set_number s (number0 s + 1)) ≡ opening w s
+              → left (record { answer = Ok tt; session = opened_by (pages s) (number0 s) notes.total notes.children notes.spared }) (set_number s (number0 s + 1)) (set_number s (number0 s + 1)) ≡ opening w s
           unfolding opening open_done
           done h =
               rw (e, opening, f, sym (decided notes noted) ∙ g, le-leb (number0 s) last_number h)
-              (ap (λ (x : Session). left (record { answer = Opened.Done; session = x }) (set_number s (number0 s + 1)) (set_number s (number0 s + 1))) session-opened)
+              (ap (λ (x : Session). left (record { answer = Ok tt; session = x }) (set_number s (number0 s + 1)) (set_number s (number0 s + 1))) session-opened)

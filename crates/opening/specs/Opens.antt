@@ -2,7 +2,7 @@
 use Rattle.std.specs.Prelude.{ℕ, List}
 use Rattle.rules.specs.Marks.{nobody}
 use Rattle.rules.specs.Call.{Left}
-use Rattle.rules.specs.declared.Opened.{Opened}
+use Rattle.rules.specs.Answer.{Opened}
 use Rattle.rules.specs.declared.Opening.{Opening}
 
 -- what a refused opening hands back

@@ -15,7 +15,7 @@ ghost use Rattle.marks.specs.Opened.{opened_by};
 ghost use Rattle.opening.specs.Opens.{left, refused_with};
 
 use head::Table;
-use rules::{LAST_NUMBER, Opened, Opening, PAGE, Session};
+use rules::{LAST_NUMBER, OpenError, Opened, Opening, PAGE, Session};
 use seen::Seen;
 
 // What a refused opening hands back.
@@ -42,11 +42,11 @@ pub fn open(working: &mut [u8], stable: &mut [u8]) -> Opening
     ensures { left result working.new stable.new ≡ opening working.old stable.old }
 {
     if !tables::good_lengths(working, stable) {
-        return refused(Opened::Length);
+        return refused(Err(OpenError::Length));
     }
     let n = stable.len() / PAGE;
     if !head::fit0(stable, n) {
-        return refused(Opened::Damaged);
+        return refused(Err(OpenError::Damaged));
     }
     let table = Table {
         bytes: stable,
@@ -54,16 +54,16 @@ pub fn open(working: &mut [u8], stable: &mut [u8]) -> Opening
     };
     let notes = seen::walk(table);
     if !seen::good(notes) {
-        return refused(Opened::Damaged);
+        return refused(Err(OpenError::Damaged));
     }
     let number = head::number(stable);
     if number > LAST_NUMBER {
-        return refused(Opened::Spent);
+        return refused(Err(OpenError::Spent));
     }
     head::set_number(stable, number + 1);
     tables::copy(working, stable);
     Opening {
-        answer: Opened::Done,
+        answer: Ok(()),
         session: session_of(n, number, notes),
     }
 }

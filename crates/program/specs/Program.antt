@@ -4,7 +4,7 @@ use Rattle.rules.specs.Call.{Left}
 use Rattle.rules.specs.Format.{format}
 use Rattle.rules.specs.Open.{opening}
 use Rattle.rules.specs.declared.Session.{Session}
-use Rattle.rules.specs.declared.Opened.{Opened}
+use Rattle.rules.specs.Answer.{Opened}
 use Rattle.lines.specs.Line.{line_of}
 use Rattle.words.specs.Words.{newline, answer_line}
 use Rattle.driver.specs.declared.Bench.{Bench}

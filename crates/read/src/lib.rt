@@ -55,7 +55,7 @@ fn enter(working: &mut [u8], stable: &[u8], made: Made, certificate: Certificate
         certificate.record,
     );
     Made {
-        done: counted(made.done, numbers::inserted(inserted.answer)),
+        done: counted(made.done, numbers::number(inserted.answer)),
         report: made.report.join(inserted.report),
         session: inserted.session,
     }

@@ -1,5 +1,6 @@
 -- After an insert that is done a lookup of its key finds the record, and of every other key what it found before: demand 3, said of
 -- the call.
+use Rattle.std.specs.Prelude.{Ok, Err}
 use Prim.Native.Nat.{ℕ, ◌^◌, ◌≤◌, ◌<◌}
 use native.Mathlib.Omega.{arith}
 use mathlib.Core.Path.{◌≡◌, refl, sym, ap, ◌∙◌, subst}
@@ -14,13 +15,13 @@ use Rattle.rules.specs.Entry.{find}
 use Rattle.rules.specs.Table.{fit0}
 use Rattle.rules.specs.Walk.{Step, certs_at, way_of}
 use Rattle.rules.specs.Marks.{counted}
-use Rattle.rules.specs.Call.{Left, lengths_for, looked_no}
+use Rattle.rules.specs.Call.{Left, lengths_for, looked_no, find_error_no}
 use Rattle.rules.specs.Lookup.{found_in, lookup_left, lookup_key, lookup}
 use Rattle.rules.specs.History.{Event, inserts, State, latest, record_in, content, gains, after_insert, step, run, start, Proper, AllProper}
 use Rattle.rules.specs.Demand.{lookup_now, Serves, Demand3, OpenedTold}
 use Rattle.rules.specs.declared.Session.{Session}
-use Rattle.rules.specs.declared.Inserted.{Inserted}
-use Rattle.rules.specs.declared.Looked.{Looked}
+use Rattle.rules.specs.Answer.{Inserted, Looked}
+use Rattle.rules.specs.declared.FindError.{FindError}
 use Rattle.rules.proofs.Bytes.Keys.{model_of-key_of, serial_of-key_of, issue_of-key_of, key_of-bound}
 use Rattle.rules.proofs.Demand3.Histories.Histories.{demand3, session-tells}
 use Rattle.reading.specs.Inserting.{inserted, Adds, InsertAdds}
@@ -38,7 +39,7 @@ found_for k steps = go (find k (certs_at steps)) refl
     go none o = rw (found_in, o)
     go (some y) o = rw (found_in, o)
 
-key_for : (k : ℕ) (s : Session) (w t : List ℕ) → ((lookup_key k s w t).answer ≡ Looked.Damaged → ⊥)
+key_for : (k : ℕ) (s : Session) (w t : List ℕ) → ((lookup_key k s w t).answer ≡ Err FindError.Damaged → ⊥)
     → (lookup_key k s w t).answer ≡ answer_for (record_in (lookup_key k s w t).answer)
 unfolding lookup_key lookup_left
 key_for k s w t h = go (way_of s.n s.c k w).steps refl
@@ -49,7 +50,7 @@ key_for k s w t h = go (way_of s.n s.c k w).steps refl
     go (some steps) o = rw (lookup_key, o) (found_for k steps)
 
 module _ (w t : List ℕ) (s : Session) (model serial issue : ℕ) (l : lengths_for s w t ≡ true) where
-  pub lookup_for : good_parts model serial issue ≡ true → ((lookup w t s model serial issue).answer ≡ Looked.Damaged → ⊥)
+  pub lookup_for : good_parts model serial issue ≡ true → ((lookup w t s model serial issue).answer ≡ Err FindError.Damaged → ⊥)
       → (lookup w t s model serial issue).answer ≡ answer_for (record_in (lookup w t s model serial issue).answer)
   unfolding lookup lookup_left
   lookup_for g h = go (fit0 s.n w) refl
@@ -59,27 +60,24 @@ module _ (w t : List ℕ) (s : Session) (model serial issue : ℕ) (l : lengths_
       go false o = absurd (h (rw (lookup, l, g, o)))
       go true o = rw (lookup, l, g, o) (key_for (key_of model serial issue) s w t (λ e. h (rw (lookup, l, g, o) e)))
 
-  lookup_bad : good_parts model serial issue ≡ false → (lookup w t s model serial issue).answer ≡ Looked.BadKey
+  lookup_bad : good_parts model serial issue ≡ false → (lookup w t s model serial issue).answer ≡ Err FindError.BadKey
   unfolding lookup lookup_left
   lookup_bad g = rw (lookup, l, g)
 
 -- a lookup that finds something had tables of the right length
-found-lengths : (w t : List ℕ) (s : Session) (model serial issue x : ℕ) → (lookup w t s model serial issue).answer ≡ Looked.Found x
+found-lengths : (w t : List ℕ) (s : Session) (model serial issue x : ℕ) → (lookup w t s model serial issue).answer ≡ Ok x
     → lengths_for s w t ≡ true
-unfolding lookup lookup_left looked_no
+unfolding lookup lookup_left find_error_no
 found-lengths w t s model serial issue x h = go (lengths_for s w t) refl
   where
     go : (b : Bool) → lengths_for s w t ≡ b → lengths_for s w t ≡ true
     go true l = l
     go false l = absurd (omega (arith, ap looked_no (rw (lookup, l) at h)))
 
-some-found : (a : Looked) (x : ℕ) → record_in a ≡ some x → a ≡ Looked.Found x
+some-found : (a : Looked) (x : ℕ) → record_in a ≡ some x → a ≡ Ok x
 unfolding record_in
-some-found (Looked.Found y) x h = cc
-some-found Looked.Length x h = absurd (none-ne-some x h)
-some-found Looked.BadKey x h = absurd (none-ne-some x h)
-some-found Looked.Damaged x h = absurd (none-ne-some x h)
-some-found Looked.Missing x h = absurd (none-ne-some x h)
+some-found (Ok y) x h = cc
+some-found (Err e) x h = absurd (none-ne-some x h)
 
 -- what a lookup of a key finds, by its parts
 pub content-of : (s : Session) (w t : List ℕ) (model serial issue : ℕ) → serial < 2 ^ 32 → issue < 2 ^ 16
@@ -102,7 +100,7 @@ unfolding AllProper
 proper_then n [] e t y = (y, tt)
 proper_then n (x ∷ h) e t y = (t.0, proper_then n h e t.1 y)
 
-past-done : (k x : ℕ) (m : State) (r : Left Inserted) → r.answer ≡ Inserted.Done → (after_insert k x m r).past ≡ gains k (some x) m.past
+past-done : (k x : ℕ) (m : State) (r : Left Inserted) → r.answer ≡ Ok tt → (after_insert k x m r).past ≡ gains k (some x) m.past
 unfolding after_insert
 past-done k x m r h = rw (h, after_insert)
 
@@ -149,7 +147,7 @@ module _ (m r : State) (before : Serves m) (after : Serves r) (lengths : lengths
 -- ── The theorem ─────────────────────────────────────────────────────────────────────────────────────────────────
 
 module _ (m : State) (model serial issue x : ℕ) (wide_model : model < 65536) (wide_serial : serial < 4294967296) (wide_issue : issue < 65536)
-    (before : Serves m) (after : Serves (step (inserts model serial issue x) m)) (done : (inserted m model serial issue x).answer ≡ Inserted.Done) where
+    (before : Serves m) (after : Serves (step (inserts model serial issue x) m)) (done : (inserted m model serial issue x).answer ≡ Ok tt) where
   abbrev k : ℕ
   k = key_of model serial issue
 
@@ -163,7 +161,7 @@ module _ (m : State) (model serial issue x : ℕ) (wide_model : model < 65536) (
   unfolding step
   past-now j = ap (λ (p : ℕ → List (Option ℕ)). latest (p j)) (past-done k x m r done)
 
-  own : (lookup r.working r.stable r.session model serial issue).answer ≡ Looked.Found x
+  own : (lookup r.working r.stable r.session model serial issue).answer ≡ Ok x
   unfolding step after_insert
   own =
       some-found (lookup r.working r.stable r.session model serial issue).answer x
@@ -183,7 +181,7 @@ module _ (m : State) (model serial issue x : ℕ) (wide_model : model < 65536) (
   adds = record { own = own; others = others }
 
 -- an insert that is done leaves the session's number of pages
-pub done-pages : (w s : List ℕ) (h : List Event) (model serial issue x : ℕ) → (inserted (run h (start w s)) model serial issue x).answer ≡ Inserted.Done
+pub done-pages : (w s : List ℕ) (h : List Event) (model serial issue x : ℕ) → (inserted (run h (start w s)) model serial issue x).answer ≡ Ok tt
     → (run (h ++ (inserts model serial issue x ∷ [])) (start w s)).session.n ≡ (run h (start w s)).session.n
 unfolding step after_insert
 done-pages w s h model serial issue x done =

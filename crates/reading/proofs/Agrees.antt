@@ -1,4 +1,5 @@
 -- Lookup, newest, has-any and list answer by the certificates of the tree as it stands, in any table that passes opening's tests.
+use Rattle.std.specs.Prelude.{Ok, Err}
 use Prim.Native.Nat.{ℕ, ◌-◌, ◌^◌, ◌≤◌, ◌<◌, min}
 use native.Mathlib.Omega.{arith}
 use mathlib.Core.Path.{◌≡◌, refl, sym, ap, ◌∙◌, subst}
@@ -19,10 +20,9 @@ use Rattle.rules.specs.Newest.{meter, newest_in, newest_left, newest}
 use Rattle.rules.specs.HasAny.{first_of, any_in, any_left, has_any}
 use Rattle.rules.specs.List.{ListLeft, up_from, records_of, list_done, list}
 use Rattle.rules.specs.declared.Session.{Session}
-use Rattle.rules.specs.declared.Looked.{Looked}
-use Rattle.rules.specs.declared.Newest.{Newest}
-use Rattle.rules.specs.declared.Any.{Any}
-use Rattle.rules.specs.declared.Listed.{Listed}
+use Rattle.rules.specs.Answer.{Looked, Newest, Any}
+use Rattle.rules.specs.declared.FindError.{FindError}
+use Rattle.rules.specs.declared.AnyError.{AnyError}
 use Rattle.rules.proofs.Bytes.Keys.{key_of-bound}
 use Rattle.rules.proofs.Bytes.Lengths.{lengths_for_true}
 use Rattle.rules.proofs.Demand3.Reads.Lists.{meter-whole, from-whole}
@@ -83,7 +83,7 @@ module _ {w t : List ℕ} {s : Session} (p : Passes w t s) where
     unfolding lookup
     lookup-good g = rw (p.lengths, lookup) (rw g (rw p.fit))
 
-    lookup_bad : good_parts model serial issue ≡ false → lookup w t s model serial issue ≡ lookup_left s w t Looked.BadKey
+    lookup_bad : good_parts model serial issue ≡ false → lookup w t s model serial issue ≡ lookup_left s w t (Err FindError.BadKey)
     unfolding lookup
     lookup_bad g = rw (p.lengths, lookup) (rw g)
 
@@ -114,7 +114,7 @@ module _ {w t : List ℕ} {s : Session} (p : Passes w t s) where
     unfolding newest
     newest-good g = rw (p.lengths, newest) (rw g (rw p.fit (meter-whole (meter model serial) s w t newest-walk.whole)))
 
-    newest_bad : (ltb 0 model && ltb 0 serial) ≡ false → newest w t s model serial ≡ newest_left s w t Newest.BadKey
+    newest_bad : (ltb 0 model && ltb 0 serial) ≡ false → newest w t s model serial ≡ newest_left s w t (Err FindError.BadKey)
     unfolding newest
     newest_bad g = rw (p.lengths, newest) (rw g)
 
@@ -147,7 +147,7 @@ module _ {w t : List ℕ} {s : Session} (p : Passes w t s) where
     unfolding has_any
     any-good g = rw (p.lengths, has_any) (rw g (rw p.fit (first-whole (first_of model serial) s w t any-walk.whole)))
 
-    any_bad : (ltb 0 model && ltb 0 serial) ≡ false → has_any w t s model serial ≡ any_left s w t Any.BadKey
+    any_bad : (ltb 0 model && ltb 0 serial) ≡ false → has_any w t s model serial ≡ any_left s w t (Err AnyError.BadKey)
     unfolding has_any
     any_bad g = rw (p.lengths, has_any) (rw g)
 
@@ -190,7 +190,7 @@ module _ {w t : List ℕ} {s : Session} (p : Passes w t s) where
     lists : Fills (held s w) start ks xs (list w t s start ks xs)
     unfolding list_done
     lists = subst (Fills (held s w) start ks xs) (sym list-good) (record {
-      answer = ap (λ (ys : List Cert). Listed.Filled (length ys)) list-found;
+      answer = ap (λ (ys : List Cert). Ok (length ys)) list-found;
       keys = ap (λ (ys : List Cert). over (keys ys) ks) list-found;
       records = ap (λ (ys : List Cert). over (records_of ys) xs) list-found;
     })

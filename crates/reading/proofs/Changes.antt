@@ -1,4 +1,5 @@
 -- An insert that is done: which pages and which marks it moves, in tables of any bytes.
+use Rattle.std.specs.Prelude.{Ok}
 use Prim.Native.Nat.{ℕ, ◌*◌, ◌^◌, ◌≤◌, ◌<◌}
 use native.Mathlib.Omega.{arith}
 use mathlib.Core.Path.{◌≡◌, refl, sym, ap, ◌∙◌, subst}
@@ -19,10 +20,10 @@ use Rattle.rules.specs.Table.{page_at, read, fit0, Tables}
 use Rattle.rules.specs.Place.{root_place}
 use Rattle.rules.specs.Walk.{Step, numbers, certs_at, way_of}
 use Rattle.rules.specs.Marks.{counted, free_pages}
-use Rattle.rules.specs.Call.{Left, lengths_for, inserted_no}
+use Rattle.rules.specs.Call.{Left, lengths_for, inserted_no, insert_error_no}
 use Rattle.rules.specs.Insert.{splitting, root_splits, new_pages, too_high, too_soon, no_room, put_cert, changed, Making, making, split, insert_refused, insert_done, insert_along, insert_key, insert}
 use Rattle.rules.specs.declared.Session.{Session}
-use Rattle.rules.specs.declared.Inserted.{Inserted}
+use Rattle.rules.specs.Answer.{Inserted}
 use Rattle.rules.proofs.Entries.Tests.{fails, mem-nil, mem_cases, mem_index, distinct-left, or_none, and_other}
 use Rattle.rules.proofs.Bytes.All.{All, all-at, all_map, all_take}
 use Rattle.rules.proofs.Bytes.Numbers.{FreePage, all-free_pages, distinct-free_pages}
@@ -55,9 +56,9 @@ pub record Along (k x : ℕ) (s : Session) (w t : List ℕ) (r : Left Inserted) 
   pub roomy : no_room steps (free_pages s (numbers steps)) ≡ false
   pub is : r ≡ insert_done k x (counted s) steps (way_of s.n s.c k w).table t
 
-along_done : (k x : ℕ) (s : Session) (way : List Step) (u t : List ℕ) → (insert_along k x s way u t).answer ≡ Inserted.Done
+along_done : (k x : ℕ) (s : Session) (way : List Step) (u t : List ℕ) → (insert_along k x s way u t).answer ≡ Ok tt
     → (no_room way (free_pages s (numbers way)) ≡ false) × (insert_along k x s way u t ≡ insert_done k x (counted s) way u t)
-unfolding insert_along insert_refused inserted_no
+unfolding insert_along insert_refused insert_error_no
 along_done k x s way u t h = go (find k (certs_at way)) refl (too_soon s.c (splitting way)) refl (no_room way (free_pages s (numbers way))) refl
   where
     go : (o : Option ℕ) → find k (certs_at way) ≡ o → (a : Bool) → too_soon s.c (splitting way) ≡ a
@@ -69,8 +70,8 @@ along_done k x s way u t h = go (find k (certs_at way)) refl (too_soon s.c (spli
     go none o false p false q = (q, rw (insert_along, o, p, q))
 
 key-done : (k x : ℕ) (s : Session) (w t : List ℕ) → lengths_for s w t ≡ true → fit0 s.n w ≡ true
-    → (insert_key k x s w t).answer ≡ Inserted.Done → Along k x s w t (insert_key k x s w t)
-unfolding insert_key insert_refused inserted_no
+    → (insert_key k x s w t).answer ≡ Ok tt → Along k x s w t (insert_key k x s w t)
+unfolding insert_key insert_refused insert_error_no
 key-done k x s w t l f h = go (way_of s.n s.c k w).steps refl
   where
     go : (o : Option (List Step)) → (way_of s.n s.c k w).steps ≡ o → Along k x s w t (insert_key k x s w t)
@@ -79,9 +80,9 @@ key-done k x s w t l f h = go (way_of s.n s.c k w).steps refl
         let d = along_done k x s steps (way_of s.n s.c k w).table t (rw (insert_key, o) at h) in
         rw (insert_key, o) (record { lengths = l; fit = f; steps = steps; way = o; roomy = d.0; is = d.1 })
 
-pub insert_done_lem : (w t : List ℕ) (s : Session) (model serial issue x : ℕ) → (insert w t s model serial issue x).answer ≡ Inserted.Done
+pub insert_done_lem : (w t : List ℕ) (s : Session) (model serial issue x : ℕ) → (insert w t s model serial issue x).answer ≡ Ok tt
     → Along (key_of model serial issue) x s w t (insert w t s model serial issue x)
-unfolding insert insert_refused inserted_no
+unfolding insert insert_refused insert_error_no
 insert_done_lem w t s model serial issue x h = go (lengths_for s w t) refl (good_parts model serial issue) refl (fit0 s.n w) refl
   where
     go : (a : Bool) → lengths_for s w t ≡ a → (b : Bool) → good_parts model serial issue ≡ b
@@ -200,7 +201,7 @@ module _ (w t : List ℕ) (s : Session) (k x : ℕ) (table : Tables s.n w t) (L 
 
   abbrev pub done : Making → Left Inserted
   done m = record {
-    answer = Inserted.Done;
+    answer = Ok tt;
     session = m.session;
     working = changed s.c (put_cert (record { key = k; value = x })) m.table m.at;
     stable = t;
@@ -267,7 +268,7 @@ pub record Went (w t : List ℕ) (s : Session) (k x : ℕ) (r : Left Inserted) :
   pub is : r ≡ insert_done k x (counted s) (first ∷ rest) (way_of s.n s.c k w).table t
 
 module _ (w t : List ℕ) (s : Session) (model serial issue x : ℕ) (y : Typed w s model serial issue)
-    (h : (insert w t s model serial issue x).answer ≡ Inserted.Done) where
+    (h : (insert w t s model serial issue x).answer ≡ Ok tt) where
   abbrev k : ℕ
   k = key_of model serial issue
 

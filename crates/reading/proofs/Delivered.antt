@@ -1,4 +1,5 @@
 -- Between the items of a batch lengths and the number of pages stay: so no item answers 1. Assumes nothing.
+use Rattle.std.specs.Prelude.{Ok, Err}
 use Prim.Native.Nat.{ℕ, ◌^◌, ◌<◌}
 use native.Mathlib.Omega.{arith}
 use mathlib.Core.Path.{◌≡◌, refl, sym, ap, ◌∙◌, subst}
@@ -14,12 +15,13 @@ use Rattle.rules.specs.Table.{read, Tables}
 use Rattle.rules.specs.Walk.{Step, way_of}
 use Rattle.rules.specs.Marks.{counted, free_pages}
 use Rattle.rules.specs.Report.{nothing}
-use Rattle.rules.specs.Call.{Left, lengths_for, inserted_no}
+use Rattle.rules.specs.Call.{Left, lengths_for, inserted_no, insert_error_no}
 use Rattle.rules.specs.Insert.{changed, insert}
 use Rattle.rules.specs.Reports.{insert_reported}
 use Rattle.rules.specs.Batch.{Between, between, insert_item, after_item, item_no, answered, items_answered}
 use Rattle.rules.specs.declared.Session.{Session}
-use Rattle.rules.specs.declared.Inserted.{Inserted}
+use Rattle.rules.specs.Answer.{Inserted}
+use Rattle.rules.specs.declared.InsertError.{InsertError}
 use Rattle.rules.specs.declared.Item.{Item}
 use Rattle.rules.proofs.Bytes.All.{All, nil, cons}
 use Rattle.rules.proofs.Bytes.Tables.{bytes-build, bytes-change}
@@ -58,7 +60,7 @@ module _ (w t : List ℕ) (s : Session) (model serial issue x : ℕ) (y : Typed 
   abbrev r : Left Inserted
   r = insert w t s model serial issue x
 
-  done-steady : r.answer ≡ Inserted.Done → Steady w s r
+  done-steady : r.answer ≡ Ok tt → Steady w s r
   unfolding InsertChanges free_pages
   done-steady h =
       let g = insert-went w t s model serial issue x y h in
@@ -72,7 +74,7 @@ module _ (w t : List ℕ) (s : Session) (model serial issue x : ℕ) (y : Typed 
         counter = ap (λ (q : Left Inserted). q.session.c) g.is ∙ done-c k x (counted s) (g.first ∷ g.rest) (way_of s.n s.c k w).table t;
       }
 
-  refused-steady : (r.answer ≡ Inserted.Done → ⊥) → Steady w s r
+  refused-steady : (r.answer ≡ Ok tt → ⊥) → Steady w s r
   unfolding InsertRefused
   refused-steady h =
       let o = insert_refused_lem w t s model serial issue x y h in
@@ -84,20 +86,20 @@ module _ (w t : List ℕ) (s : Session) (model serial issue x : ℕ) (y : Typed 
       }
 
   steady : Steady w s r
-  unfolding inserted_no
+  unfolding insert_error_no
   steady = go r.answer refl
     where
       not : (a : Inserted) → r.answer ≡ a → (inserted_no a ≡ 0 → ⊥) → Steady w s r
       not a h o = refused-steady (λ e. o (ap inserted_no (sym h ∙ e)))
 
       go : (a : Inserted) → r.answer ≡ a → Steady w s r
-      go Inserted.Done h = done-steady h
-      go Inserted.Length h = not Inserted.Length h (λ e. omega (arith, e))
-      go Inserted.BadKey h = not Inserted.BadKey h (λ e. omega (arith, e))
-      go Inserted.Damaged h = not Inserted.Damaged h (λ e. omega (arith, e))
-      go Inserted.Present h = not Inserted.Present h (λ e. omega (arith, e))
-      go Inserted.SyncFirst h = not Inserted.SyncFirst h (λ e. omega (arith, e))
-      go Inserted.Full h = not Inserted.Full h (λ e. omega (arith, e))
+      go (Ok tt) h = done-steady h
+      go (Err InsertError.Length) h = not (Err InsertError.Length) h (λ e. omega (arith, e))
+      go (Err InsertError.BadKey) h = not (Err InsertError.BadKey) h (λ e. omega (arith, e))
+      go (Err InsertError.Damaged) h = not (Err InsertError.Damaged) h (λ e. omega (arith, e))
+      go (Err InsertError.Present) h = not (Err InsertError.Present) h (λ e. omega (arith, e))
+      go (Err InsertError.SyncFirst) h = not (Err InsertError.SyncFirst) h (λ e. omega (arith, e))
+      go (Err InsertError.Full) h = not (Err InsertError.Full) h (λ e. omega (arith, e))
 
 pub insert-steady : InsertSteady
 unfolding InsertSteady

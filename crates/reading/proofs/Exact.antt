@@ -1,4 +1,5 @@
 -- A lookup that finds a record found it under exactly the key asked for, in the leaf that its walk read last.
+use Rattle.std.specs.Prelude.{Ok}
 use Prim.Native.Nat.{ℕ, zero, suc}
 use native.Mathlib.Omega.{arith}
 use mathlib.Core.Path.{◌≡◌, refl, sym, ap, ◌∙◌, subst}
@@ -16,11 +17,10 @@ use Rattle.rules.specs.Table.{read, fit0}
 use Rattle.rules.specs.Place.{kids, pick, cut_view, mended}
 use Rattle.rules.specs.Enter.{Entered, enter}
 use Rattle.rules.specs.Walk.{Step, numbers, certs_at, descend, way_of}
-use Rattle.rules.specs.Call.{lengths_for, looked_no}
+use Rattle.rules.specs.Call.{lengths_for, looked_no, find_error_no}
 use Rattle.rules.specs.Lookup.{found_in, lookup_left, lookup_key, lookup}
 use Rattle.rules.specs.declared.Place.{Place}
 use Rattle.rules.specs.declared.Session.{Session}
-use Rattle.rules.specs.declared.Looked.{Looked}
 use Rattle.rules.proofs.Bytes.Keys.{model_of-key_of, serial_of-key_of, issue_of-key_of}
 use Rattle.rules.proofs.Entries.Entries.{find_head, find_tail, all-cut}
 use Rattle.rules.proofs.Entries.Places.{fits_true, mendable_true}
@@ -136,13 +136,13 @@ way-last n c k t steps h = descend-last 3 n c k [] t _ steps h
 
 -- ── Lookup ──────────────────────────────────────────────────────────────────────────────────────────────────────
 
-found_in_lem : (k x : ℕ) (steps : List Step) → found_in k steps ≡ Looked.Found x → find k (certs_at steps) ≡ some x
-unfolding found_in looked_no
+found_in_lem : (k x : ℕ) (steps : List Step) → found_in k steps ≡ Ok x → find k (certs_at steps) ≡ some x
+unfolding found_in find_error_no
 found_in_lem k x steps h = go (find k (certs_at steps)) refl
   where
     go : (o : Option ℕ) → find k (certs_at steps) ≡ o → find k (certs_at steps) ≡ some x
     go none o = absurd (omega (arith, ap looked_no (rw (found_in, o) at h)))
-    go (some y) o = let q : Looked.Found y ≡ Looked.Found x = rw (found_in, o) at h in o ∙ cc
+    go (some y) o = let q : Ok y ≡ Ok x = rw (found_in, o) at h in o ∙ cc
 
 -- the way of a key that was found
 record Way-found (s : Session) (w : List ℕ) (k x : ℕ) : Type 0 where
@@ -150,17 +150,17 @@ record Way-found (s : Session) (w : List ℕ) (k x : ℕ) : Type 0 where
   way : (way_of s.n s.c k w).steps ≡ some steps
   finds : find k (certs_at steps) ≡ some x
 
-key-found : (k x : ℕ) (s : Session) (w t : List ℕ) → (lookup_key k s w t).answer ≡ Looked.Found x → Way-found s w k x
-unfolding lookup_key lookup_left looked_no
+key-found : (k x : ℕ) (s : Session) (w t : List ℕ) → (lookup_key k s w t).answer ≡ Ok x → Way-found s w k x
+unfolding lookup_key lookup_left find_error_no
 key-found k x s w t h = go (way_of s.n s.c k w).steps refl
   where
     go : (o : Option (List Step)) → (way_of s.n s.c k w).steps ≡ o → Way-found s w k x
     go none o = absurd (omega (arith, ap looked_no (rw (lookup_key, o) at h)))
     go (some steps) o = record { steps = steps; way = o; finds = found_in_lem k x steps (rw (lookup_key, o) at h) }
 
-way_of-found : (w t : List ℕ) (s : Session) (model serial issue x : ℕ) → (lookup w t s model serial issue).answer ≡ Looked.Found x
+way_of-found : (w t : List ℕ) (s : Session) (model serial issue x : ℕ) → (lookup w t s model serial issue).answer ≡ Ok x
     → Way-found s w (key_of model serial issue) x
-unfolding lookup lookup_left looked_no
+unfolding lookup lookup_left find_error_no
 way_of-found w t s model serial issue x h = go (lengths_for s w t) refl (good_parts model serial issue) refl (fit0 s.n w) refl
   where
     go : (a : Bool) → lengths_for s w t ≡ a → (b : Bool) → good_parts model serial issue ≡ b → (c : Bool) → fit0 s.n w ≡ c

@@ -1,4 +1,5 @@
 -- After an insert that is done a lookup of its key finds the record and mends nothing, in tables of any bytes.
+use Rattle.std.specs.Prelude.{Ok}
 use Prim.Native.Nat.{ℕ, ◌^◌, ◌≤◌, ◌<◌}
 use native.Mathlib.Omega.{arith}
 use mathlib.Core.Path.{◌≡◌, refl, sym, ap, ◌∙◌, subst}
@@ -15,12 +16,11 @@ use Rattle.rules.specs.Table.{kind0, n0, fit0, Tables}
 use Rattle.rules.specs.Place.{root_place}
 use Rattle.rules.specs.Walk.{Step, Way, certs_at, numbers, way_of}
 use Rattle.rules.specs.Marks.{counted, free_pages}
-use Rattle.rules.specs.Call.{Left, lengths_for, inserted_no}
+use Rattle.rules.specs.Call.{Left, lengths_for, inserted_no, insert_error_no}
 use Rattle.rules.specs.Insert.{Making, no_room, insert_refused, insert_done, insert}
 use Rattle.rules.specs.Lookup.{found_in, lookup_left, lookup_key, lookup}
 use Rattle.rules.specs.declared.Session.{Session}
-use Rattle.rules.specs.declared.Inserted.{Inserted}
-use Rattle.rules.specs.declared.Looked.{Looked}
+use Rattle.rules.specs.Answer.{Inserted, Looked}
 use Rattle.rules.proofs.Bytes.Keys.{good_key-key_of}
 use Rattle.rules.proofs.Bytes.Lengths.{tables-lengths_for}
 use Rattle.rules.proofs.Entries.Tests.{every_true}
@@ -39,7 +39,7 @@ use Rattle.reading.proofs.Marking.{done-n}
 
 -- ── A lookup of a way that is known ─────────────────────────────────────────────────────────────────────────────
 
-found_of : (k x : ℕ) (steps : List Step) → find k (certs_at steps) ≡ some x → found_in k steps ≡ Looked.Found x
+found_of : (k x : ℕ) (steps : List Step) → find k (certs_at steps) ≡ some x → found_in k steps ≡ Ok x
 unfolding found_in
 found_of k x steps h = rw (found_in, h)
 
@@ -58,9 +58,9 @@ lookup-of w t s model serial issue steps l g f h =
     rw (l, lookup) (rw g (rw f (key_of_lem (key_of model serial issue) s w t steps h)))
 
 -- a key that was inserted has no part that is zero
-pub done-good : (w t : List ℕ) (s : Session) (model serial issue x : ℕ) → (insert w t s model serial issue x).answer ≡ Inserted.Done
+pub done-good : (w t : List ℕ) (s : Session) (model serial issue x : ℕ) → (insert w t s model serial issue x).answer ≡ Ok tt
     → good_parts model serial issue ≡ true
-unfolding insert insert_refused inserted_no
+unfolding insert insert_refused insert_error_no
 done-good w t s model serial issue x h = go (lengths_for s w t) refl (good_parts model serial issue) refl
   where
     go : (a : Bool) → lengths_for s w t ≡ a → (b : Bool) → good_parts model serial issue ≡ b → good_parts model serial issue ≡ true
@@ -127,7 +127,7 @@ module _ (w t : List ℕ) (s : Session) (model serial issue x : ℕ) (y : Typed 
   then = put-steps G leaf good_key_lem x small (key-bound y) chain
 
   there : lookup left.working t left.session model serial issue
-      ≡ lookup_left left.session left.working t (Looked.Found x)
+      ≡ lookup_left left.session left.working t (Ok x)
   there =
       lookup-of left.working t left.session model serial issue then lengths good
       (subst (λ (i : ℕ). fit0 i left.working ≡ true) (sym pages) (put_fit G leaf good_key_lem x small (key-bound y) chain))

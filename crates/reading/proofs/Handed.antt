@@ -1,6 +1,7 @@
 -- Each certificate that newest and list hand out, and one where has-any says yes, was read from a leaf that their walk entered, in
 -- tables of any bytes.
 -- Assumes nothing.
+use Rattle.std.specs.Prelude.{Ok}
 use Prim.Native.Nat.{ℕ, zero, suc, ◌-◌, ◌≤◌}
 use native.Mathlib.Omega.{arith}
 use mathlib.Core.Path.{◌≡◌, refl, sym, ap, ◌∙◌, subst}
@@ -17,15 +18,14 @@ use Rattle.rules.specs.Page.{Page, over}
 use Rattle.rules.specs.Table.{fit0}
 use Rattle.rules.specs.Enter.{enter}
 use Rattle.rules.specs.Walk.{Walked, enters, finds, stops, walk_of}
-use Rattle.rules.specs.Call.{lengths_for, newest_no, newest_issue, newest_record, any_no, any_yes, listed_no, listed_count}
+use Rattle.rules.specs.Call.{lengths_for, newest_no, newest_issue, newest_record, any_no, any_yes, listed_no, listed_count, any_error_no, find_error_no, list_error_no}
 use Rattle.rules.specs.Newest.{meter, newest_in}
 use Rattle.rules.specs.HasAny.{first_of, any_in}
 use Rattle.rules.specs.List.{ListLeft, up_from, records_of, list_done, list_refused, list_from, list}
 use Rattle.rules.specs.declared.Place.{Place}
 use Rattle.rules.specs.declared.Asked.{Asked}
 use Rattle.rules.specs.declared.Session.{Session}
-use Rattle.rules.specs.declared.Newest.{Newest}
-use Rattle.rules.specs.declared.Any.{Any}
+use Rattle.rules.specs.Answer.{newest_is}
 use Rattle.rules.proofs.Entries.Tests.{all_head, all_tail, between-low, between-high}
 use Rattle.rules.proofs.Entries.Rises.{length-keys}
 use Rattle.rules.proofs.Entries.Entries.{cut_in, cut_out}
@@ -131,9 +131,9 @@ module _ (n c : ℕ) (a : Asked) (w : List ℕ) where
 -- ── Newest ──────────────────────────────────────────────────────────────────────────────────────────────────────
 
 -- what is answered is of one that was found
-last_found : (xs : List Cert) (i x : ℕ) → newest_in xs ≡ Newest.Found i x
+last_found : (xs : List Cert) (i x : ℕ) → newest_in xs ≡ Ok (newest_is i x)
     → (entry : Cert) × Memᴰ entry xs × (issue_of entry.key ≡ i) × (entry.value ≡ x)
-unfolding newest_in newest_no newest_issue newest_record
+unfolding newest_in find_error_no newest_issue newest_record
 last_found [] i x h = absurd (omega (arith, ap newest_no h))
 last_found (y ∷ []) i x h = (y, Memᴰ.head refl, ap newest_issue h, ap newest_record h)
 last_found (y ∷ (z ∷ zs)) i x h =
@@ -141,7 +141,7 @@ last_found (y ∷ (z ∷ zs)) i x h =
     (r.0, Memᴰ.tail r.1, r.2, r.3)
 
 pub newest_exact : NewestExact
-unfolding NewestExact newest_no
+unfolding NewestExact find_error_no
 newest_exact w t s model serial i x wide h =
     let d = newest-done w t s model serial (ap newest_no h) in
     let r = last_found (walk_of s.n s.c (meter model serial) w).found i x (sym d ∙ h) in
@@ -162,13 +162,13 @@ newest_exact w t s model serial i x wide h =
 
 -- ── Has-any ─────────────────────────────────────────────────────────────────────────────────────────────────────
 
-one_found : (xs : List Cert) → any_in xs ≡ Any.Yes → (entry : Cert) × Memᴰ entry xs
+one_found : (xs : List Cert) → any_in xs ≡ Ok true → (entry : Cert) × Memᴰ entry xs
 unfolding any_in any_yes
 one_found [] h = absurd (omega (arith, ap any_yes h))
 one_found (x ∷ xs) h = (x, Memᴰ.head refl)
 
 pub any_exact : AnyExact
-unfolding AnyExact any_no
+unfolding AnyExact any_error_no
 any_exact w t s model serial wide h =
     let r = one_found (walk_of s.n s.c (first_of model serial) w).found (sym (any-done w t s model serial (ap any_no h)) ∙ h) in
     let f = all_read s.n s.c (first_of model serial) w r.0 r.1 in
@@ -192,7 +192,7 @@ module _ (w t : List ℕ) (s : Session) (start : ℕ) (ks xs : List ℕ) where
 
   list-is : listed_no (list w t s start ks xs).answer ≡ 0
       → list w t s start ks xs ≡ list_done s walked.table t walked.found ks xs
-  unfolding list list_from list_refused listed_no
+  unfolding list list_from list_refused list_error_no
   list-is z = go (lengths_for s w t) refl (fit0 s.n w) refl walked.whole refl
     where
       go : (a : Bool) → lengths_for s w t ≡ a → (b : Bool) → fit0 s.n w ≡ b → (d : Bool) → walked.whole ≡ d
@@ -203,7 +203,7 @@ module _ (w t : List ℕ) (s : Session) (start : ℕ) (ks xs : List ℕ) where
       go true p true q true o = rw (list, p, q, list_from, o)
 
 pub list_exact : ListExact
-unfolding ListExact listed_no listed_count list_done
+unfolding ListExact list_error_no listed_count list_done
 list_exact w t s start ks xs k h =
     let d = list-is w t s start ks xs (ap listed_no h) in
     let found = (walk_of s.n s.c (up_from start ks xs) w).found in

@@ -1,4 +1,5 @@
 -- The last of certificates that rise is the newest of its meter.
+use Rattle.std.specs.Prelude.{Err}
 use Prim.Native.Nat.{ℕ, ◌-◌, ◌^◌, ◌≤◌, ◌<◌}
 use native.Mathlib.Omega.{arith}
 use mathlib.Core.Path.{◌≡◌, refl, sym, ap, ◌∙◌, subst}
@@ -13,7 +14,7 @@ use Rattle.rules.specs.Key.{key_of, issue_of}
 use Rattle.rules.specs.Entry.{Cert, keys, find, cut, rising}
 use Rattle.rules.specs.Newest.{meter, newest_in}
 use Rattle.rules.specs.declared.Asked.{Asked}
-use Rattle.rules.specs.declared.Newest.{Newest}
+use Rattle.rules.specs.declared.FindError.{FindError}
 use Rattle.rules.proofs.Entries.Tests.{all-mem, between-of, between-low, between-high}
 use Rattle.rules.proofs.Entries.Rises.{length-keys}
 use Rattle.rules.proofs.Entries.Entries.{mem-find, find-cut, cut-within, cut-rising}
@@ -83,7 +84,7 @@ module _ (certs : List Cert) (rise : rising (keys certs) ≡ true) (model serial
       go : (xs : List Cert) → own ≡ xs → Largest certs model serial (newest_in own)
       go [] q = missing (ap newest_in q ∙ nothing) (λ j a b. sym (in_meter j a b) ∙ (ap (find (key_of model serial j)) q ∙ nowhere (key_of model serial j)))
         where
-          nothing : newest_in [] ≡ Newest.Missing
+          nothing : newest_in [] ≡ Err FindError.Missing
           nothing = refl
 
           nowhere : (k : ℕ) → find {B = ℕ} k [] ≡ none

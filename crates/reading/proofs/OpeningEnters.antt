@@ -1,4 +1,5 @@
 -- Where opening answers 0, entering page after page shows what it read off the table as that stands.
+use Rattle.std.specs.Prelude.{Ok}
 use Prim.Native.Nat.{ℕ, ◌*◌, ◌≤◌}
 use native.Mathlib.Omega.{arith}
 use mathlib.Core.Path.{◌≡◌, refl, sym, ap, ◌∙◌, subst}
@@ -15,11 +16,10 @@ use Rattle.rules.specs.Place.{show}
 use Rattle.rules.specs.Enter.{enter}
 use Rattle.rules.specs.Walk.{walk_of}
 use Rattle.rules.specs.Tree.{tree_of, good_tree}
-use Rattle.rules.specs.Call.{opened_no}
+use Rattle.rules.specs.Call.{opened_no, open_error_no}
 use Rattle.rules.specs.Open.{opening, open_refused}
 use Rattle.rules.specs.declared.Asked.{Asked}
 use Rattle.rules.specs.declared.Place.{Place}
-use Rattle.rules.specs.declared.Opened.{Opened}
 use Rattle.rules.proofs.Entries.Tests.{and_left, and_right}
 use Rattle.rules.proofs.Entries.Entries.{cut_all}
 use Rattle.rules.proofs.Bytes.Lengths.{pages-of, good_lengths_true}
@@ -80,8 +80,8 @@ module _ {n c : ℕ} {t : List ℕ} (p : Passing n c t) where
 
 -- ── Opening ─────────────────────────────────────────────────────────────────────────────────────────────────────
 
-opening-tests : (w s : List ℕ) → (opening w s).answer ≡ Opened.Done → (good_lengths w s ≡ true) × ((fit0 (pages s) s && good_tree (tree_of (pages s) s)) ≡ true)
-unfolding opening open_refused opened_no
+opening-tests : (w s : List ℕ) → (opening w s).answer ≡ Ok tt → (good_lengths w s ≡ true) × ((fit0 (pages s) s && good_tree (tree_of (pages s) s)) ≡ true)
+unfolding opening open_refused open_error_no
 opening-tests w s h = go (good_lengths w s) refl (fit0 (pages s) s && good_tree (tree_of (pages s) s)) refl
   where
     go : (a : Bool) → good_lengths w s ≡ a → (b : Bool) → (fit0 (pages s) s && good_tree (tree_of (pages s) s)) ≡ b

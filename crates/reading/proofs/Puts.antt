@@ -1,4 +1,5 @@
 -- In every history an insert that is done puts its certificate among those that the tree holds.
+use Rattle.std.specs.Prelude.{Ok}
 use Prim.Native.Nat.{ℕ, ◌<◌}
 use native.Mathlib.Omega.{arith}
 use mathlib.Core.Path.{◌≡◌, refl, sym, ap, ◌∙◌, subst}
@@ -12,10 +13,9 @@ use Rattle.rules.specs.Layout.{last_key}
 use Rattle.rules.specs.Key.{key_of, model_of, serial_of, issue_of, good_parts, good_key}
 use Rattle.rules.specs.Entry.{Cert, keys, find, put, rising}
 use Rattle.rules.specs.Tree.{tree_of}
-use Rattle.rules.specs.Call.{looked_no}
+use Rattle.rules.specs.Call.{looked_no, find_error_no}
 use Rattle.rules.specs.Lookup.{lookup}
 use Rattle.rules.specs.History.{inserts, State, after_insert, step, run, start, Proper}
-use Rattle.rules.specs.declared.Looked.{Looked}
 use Rattle.rules.proofs.Bytes.Keys.{key_of_parts, model_of-bound, serial_of-bound, issue_of-bound}
 use Rattle.rules.proofs.Entries.Tests.{not_both, between-above}
 use Rattle.rules.proofs.Entries.Rises.{rising-from, rising_tail}
@@ -89,11 +89,11 @@ ext_find (x ∷ xs) (y ∷ ys) p q f =
 -- ── Answers tell what is held ───────────────────────────────────────────────────────────────────────────────────
 
 answer-same : (a b : Option ℕ) → answer_for a ≡ answer_for b → a ≡ b
-unfolding answer_for looked_no
+unfolding answer_for find_error_no
 answer-same none none h = refl
 answer-same none (some y) h = absurd (omega (arith, ap looked_no h))
 answer-same (some x) none h = absurd (omega (arith, ap looked_no h))
-answer-same (some x) (some y) h = let q : Looked.Found x ≡ Looked.Found y = h in cc
+answer-same (some x) (some y) h = let q : Ok x ≡ Ok y = h in cc
 
 module _ (m : State) (p : Passes m.working m.stable m.session) where
   abbrev certs : List Cert

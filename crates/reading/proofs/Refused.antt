@@ -1,4 +1,5 @@
 -- A refused insert or withdrawal, and every lookup, leaves each page as it was or mended for a place of the key's way.
+use Rattle.std.specs.Prelude.{Ok}
 use Prim.Native.Nat.{ℕ, ◌≤◌}
 use native.Mathlib.Omega.{arith}
 use mathlib.Core.Path.{◌≡◌, refl, sym, ap, ◌∙◌}
@@ -16,8 +17,7 @@ use Rattle.rules.specs.Call.{Left, lengths_for}
 use Rattle.rules.specs.Insert.{splitting, too_soon, no_room, insert_refused, insert_done, insert_along, insert_key, insert}
 use Rattle.rules.specs.Lookup.{lookup_left, lookup_key, lookup}
 use Rattle.rules.specs.declared.Session.{Session}
-use Rattle.rules.specs.declared.Inserted.{Inserted}
-use Rattle.rules.specs.declared.Looked.{Looked}
+use Rattle.rules.specs.Answer.{Inserted, Looked}
 use Rattle.rules.proofs.Bytes.Keys.{key_of-bound}
 use Rattle.rules.proofs.Bytes.Lengths.{lengths_for_true}
 use Rattle.rules.proofs.Demand1.Withdrawals as withdrawals
@@ -61,7 +61,7 @@ way-written {w = w} {t} {s} {model} {serial} {issue} {r} y l f h =
 
 -- ── Insert ──────────────────────────────────────────────────────────────────────────────────────────────────────
 
-along_refused : (k x : ℕ) (s : Session) (way : List Step) (u t : List ℕ) → ((insert_along k x s way u t).answer ≡ Inserted.Done → ⊥)
+along_refused : (k x : ℕ) (s : Session) (way : List Step) (u t : List ℕ) → ((insert_along k x s way u t).answer ≡ Ok tt → ⊥)
     → Leaves u t s (insert_along k x s way u t)
 unfolding insert_along insert_refused insert_done
 along_refused k x s way u t h = go (find k (certs_at way)) refl (too_soon s.c (splitting way)) refl (no_room way (free_pages s (numbers way))) refl
@@ -73,7 +73,7 @@ along_refused k x s way u t h = go (find k (certs_at way)) refl (too_soon s.c (s
     go none o false p true q = rw (insert_along, o, p, q) (record { working = refl; stable = refl; session = refl })
     go none o false p false q = absurd (h (rw (insert_along, o, p, q)))
 
-key-refused : (k x : ℕ) (s : Session) (w t : List ℕ) → ((insert_key k x s w t).answer ≡ Inserted.Done → ⊥)
+key-refused : (k x : ℕ) (s : Session) (w t : List ℕ) → ((insert_key k x s w t).answer ≡ Ok tt → ⊥)
     → Leaves (way_of s.n s.c k w).table t s (insert_key k x s w t)
 unfolding insert_key insert_refused
 key-refused k x s w t h = go (way_of s.n s.c k w).steps refl

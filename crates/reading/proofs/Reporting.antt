@@ -1,5 +1,6 @@
 -- A walk of one key that leaves the table as it was has mended nothing: a mended page stands to the end of the way, since no
 -- page above is entered again, and it fits, which the page before it did not.
+use Rattle.std.specs.Prelude.{None}
 use Prim.Native.Nat.{ℕ, zero, suc, ◌*◌, ◌^◌, ◌≤◌, ◌<◌}
 use mathlib.Core.Path.{◌≡◌, refl, sym, ap, ◌∙◌}
 use mathlib.Core.Bool.{Bool, true, false}
@@ -12,7 +13,7 @@ use Rattle.rules.specs.Test.{mem}
 use Rattle.rules.specs.Key.{key_of, good_parts}
 use Rattle.rules.specs.Page.{Page}
 use Rattle.rules.specs.Table.{read, fit0}
-use Rattle.rules.specs.Place.{root_place, kids, pick, fits}
+use Rattle.rules.specs.Place.{root_place, kids, pick, fits, Why}
 use Rattle.rules.specs.Enter.{enter}
 use Rattle.rules.specs.Report.{nothing}
 use Rattle.rules.specs.Walk.{Step, Way, numbers, descend, descend_report, way_of, way_report}
@@ -22,7 +23,6 @@ use Rattle.rules.specs.Lookup.{lookup}
 use Rattle.rules.specs.Reports.{key_report, insert_reported, withdraw_reported, lookup_reported}
 use Rattle.rules.specs.declared.Session.{Session}
 use Rattle.rules.specs.declared.Place.{Place}
-use Rattle.rules.specs.declared.Reason.{Reason}
 use Rattle.rules.specs.declared.Report.{Report}
 use Rattle.rules.proofs.Entries.Tests.{not_both, mem-head, mem_tail}
 use Rattle.rules.proofs.Entries.Places.{fits-of}
@@ -37,7 +37,7 @@ use Rattle.reading.specs.Leaving.{Typed}
 use Rattle.reading.specs.Reporting.{LookupTells, InsertTells, WithdrawTells}
 use Rattle.reading.proofs.Refused.{key-bound}
 
-abbrev reason_of : Report → Reason
+abbrev reason_of : Report → Why
 reason_of x = x.reason
 
 -- ── A page above stays to the end of the way ────────────────────────────────────────────────────────────────────
@@ -90,7 +90,7 @@ entered-stays level n c k above t e r p h = go (pick k (kids e p.view)) refl
 -- ── A table as it was ───────────────────────────────────────────────────────────────────────────────────────────
 
 descend-untold : (level n c k : ℕ) (above : List Step) (t : List ℕ) (e : Place) → Ready n c k t e
-    → (descend level n c k above t e).table ≡ t → (descend_report level n c k above t e nothing).reason ≡ Reason.None
+    → (descend level n c k above t e).table ≡ t → (descend_report level n c k above t e nothing).reason ≡ None
 unfolding descend_report nothing
 descend-untold zero n c k above t e r same = refl
 descend-untold (suc level) n c k above t e r same =
@@ -101,10 +101,10 @@ descend-untold (suc level) n c k above t e r same =
 
     Rest : Type 0
     Rest = (ss : List Step) (v : List ℕ) (d : Place) → Ready n c k v d → (descend level n c k ss v d).table ≡ v
-        → (descend_report level n c k ss v d nothing).reason ≡ Reason.None
+        → (descend_report level n c k ss v d nothing).reason ≡ None
 
     Goal : Type 0
-    Goal = (descend_report (suc level) n c k above t e nothing).reason ≡ Reason.None
+    Goal = (descend_report (suc level) n c k above t e nothing).reason ≡ None
 
     -- the page fits: the way goes on
     below : (p : Page) → (enter n c (numbers above) t e).page ≡ some p → fits n e (read t e.child) ≡ true
@@ -128,7 +128,7 @@ descend-untold (suc level) n c k above t e r same =
     found (some p) h ih = entered p h (fits n e (read t e.child)) refl ih
 
 way-untold : (n c k : ℕ) (w : List ℕ) → length w ≡ n * page_size → fit0 n w ≡ true → Bytes w → c < 256 ^ 4 → k ≤ last_key
-    → (way_of n c k w).table ≡ w → (way_report n c k w nothing).reason ≡ Reason.None
+    → (way_of n c k w).table ≡ w → (way_report n c k w nothing).reason ≡ None
 unfolding way_of way_report
 way-untold n c k w l f b m h = descend-untold top_kind n c k [] w (root_place w) (ready-root n c k w l f b m h)
 
@@ -138,7 +138,7 @@ way-untold n c k w l f b m h = descend-untold top_kind n c k [] w (root_place w)
 key-untold : (w t : List ℕ) (s : Session) (model serial issue : ℕ) → Typed w s model serial issue
     → (lengths_for s w t ≡ true → good_parts model serial issue ≡ true → fit0 s.n w ≡ true
     → (way_of s.n s.c (key_of model serial issue) w).table ≡ w)
-    → (key_report w t s model serial issue).reason ≡ Reason.None
+    → (key_report w t s model serial issue).reason ≡ None
 unfolding key_report nothing
 key-untold w t s model serial issue y same =
     go (lengths_for s w t) refl (good_parts model serial issue) refl (fit0 s.n w) refl
@@ -153,7 +153,7 @@ key-untold w t s model serial issue y same =
     x = way_report s.n s.c k w nothing
 
     go : (a : Bool) → lengths_for s w t ≡ a → (b : Bool) → good_parts model serial issue ≡ b → (c : Bool) → fit0 s.n w ≡ c
-        → (key_report w t s model serial issue).reason ≡ Reason.None
+        → (key_report w t s model serial issue).reason ≡ None
     go false l b g c f = ap reason_of (tested-length s w t good x l)
     go true l false g c f = ap reason_of (tested-key s w t good x l g)
     go true l true g false f = ap reason_of (tested-zero s w t good x l g f)

@@ -1,4 +1,5 @@
 -- A withdrawal that is done: the way that it went, and the one page that it changes, in tables of any bytes.
+use Rattle.std.specs.Prelude.{Ok}
 use Prim.Native.Nat.{ℕ}
 use native.Mathlib.Omega.{arith}
 use mathlib.Core.Path.{◌≡◌, refl, sym, ap, ◌∙◌, subst}
@@ -11,10 +12,10 @@ use Rattle.rules.specs.Entry.{find, without}
 use Rattle.rules.specs.Page.{Page, is_leaf, touch}
 use Rattle.rules.specs.Table.{read, fit0, Tables}
 use Rattle.rules.specs.Walk.{Step, certs_at, leaf_at, way_of}
-use Rattle.rules.specs.Call.{Left, lengths_for, withdrawn_no}
+use Rattle.rules.specs.Call.{Left, lengths_for, withdrawn_no, find_error_no}
 use Rattle.rules.specs.Withdraw.{without_cert, removed, withdraw_refused, withdraw_done, withdraw_along, withdraw_key, withdraw}
 use Rattle.rules.specs.declared.Session.{Session}
-use Rattle.rules.specs.declared.Withdrawn.{Withdrawn}
+use Rattle.rules.specs.Answer.{Withdrawn}
 use Rattle.rules.proofs.Bytes.All.{All, all_head}
 use Rattle.rules.proofs.Bytes.Pages.{Wide, wide-touch}
 use Rattle.rules.proofs.Bytes.Widths.{wide-without_cert}
@@ -41,9 +42,9 @@ pub record Took (w t : List ℕ) (s : Session) (model serial issue : ℕ) (r : L
   pub found : find (key_of model serial issue) (certs_at steps) ≡ some old
   pub is : r ≡ withdraw_done (key_of model serial issue) s steps (way_of s.n s.c (key_of model serial issue) w).table t
 
-along_done : (k : ℕ) (s : Session) (way : List Step) (u t : List ℕ) → (withdraw_along k s way u t).answer ≡ Withdrawn.Done
+along_done : (k : ℕ) (s : Session) (way : List Step) (u t : List ℕ) → (withdraw_along k s way u t).answer ≡ Ok tt
     → (x : ℕ) × (find k (certs_at way) ≡ some x) × (withdraw_along k s way u t ≡ withdraw_done k s way u t)
-unfolding withdraw_along withdraw_refused withdrawn_no
+unfolding withdraw_along withdraw_refused find_error_no
 along_done k s way u t h = go (find k (certs_at way)) refl
   where
     go : (o : Option ℕ) → find k (certs_at way) ≡ o
@@ -56,8 +57,8 @@ module _ (w t : List ℕ) (s : Session) (model serial issue : ℕ) where
   key = key_of model serial issue
 
   key-done : lengths_for s w t ≡ true → good_parts model serial issue ≡ true → fit0 s.n w ≡ true
-      → (withdraw_key key s w t).answer ≡ Withdrawn.Done → Took w t s model serial issue (withdraw_key key s w t)
-  unfolding withdraw_key withdraw_refused withdrawn_no
+      → (withdraw_key key s w t).answer ≡ Ok tt → Took w t s model serial issue (withdraw_key key s w t)
+  unfolding withdraw_key withdraw_refused find_error_no
   key-done l g f h = go (way_of s.n s.c key w).steps refl
     where
       go : (o : Option (List Step)) → (way_of s.n s.c key w).steps ≡ o → Took w t s model serial issue (withdraw_key key s w t)
@@ -67,9 +68,9 @@ module _ (w t : List ℕ) (s : Session) (model serial issue : ℕ) where
           rw (withdraw_key, o)
           (record { lengths = l; good = g; fit = f; steps = steps; way = o; old = d.0; found = d.1; is = d.2 })
 
-  pub withdraw_took : (withdraw w t s model serial issue).answer ≡ Withdrawn.Done
+  pub withdraw_took : (withdraw w t s model serial issue).answer ≡ Ok tt
       → Took w t s model serial issue (withdraw w t s model serial issue)
-  unfolding withdraw withdraw_refused withdrawn_no
+  unfolding withdraw withdraw_refused find_error_no
   withdraw_took h = go (lengths_for s w t) refl (good_parts model serial issue) refl (fit0 s.n w) refl
     where
       go : (a : Bool) → lengths_for s w t ≡ a → (b : Bool) → good_parts model serial issue ≡ b

@@ -1,5 +1,6 @@
 -- In every history a withdrawal that is done takes its key away and nothing else: a lookup of it answers 4, one of any other key as
 -- before, and the tree holds what it held but the key.
+use Rattle.std.specs.Prelude.{Ok, Err}
 use Prim.Native.Nat.{ℕ, ◌<◌}
 use native.Mathlib.Omega.{arith}
 use mathlib.Core.Path.{◌≡◌, sym, ap, ◌∙◌, subst}
@@ -14,8 +15,8 @@ use Rattle.rules.specs.Withdraw.{withdraw_done}
 use Rattle.rules.specs.Lookup.{lookup}
 use Rattle.rules.specs.History.{Event, withdraws, State, latest, gains, after_withdraw, step, run, start, Proper, AllProper}
 use Rattle.rules.specs.Demand.{Lent, withdraw_now, Serves, Demand3, OpenedTold}
-use Rattle.rules.specs.declared.Withdrawn.{Withdrawn}
-use Rattle.rules.specs.declared.Looked.{Looked}
+use Rattle.rules.specs.Answer.{Withdrawn}
+use Rattle.rules.specs.declared.FindError.{FindError}
 use Rattle.rules.proofs.Entries.Withouts.{find-without-same, find-without-other, without-rising}
 use Rattle.rules.proofs.Demand3.Histories.Histories.{demand3, session-tells}
 use Rattle.reading.specs.Agreeing.{held, answer_for, AgreeIn, HistoriesAgree}
@@ -27,14 +28,14 @@ use Rattle.reading.proofs.TakenOut.{Took, withdraw_took}
 
 -- ── One withdrawal ──────────────────────────────────────────────────────────────────────────────────────────────
 
-past-done : (k : ℕ) (m : State) (r : Left Withdrawn) → r.answer ≡ Withdrawn.Done → (after_withdraw k m r).past ≡ gains k none m.past
+past-done : (k : ℕ) (m : State) (r : Left Withdrawn) → r.answer ≡ Ok tt → (after_withdraw k m r).past ≡ gains k none m.past
 unfolding after_withdraw
 past-done k m r h = rw (h, after_withdraw)
 
 -- with the store before it, and after it
 module _ (m : State) (model serial issue : ℕ) (wide_model : model < 65536) (wide_serial : serial < 4294967296) (wide_issue : issue < 65536)
     (before : Serves m) (after : Serves (step (withdraws model serial issue) m)) (agree : AgreeIn (step (withdraws model serial issue) m))
-    (done : (withdraw_now m model serial issue).answer ≡ Withdrawn.Done) where
+    (done : (withdraw_now m model serial issue).answer ≡ Ok tt) where
   abbrev k : ℕ
   k = key_of model serial issue
 
@@ -55,7 +56,7 @@ module _ (m : State) (model serial issue : ℕ) (wide_model : model < 65536) (wi
   unfolding step after_withdraw
   lengths-after = agree.passes.lengths
 
-  own : (lookup r.working r.stable r.session model serial issue).answer ≡ Looked.Missing
+  own : (lookup r.working r.stable r.session model serial issue).answer ≡ Err FindError.Missing
   unfolding step after_withdraw answer_for
   own =
       lookup_for r.working r.stable r.session model serial issue lengths-after took.good (after.lookup_whole model serial issue)
@@ -78,7 +79,7 @@ module _ (m : State) (model serial issue : ℕ) (wide_model : model < 65536) (wi
 
 module _ (n : ℕ) (w s : List ℕ) (l : Lent n w s) (h : List Event) (t : AllProper n h) (z : (run h (start w s)).session.n ≡ n)
     (model serial issue : ℕ) (a : model < 65536) (b : serial < 4294967296) (c : issue < 65536)
-    (done : (withdraw_now (run h (start w s)) model serial issue).answer ≡ Withdrawn.Done) where
+    (done : (withdraw_now (run h (start w s)) model serial issue).answer ≡ Ok tt) where
   abbrev e : Event
   e = withdraws model serial issue
 

@@ -1,5 +1,5 @@
 -- Lookup, newest, has-any and list answer by one list of certificates: those of the tree as it stands, as opening reads it.
-use Rattle.std.specs.Prelude.{ℕ, ◌^◌, ◌≤◌, ◌<◌, min, ◌≡◌, true, ◌&&◌, List, ltb, length, take}
+use Rattle.std.specs.Prelude.{ℕ, ◌^◌, ◌≤◌, ◌<◌, min, ◌≡◌, true, ◌&&◌, List, ltb, length, take, Ok, Err}
 use Rattle.std.proofs.Math.Option.{Option, some, none}
 use Rattle.fields.specs.Field.{Bytes}
 use Rattle.rules.specs.Layout.{last_key, largest_issue}
@@ -16,10 +16,8 @@ use Rattle.rules.specs.List.{ListLeft, records_of, list}
 use Rattle.rules.specs.History.{Event, State, run, start, AllProper}
 use Rattle.rules.specs.Demand.{Lent}
 use Rattle.rules.specs.declared.Session.{Session}
-use Rattle.rules.specs.declared.Inserted.{Inserted}
-use Rattle.rules.specs.declared.Looked.{Looked}
-use Rattle.rules.specs.declared.Newest.{Newest}
-use Rattle.rules.specs.declared.Listed.{Listed}
+use Rattle.rules.specs.Answer.{Looked, Newest, newest_is}
+use Rattle.rules.specs.declared.FindError.{FindError}
 use Rattle.reading.specs.Reading.{last_issue}
 use Rattle.reading.specs.Inserting.{inserted}
 
@@ -41,15 +39,15 @@ pub record Passes (w t : List ℕ) (s : Session) : Type 0 where
 
 -- what a lookup answers that found this
 unfoldable pub answer_for : Option ℕ → Looked
-answer_for none = Looked.Missing
-answer_for (some x) = Looked.Found x
+answer_for none = Err FindError.Missing
+answer_for (some x) = Ok x
 
 -- the largest issue of a meter among some certificates, and its record
 pub data Largest (certs : List Cert) (model serial : ℕ) (answer : Newest) : Type 0 where
-  found : (i x : ℕ) → answer ≡ Newest.Found i x → 1 ≤ i → i ≤ last_issue → find (key_of model serial i) certs ≡ some x
+  found : (i x : ℕ) → answer ≡ Ok (newest_is i x) → 1 ≤ i → i ≤ last_issue → find (key_of model serial i) certs ≡ some x
       → ((j : ℕ) → i < j → j ≤ last_issue → find (key_of model serial j) certs ≡ none)
       → Largest certs model serial answer
-  missing : answer ≡ Newest.Missing
+  missing : answer ≡ Err FindError.Missing
       → ((j : ℕ) → 1 ≤ j → j ≤ last_issue → find (key_of model serial j) certs ≡ none)
       → Largest certs model serial answer
 
@@ -58,7 +56,7 @@ unfoldable pub listed_from : ℕ → List ℕ → List ℕ → List Cert → Lis
 listed_from start ks xs certs = take (min (length ks) (length xs)) (cut start last_key certs)
 
 pub record Fills (certs : List Cert) (start : ℕ) (ks xs : List ℕ) (r : ListLeft) : Type 0 where
-  pub answer : r.answer ≡ Listed.Filled (length (listed_from start ks xs certs))
+  pub answer : r.answer ≡ Ok (length (listed_from start ks xs certs))
   pub keys : r.keys ≡ over (keys (listed_from start ks xs certs)) ks
   pub records : r.records ≡ over (records_of (listed_from start ks xs certs)) xs
 
@@ -108,6 +106,6 @@ unfoldable pub InsertPuts : Type 0
 InsertPuts =
     (n : ℕ) (w s : List ℕ) → Lent n w s → (h : List Event) → AllProper n h → (run h (start w s)).session.n ≡ n
     → (model serial issue x : ℕ) → model < 65536 → serial < 4294967296 → issue < 65536 → x < 4294967296
-    → (inserted (run h (start w s)) model serial issue x).answer ≡ Inserted.Done
+    → (inserted (run h (start w s)) model serial issue x).answer ≡ Ok tt
     → held (inserted (run h (start w s)) model serial issue x).session (inserted (run h (start w s)) model serial issue x).working
     ≡ put (record { key = key_of model serial issue; value = x }) (held (run h (start w s)).session (run h (start w s)).working)

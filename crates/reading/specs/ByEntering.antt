@@ -1,5 +1,5 @@
 -- Opening in another way: every page of a copy is entered, root first, in key order, and mended where it is lost.
-use Rattle.std.specs.Prelude.{ℕ, zero, suc, ◌+◌, ◌^◌, ◌<◌, ◌≡◌, true, false, ◌&&◌, List, [], ◌∷◌, leb}
+use Rattle.std.specs.Prelude.{ℕ, zero, suc, ◌+◌, ◌^◌, ◌<◌, ◌≡◌, true, false, ◌&&◌, List, [], ◌∷◌, leb, Ok, Err}
 use Rattle.std.proofs.Math.Option.{some, none}
 use Rattle.fields.specs.Field.{Bytes}
 use Rattle.rules.specs.Layout.{top_kind, last_number}
@@ -11,7 +11,8 @@ use Rattle.rules.specs.Marks.{opened}
 use Rattle.rules.specs.Call.{Left}
 use Rattle.rules.specs.Open.{open_refused, opening}
 use Rattle.rules.specs.declared.Place.{Place}
-use Rattle.rules.specs.declared.Opened.{Opened}
+use Rattle.rules.specs.Answer.{Opened}
+use Rattle.rules.specs.declared.OpenError.{OpenError}
 
 -- ── The tree as entering shows it ───────────────────────────────────────────────────────────────────────────────
 
@@ -45,13 +46,13 @@ entered_tree n c t = (enter_all top_kind n c [] (root_place t) (record { table =
 unfoldable pub opening_by : Tree → List ℕ → List ℕ → Left Opened
 opening_by found w s =
     elim (good_lengths w s) [
-      | false ↦ open_refused Opened.Length w s
+      | false ↦ open_refused (Err OpenError.Length) w s
       | true ↦ elim (fit0 (pages s) s && good_tree found) [
-        | false ↦ open_refused Opened.Damaged w s
+        | false ↦ open_refused (Err OpenError.Damaged) w s
         | true ↦ elim (leb (number0 s) last_number) [
-          | false ↦ open_refused Opened.Spent w s
+          | false ↦ open_refused (Err OpenError.Spent) w s
           | true ↦ record {
-            answer = Opened.Done;
+            answer = Ok tt;
             session = opened (pages s) (number0 s) found;
             working = set_number s (number0 s + 1);
             stable = set_number s (number0 s + 1);

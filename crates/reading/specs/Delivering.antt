@@ -7,7 +7,7 @@ use Rattle.rules.specs.Call.{Left, lengths_for}
 use Rattle.rules.specs.Insert.{insert}
 use Rattle.rules.specs.Batch.{between, items_answered}
 use Rattle.rules.specs.declared.Session.{Session}
-use Rattle.rules.specs.declared.Inserted.{Inserted}
+use Rattle.rules.specs.Answer.{Inserted}
 use Rattle.rules.specs.declared.Item.{Item}
 use Rattle.rules.proofs.Bytes.All.{All}
 use Rattle.reading.specs.Leaving.{Typed}

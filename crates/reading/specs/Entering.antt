@@ -1,5 +1,5 @@
 -- The tree that opening reads off a table that stays as it is, and what entering its places one after the other shows.
-use Rattle.std.specs.Prelude.{ℕ, ◌^◌, ◌≤◌, ◌<◌, ◌≡◌, true, false, List, length}
+use Rattle.std.specs.Prelude.{ℕ, ◌^◌, ◌≤◌, ◌<◌, ◌≡◌, true, false, List, length, Ok}
 use Rattle.std.proofs.Math.Option.{some}
 use Rattle.fields.specs.Field.{Bytes}
 use Rattle.rules.specs.Layout.{last_key}
@@ -12,7 +12,6 @@ use Rattle.rules.specs.Walk.{walk_of}
 use Rattle.rules.specs.Tree.{tree_of}
 use Rattle.rules.specs.Open.{opening}
 use Rattle.rules.specs.declared.Place.{Place}
-use Rattle.rules.specs.declared.Opened.{Opened}
 use Rattle.answers.specs.AsItStands.{InTree}
 
 -- ── Places entered one after the other ──────────────────────────────────────────────────────────────────────────
@@ -47,4 +46,4 @@ pub record Alike (n c : ℕ) (t : List ℕ) : Type 0 where
 -- where opening answers 0, for any counter
 unfoldable pub OpeningEnters : Type 0
 OpeningEnters =
-    (w s : List ℕ) → Bytes s → (opening w s).answer ≡ Opened.Done → (c : ℕ) → c < 256 ^ 4 → Alike (pages s) c s
+    (w s : List ℕ) → Bytes s → (opening w s).answer ≡ Ok tt → (c : ℕ) → c < 256 ^ 4 → Alike (pages s) c s

@@ -1,5 +1,5 @@
 -- What an insert that is done changes: which pages, which marks, and what is found afterwards.
-use Rattle.std.specs.Prelude.{ℕ, ◌^◌, ◌≤◌, ◌<◌, ◌≡◌, true, false, List, [], ◌∷◌, length, take, get_or}
+use Rattle.std.specs.Prelude.{ℕ, ◌^◌, ◌≤◌, ◌<◌, ◌≡◌, true, false, List, [], ◌∷◌, length, take, get_or, Ok}
 use Rattle.std.proofs.Math.Option.{some}
 use Rattle.rules.specs.Key.{key_of}
 use Rattle.rules.specs.Test.{mem}
@@ -12,8 +12,7 @@ use Rattle.rules.specs.Lookup.{lookup}
 use Rattle.rules.specs.History.{Event, State, run, start, AllProper}
 use Rattle.rules.specs.Demand.{Lent}
 use Rattle.rules.specs.declared.Session.{Session}
-use Rattle.rules.specs.declared.Inserted.{Inserted}
-use Rattle.rules.specs.declared.Looked.{Looked}
+use Rattle.rules.specs.Answer.{Inserted}
 use Rattle.reading.specs.Leaving.{Typed}
 
 -- ── Pages and marks ─────────────────────────────────────────────────────────────────────────────────────────────
@@ -49,21 +48,21 @@ pub record FewChange (w : List ℕ) (s : Session) (k : ℕ) (r : Left Inserted) 
 unfoldable pub InsertChanges : Type 0
 InsertChanges =
     (w t : List ℕ) (s : Session) (model serial issue x : ℕ) → Typed w s model serial issue
-    → (insert w t s model serial issue x).answer ≡ Inserted.Done
+    → (insert w t s model serial issue x).answer ≡ Ok tt
     → FewChange w s (key_of model serial issue) (insert w t s model serial issue x)
 
 -- ── What is found afterwards ────────────────────────────────────────────────────────────────────────────────────
 
 -- a lookup of the key answers 0 with the record, and has nothing to mend
 pub record FoundThen (r : Left Inserted) (model serial issue x : ℕ) : Type 0 where
-  pub answer : (lookup r.working r.stable r.session model serial issue).answer ≡ Looked.Found x
+  pub answer : (lookup r.working r.stable r.session model serial issue).answer ≡ Ok x
   pub working : (lookup r.working r.stable r.session model serial issue).working ≡ r.working
 
 -- in tables of any bytes, with any session
 unfoldable pub InsertFound : Type 0
 InsertFound =
     (w t : List ℕ) (s : Session) (model serial issue x : ℕ) → Typed w s model serial issue → x < 256 ^ 4
-    → (insert w t s model serial issue x).answer ≡ Inserted.Done
+    → (insert w t s model serial issue x).answer ≡ Ok tt
     → FoundThen (insert w t s model serial issue x) model serial issue x
 
 -- an insert into a store of a history
@@ -72,7 +71,7 @@ inserted m model serial issue x = insert m.working m.stable m.session model seri
 
 -- a lookup of the key answers 0 with the record, one of any other key as before
 pub record Adds (m : State) (model serial issue x : ℕ) (r : Left Inserted) : Type 0 where
-  pub own : (lookup r.working r.stable r.session model serial issue).answer ≡ Looked.Found x
+  pub own : (lookup r.working r.stable r.session model serial issue).answer ≡ Ok x
   pub others : (model' serial' issue' : ℕ) → model' < 65536 → serial' < 4294967296 → issue' < 65536
       → (key_of model' serial' issue' ≡ key_of model serial issue → ⊥)
       → (lookup r.working r.stable r.session model' serial' issue').answer
@@ -83,5 +82,5 @@ unfoldable pub InsertAdds : Type 0
 InsertAdds =
     (n : ℕ) (w s : List ℕ) → Lent n w s → (h : List Event) → AllProper n h → (run h (start w s)).session.n ≡ n
     → (model serial issue x : ℕ) → model < 65536 → serial < 4294967296 → issue < 65536 → x < 4294967296
-    → (inserted (run h (start w s)) model serial issue x).answer ≡ Inserted.Done
+    → (inserted (run h (start w s)) model serial issue x).answer ≡ Ok tt
     → Adds (run h (start w s)) model serial issue x (inserted (run h (start w s)) model serial issue x)

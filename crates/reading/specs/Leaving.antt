@@ -1,5 +1,5 @@
 -- What a walk of one key leaves of each page.
-use Rattle.std.specs.Prelude.{ℕ, zero, suc, ◌^◌, ◌<◌, min, ◌≡◌, true, false, length}
+use Rattle.std.specs.Prelude.{ℕ, zero, suc, ◌^◌, ◌<◌, min, ◌≡◌, true, false, length, Ok}
 use mathlib.Core.List.{List, [], ◌∷◌, Memᴰ}
 use Rattle.std.proofs.Math.Option.{some, none}
 use Rattle.fields.specs.Field.{Bytes}
@@ -17,8 +17,6 @@ use Rattle.rules.specs.Lookup.{lookup}
 use Rattle.rules.specs.List.{ListLeft, list}
 use Rattle.rules.specs.declared.Place.{Place}
 use Rattle.rules.specs.declared.Session.{Session}
-use Rattle.rules.specs.declared.Inserted.{Inserted}
-use Rattle.rules.specs.declared.Withdrawn.{Withdrawn}
 
 -- ── The places that a walk asks for ─────────────────────────────────────────────────────────────────────────────
 
@@ -69,13 +67,13 @@ pub record Typed (w : List ℕ) (s : Session) (model serial issue : ℕ) : Type 
 unfoldable pub InsertRefused : Type 0
 InsertRefused =
     (w t : List ℕ) (s : Session) (model serial issue x : ℕ) → Typed w s model serial issue
-    → ((insert w t s model serial issue x).answer ≡ Inserted.Done → ⊥)
+    → ((insert w t s model serial issue x).answer ≡ Ok tt → ⊥)
     → OnlyWay (key_of model serial issue) w t s (insert w t s model serial issue x)
 
 unfoldable pub WithdrawRefused : Type 0
 WithdrawRefused =
     (w t : List ℕ) (s : Session) (model serial issue : ℕ) → Typed w s model serial issue
-    → ((withdraw w t s model serial issue).answer ≡ Withdrawn.Done → ⊥)
+    → ((withdraw w t s model serial issue).answer ≡ Ok tt → ⊥)
     → OnlyWay (key_of model serial issue) w t s (withdraw w t s model serial issue)
 
 -- done or refused

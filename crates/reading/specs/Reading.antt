@@ -1,5 +1,5 @@
 -- What a reader may rely on.
-use Rattle.std.specs.Prelude.{ℕ, ◌^◌, ◌≤◌, ◌<◌, ◌≡◌, true, length, take}
+use Rattle.std.specs.Prelude.{ℕ, ◌^◌, ◌≤◌, ◌<◌, ◌≡◌, true, length, take, Ok}
 use mathlib.Core.List.{List, ◌∷◌, Memᴰ}
 use Rattle.std.proofs.Math.Option.{some}
 use Rattle.rules.specs.Key.{key_of, model_of, serial_of, issue_of, good_key}
@@ -14,10 +14,7 @@ use Rattle.rules.specs.List.{ListLeft, up_from, records_of, list}
 use Rattle.rules.specs.declared.Place.{Place}
 use Rattle.rules.specs.declared.Asked.{Asked}
 use Rattle.rules.specs.declared.Session.{Session}
-use Rattle.rules.specs.declared.Looked.{Looked}
-use Rattle.rules.specs.declared.Newest.{Newest}
-use Rattle.rules.specs.declared.Any.{Any}
-use Rattle.rules.specs.declared.Listed.{Listed}
+use Rattle.rules.specs.Answer.{newest_is}
 use Rattle.answers.specs.Range.{Parent, numbers_of, Comes}
 
 -- the last issue that newest asks for, where the range of every meter ends: 32,767
@@ -43,7 +40,7 @@ pub record Exact (s : Session) (w : List ℕ) (model serial issue x : ℕ) : Typ
 unfoldable pub LookupExact : Type 0
 LookupExact =
     (w t : List ℕ) (s : Session) (model serial issue x : ℕ) → serial < 2 ^ 32 → issue < 2 ^ 16
-    → (lookup w t s model serial issue).answer ≡ Looked.Found x → Exact s w model serial issue x
+    → (lookup w t s model serial issue).answer ≡ Ok x → Exact s w model serial issue x
 
 -- ── Certificates of a range ─────────────────────────────────────────────────────────────────────────────────────
 
@@ -92,14 +89,14 @@ pub record ExactList (s : Session) (w : List ℕ) (start : ℕ) (ks xs : List �
 unfoldable pub NewestExact : Type 0
 NewestExact =
     (w t : List ℕ) (s : Session) (model serial i x : ℕ) → serial < 2 ^ 32
-    → (newest w t s model serial).answer ≡ Newest.Found i x → ExactNewest s w model serial i x
+    → (newest w t s model serial).answer ≡ Ok (newest_is i x) → ExactNewest s w model serial i x
 
 unfoldable pub AnyExact : Type 0
 AnyExact =
     (w t : List ℕ) (s : Session) (model serial : ℕ) → serial < 2 ^ 32
-    → (has_any w t s model serial).answer ≡ Any.Yes → ExactAny s w model serial
+    → (has_any w t s model serial).answer ≡ Ok true → ExactAny s w model serial
 
 unfoldable pub ListExact : Type 0
 ListExact =
     (w t : List ℕ) (s : Session) (start : ℕ) (ks xs : List ℕ) (k : ℕ)
-    → (list w t s start ks xs).answer ≡ Listed.Filled k → ExactList s w start ks xs k (list w t s start ks xs)
+    → (list w t s start ks xs).answer ≡ Ok k → ExactList s w start ks xs k (list w t s start ks xs)

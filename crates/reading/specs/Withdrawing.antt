@@ -1,5 +1,5 @@
 -- What a withdrawal that is done changes: one page and the total, what is found afterwards, and what the tree holds.
-use Rattle.std.specs.Prelude.{ℕ, ◌<◌, ◌≡◌, ◌≢◌, List, length}
+use Rattle.std.specs.Prelude.{ℕ, ◌<◌, ◌≡◌, ◌≢◌, List, length, Ok, Err}
 use Rattle.std.proofs.Math.Option.{some}
 use Rattle.rules.specs.Key.{key_of}
 use Rattle.rules.specs.Entry.{without}
@@ -12,8 +12,8 @@ use Rattle.rules.specs.Lookup.{lookup}
 use Rattle.rules.specs.History.{Event, State, run, start, AllProper}
 use Rattle.rules.specs.Demand.{Lent, withdraw_now}
 use Rattle.rules.specs.declared.Session.{Session}
-use Rattle.rules.specs.declared.Withdrawn.{Withdrawn}
-use Rattle.rules.specs.declared.Looked.{Looked}
+use Rattle.rules.specs.Answer.{Withdrawn}
+use Rattle.rules.specs.declared.FindError.{FindError}
 use Rattle.reading.specs.Leaving.{asked_for, PageLeft, Typed}
 use Rattle.reading.specs.Agreeing.{held}
 
@@ -34,14 +34,14 @@ pub record LeafChanges (k : ℕ) (w t : List ℕ) (s : Session) (r : Left Withdr
 unfoldable pub WithdrawChanges : Type 0
 WithdrawChanges =
     (w t : List ℕ) (s : Session) (model serial issue : ℕ) → Typed w s model serial issue
-    → (withdraw w t s model serial issue).answer ≡ Withdrawn.Done
+    → (withdraw w t s model serial issue).answer ≡ Ok tt
     → LeafChanges (key_of model serial issue) w t s (withdraw w t s model serial issue)
 
 -- ── What is found afterwards ────────────────────────────────────────────────────────────────────────────────────
 
 -- a lookup of the key answers 4, one of any other key as before
 pub record Takes (m : State) (model serial issue : ℕ) (r : Left Withdrawn) : Type 0 where
-  pub own : (lookup r.working r.stable r.session model serial issue).answer ≡ Looked.Missing
+  pub own : (lookup r.working r.stable r.session model serial issue).answer ≡ Err FindError.Missing
   pub others : (model' serial' issue' : ℕ) → model' < 65536 → serial' < 4294967296 → issue' < 65536
       → key_of model' serial' issue' ≢ key_of model serial issue
       → (lookup r.working r.stable r.session model' serial' issue').answer
@@ -52,7 +52,7 @@ unfoldable pub WithdrawTakes : Type 0
 WithdrawTakes =
     (n : ℕ) (w s : List ℕ) → Lent n w s → (h : List Event) → AllProper n h → (run h (start w s)).session.n ≡ n
     → (model serial issue : ℕ) → model < 65536 → serial < 4294967296 → issue < 65536
-    → (withdraw_now (run h (start w s)) model serial issue).answer ≡ Withdrawn.Done
+    → (withdraw_now (run h (start w s)) model serial issue).answer ≡ Ok tt
     → Takes (run h (start w s)) model serial issue (withdraw_now (run h (start w s)) model serial issue)
 
 -- and the tree holds what it held but the key
@@ -60,6 +60,6 @@ unfoldable pub WithdrawRemoves : Type 0
 WithdrawRemoves =
     (n : ℕ) (w s : List ℕ) → Lent n w s → (h : List Event) → AllProper n h → (run h (start w s)).session.n ≡ n
     → (model serial issue : ℕ) → model < 65536 → serial < 4294967296 → issue < 65536
-    → (withdraw_now (run h (start w s)) model serial issue).answer ≡ Withdrawn.Done
+    → (withdraw_now (run h (start w s)) model serial issue).answer ≡ Ok tt
     → held (withdraw_now (run h (start w s)) model serial issue).session (withdraw_now (run h (start w s)) model serial issue).working
     ≡ without (key_of model serial issue) (held (run h (start w s)).session (run h (start w s)).working)

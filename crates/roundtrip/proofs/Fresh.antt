@@ -16,7 +16,7 @@ use Rattle.rules.specs.Format.{formatted, format}
 use Rattle.rules.specs.Open.{opening}
 use Rattle.rules.specs.History.{State, start, run, AllProper, after_open}
 use Rattle.rules.specs.Demand.{Lent}
-use Rattle.rules.specs.declared.Opened.{Opened}
+use Rattle.rules.specs.Answer.{Opened}
 use Rattle.rules.proofs.Entries.Tests.{all_head, between-high}
 use Rattle.rules.proofs.Entries.Entries.{find_head}
 use Rattle.rules.proofs.Bytes.Lengths.{tables-good, pages-of}

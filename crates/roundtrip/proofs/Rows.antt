@@ -1,4 +1,5 @@
 -- Certificates that go into a store one after another, each done, end up in it in key order. Assumes nothing.
+use Rattle.std.specs.Prelude.{Ok, Err}
 use Prim.Native.Nat.{ℕ, suc, ◌+◌, ◌^◌, ◌≤◌, ◌<◌}
 use native.Mathlib.Omega.{arith}
 use mathlib.Core.Path.{◌≡◌, refl, sym, ap, ◌∙◌, subst}
@@ -10,13 +11,14 @@ use lib.ListN.{length}
 use Rattle.rules.specs.Test.{all}
 use Rattle.rules.specs.Key.{model_of, serial_of, issue_of}
 use Rattle.rules.specs.Entry.{Cert, keys, put, rises_from, rising}
-use Rattle.rules.specs.Call.{Left, inserted_no}
+use Rattle.rules.specs.Call.{Left, inserted_no, insert_error_no}
 use Rattle.rules.specs.Insert.{insert}
 use Rattle.rules.specs.Reports.{insert_reported}
 use Rattle.rules.specs.Batch.{Between, insert_item, after_item, item_no, answered, after_items, items_answered}
 use Rattle.rules.specs.History.{Event, inserts, State, after_insert, step, run, start, Proper, AllProper}
 use Rattle.rules.specs.Demand.{Lent}
-use Rattle.rules.specs.declared.Inserted.{Inserted}
+use Rattle.rules.specs.Answer.{Inserted}
+use Rattle.rules.specs.declared.InsertError.{InsertError}
 use Rattle.rules.specs.declared.Item.{Item}
 use Rattle.rules.proofs.Entries.Tests.{every_true, all_head, all_tail}
 use Rattle.rules.proofs.Entries.Puts.{put-nil, put-behind}
@@ -78,15 +80,15 @@ all_done x xs d = go (eqb x.answer 0) refl
     go true h = (eqb-true x.answer 0 h, (let e = rw (done_in, h) at d in omega (arith, e)))
     go false h = absurd (let e = rw (done_in, h) at d in omega (arith, e, done-most xs))
 
-only-done : (a : Inserted) → inserted_no a ≡ 0 → a ≡ Inserted.Done
-unfolding inserted_no
-only-done Inserted.Done h = refl
-only-done Inserted.Length h = absurd (omega (arith, h))
-only-done Inserted.BadKey h = absurd (omega (arith, h))
-only-done Inserted.Damaged h = absurd (omega (arith, h))
-only-done Inserted.Present h = absurd (omega (arith, h))
-only-done Inserted.SyncFirst h = absurd (omega (arith, h))
-only-done Inserted.Full h = absurd (omega (arith, h))
+only-done : (a : Inserted) → inserted_no a ≡ 0 → a ≡ Ok tt
+unfolding insert_error_no
+only-done (Ok done) h = refl
+only-done (Err InsertError.Length) h = absurd (omega (arith, h))
+only-done (Err InsertError.BadKey) h = absurd (omega (arith, h))
+only-done (Err InsertError.Damaged) h = absurd (omega (arith, h))
+only-done (Err InsertError.Present) h = absurd (omega (arith, h))
+only-done (Err InsertError.SyncFirst) h = absurd (omega (arith, h))
+only-done (Err InsertError.Full) h = absurd (omega (arith, h))
 
 -- ── Along a history ─────────────────────────────────────────────────────────────────────────────────────────────
 
@@ -112,7 +114,7 @@ module _ (t : List ℕ) (b : Between) (m : State) (st : Stands t b m) (e : Cert)
     session = ap (λ (r : Left Inserted). r.session) same-insert;
   }
 
-  item-done : item_no t b (as_item (cert_parts e)) ≡ 0 → (inserted m (model_of e.key) (serial_of e.key) (issue_of e.key) e.value).answer ≡ Inserted.Done
+  item-done : item_no t b (as_item (cert_parts e)) ≡ 0 → (inserted m (model_of e.key) (serial_of e.key) (issue_of e.key) e.value).answer ≡ Ok tt
   unfolding item_no insert_item insert_reported as_item cert_parts
   item-done h = ap (λ (r : Left Inserted). r.answer) same-insert ∙ only-done (insert_of t b e).answer h
 
@@ -147,7 +149,7 @@ module _ (n : ℕ) (w s : List ℕ) (l : Lent n w s) (t : List ℕ) where
         let d = all_done (answered (item_no t b x) x) ys (r.done ∙ ap suc (sym k)) in
         (d.0, d.1 ∙ k)
 
-    first_done : (inserted m model serial issue e.value).answer ≡ Inserted.Done
+    first_done : (inserted m model serial issue e.value).answer ≡ Ok tt
     first_done = item-done t b m r.stands e split_done.0
 
     wide : (model < 65536) × (serial < 4294967296) × (issue < 65536) × (e.value < 4294967296)

@@ -21,9 +21,6 @@ session-count_tight κs a pre z z' l l' p q = (p ∙ sym q, refl)
 pub session-uncount_tight : Tight this.Session.uncount.Kinds.ps this.Session.uncount.Kinds.r this.Session.uncount.Reads.Pre this.Session.uncount.Reads.Post
 session-uncount_tight κs a pre z z' l l' p q = (p ∙ sym q, refl)
 
-pub reason-is_none_tight : Tight this.Reason.is_none.Kinds.ps this.Reason.is_none.Kinds.r this.Reason.is_none.Reads.Pre this.Reason.is_none.Reads.Post
-reason-is_none_tight κs a pre z z' l l' p q = (p ∙ sym q, refl)
-
 pub report-nothing_tight : Tight this.Report.nothing.Kinds.ps this.Report.nothing.Kinds.r this.Report.nothing.Reads.Pre this.Report.nothing.Reads.Post
 report-nothing_tight κs a pre z z' l l' p q = (p ∙ sym q, refl)
 

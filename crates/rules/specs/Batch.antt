@@ -1,14 +1,14 @@
 -- A batch: a delivery in one call. Its items are tried one after another in list order, each as a single insert into what the
 -- items before it left, the refused ones included, and each gets its answer's number. The batch itself tests lengths alone, once,
 -- before anything is touched; page 0 is tested by each item's insert, so an empty batch leaves all as it was and answers 0.
-use Rattle.std.specs.Prelude.{ℕ, ◌+◌, ◌%◌, true, false, List, [], ◌∷◌}
+use Rattle.std.specs.Prelude.{ℕ, ◌+◌, ◌%◌, true, false, List, [], ◌∷◌, Ok, Err}
 use Rattle.rules.specs.Report.{Reported, nothing, first_of}
 use Rattle.rules.specs.Call.{Left, lengths_for, inserted_no}
 use Rattle.rules.specs.Reports.{insert_reported}
 use Rattle.rules.specs.declared.Session.{Session}
 use Rattle.rules.specs.declared.Report.{Report}
-use Rattle.rules.specs.declared.Inserted.{Inserted}
-use Rattle.rules.specs.declared.Batched.{Batched}
+use Rattle.rules.specs.Answer.{Inserted, Batched}
+use Rattle.rules.specs.declared.LengthError.{LengthError}
 use Rattle.rules.specs.declared.Item.{Item}
 
 -- ── One item ────────────────────────────────────────────────────────────────────────────────────────────────────
@@ -77,11 +77,6 @@ unfoldable pub batch : List ℕ → List ℕ → Session → List Item → Repor
 batch w t s xs =
     let m = between w s nothing in
     elim (lengths_for s w t) [
-      | false ↦ batch_left Batched.Length t m xs
-      | true ↦ batch_left Batched.Done t (after_items t m xs) (items_answered t m xs)
+      | false ↦ batch_left (Err LengthError.Length) t m xs
+      | true ↦ batch_left (Ok tt) t (after_items t m xs) (items_answered t m xs)
     ]
-
--- the paper's numbers
-unfoldable pub batched_no : Batched → ℕ
-batched_no Batched.Done = 0
-batched_no Batched.Length = 1

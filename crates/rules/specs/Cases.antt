@@ -1,7 +1,7 @@
 -- The bench cases of document 01 that are marked P, as one statement about the rules. Its proof computes; see proofs/.
 --
 -- Model 7, issue 1, serials upwards from 1, stores fresh from format and open.
-use Rattle.std.specs.Prelude.{◌≡◌, ℕ, zero, suc, ◌+◌, ◌*◌, ◌^◌, ◌≤◌, Bool, true, false, ◌&&◌, List, [], ◌∷◌, length, replicate, ◌==◌, nat_eq}
+use Rattle.std.specs.Prelude.{◌≡◌, ℕ, zero, suc, ◌+◌, ◌*◌, ◌^◌, ◌≤◌, Bool, true, false, ◌&&◌, List, [], ◌∷◌, length, replicate, ◌==◌, nat_eq, Ok, Err}
 use Rattle.std.proofs.Math.Option.{some, none}
 use Rattle.rules.specs.Layout.{page_size, fewest_pages, most_pages}
 use Rattle.rules.specs.Key.{key_of}
@@ -19,11 +19,7 @@ use Rattle.rules.specs.Lookup.{lookup}
 use Rattle.rules.specs.Sync.{sync}
 use Rattle.rules.specs.Crash.{mix}
 use Rattle.rules.specs.declared.Session.{Session}
-use Rattle.rules.specs.declared.Opened.{Opened}
-use Rattle.rules.specs.declared.Inserted.{Inserted}
-use Rattle.rules.specs.declared.Withdrawn.{Withdrawn}
-use Rattle.rules.specs.declared.Looked.{Looked}
-use Rattle.rules.specs.declared.Synced.{Synced}
+use Rattle.rules.specs.Answer.{Opened, Inserted, Withdrawn, Looked, Synced}
 
 -- ── Stores and what is done to them ─────────────────────────────────────────────────────────────────────────────
 
@@ -59,11 +55,8 @@ finding m serial = lookup m.working m.stable m.session 7 serial 1
 
 -- a lookup found this record
 unfoldable pub is_found : ℕ → Looked → Bool
-is_found y (Looked.Found x) = x == y
-is_found y Looked.Length = false
-is_found y Looked.BadKey = false
-is_found y Looked.Damaged = false
-is_found y Looked.Missing = false
+is_found y (Ok x) = x == y
+is_found y (Err e) = false
 
 -- so many serials, from one on, are found, each with its own record
 unfoldable pub all_found : Store → ℕ → ℕ → Bool

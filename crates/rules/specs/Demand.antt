@@ -1,6 +1,6 @@
 -- Demand 3 as a statement about histories: what holds of a store at every point of every history. Its proof is the
 -- theorem of that name in proofs/.
-use Rattle.std.specs.Prelude.{◌≡◌, ℕ, ◌*◌, ◌<◌, ◌≤◌, min, Bool, true, false, not, ◌⊎◌, List, [], ◌∷◌, length, replicate, ◌≢◌, nat_le}
+use Rattle.std.specs.Prelude.{◌≡◌, ℕ, ◌*◌, ◌<◌, ◌≤◌, min, Bool, true, false, not, ◌⊎◌, List, [], ◌∷◌, length, replicate, ◌≢◌, nat_le, Ok, Err}
 use Rattle.std.proofs.Math.Option.{Option, some, none}
 use Rattle.fields.specs.Field.{Bytes}
 use Rattle.rules.specs.Layout.{page_size, fewest_pages, most_pages, last_key, last_number, last_final, largest_issue}
@@ -18,13 +18,11 @@ use Rattle.rules.specs.Newest.{newest}
 use Rattle.rules.specs.HasAny.{has_any}
 use Rattle.rules.specs.List.{ListLeft, records_of, list}
 use Rattle.rules.specs.History.{Event, State, inserts, withdraws, looks, asks_newest, asks_any, lists, syncs, opens, crashes, crashes_in_sync, step, run, start, AllProper, crash_now, crash_in_sync_now, content, latest, earliest}
-use Rattle.rules.specs.declared.Opened.{Opened}
-use Rattle.rules.specs.declared.Inserted.{Inserted}
-use Rattle.rules.specs.declared.Withdrawn.{Withdrawn}
-use Rattle.rules.specs.declared.Looked.{Looked}
-use Rattle.rules.specs.declared.Newest.{Newest}
-use Rattle.rules.specs.declared.Any.{Any}
-use Rattle.rules.specs.declared.Listed.{Listed}
+use Rattle.rules.specs.Answer.{Opened, Inserted, Withdrawn, Looked, Newest, Any, newest_is}
+use Rattle.rules.specs.declared.OpenError.{OpenError}
+use Rattle.rules.specs.declared.FindError.{FindError}
+use Rattle.rules.specs.declared.AnyError.{AnyError}
+use Rattle.rules.specs.declared.ListError.{ListError}
 
 -- ── Words ───────────────────────────────────────────────────────────────────────────────────────────────────────
 
@@ -73,7 +71,7 @@ pub record SameListing (a b : ListLeft) : Type 0 where
 -- a list shows entries, each with the record that its key has now
 pub record ListTells (state : ℕ → Option ℕ) (from : ℕ) (ks xs : List ℕ) (r : ListLeft) : Type 0 where
   pub entries : List Cert
-  pub answer : r.answer ≡ Listed.Filled (length entries)
+  pub answer : r.answer ≡ Ok (length entries)
   pub in_keys : r.keys ≡ over (keys entries) ks
   pub in_records : r.records ≡ over (records_of entries) xs
   -- in key order, none twice
@@ -87,21 +85,21 @@ pub record ListTells (state : ℕ → Option ℕ) (from : ℕ) (ks xs : List ℕ
 
 -- newest shows the largest issue of a meter that is not provisional and has a record now, with it, or that none has
 pub data NewestTells (state : ℕ → Option ℕ) (model serial : ℕ) (answer : Newest) : Type 0 where
-  largest : (issue x : ℕ) → answer ≡ Newest.Found issue x → 1 ≤ issue → issue ≤ last_final → state (key_of model serial issue) ≡ some x
+  largest : (issue x : ℕ) → answer ≡ Ok (newest_is issue x) → 1 ≤ issue → issue ≤ last_final → state (key_of model serial issue) ≡ some x
       → ((j : ℕ) → issue < j → j ≤ last_final → state (key_of model serial j) ≡ none) → NewestTells state model serial answer
-  missing : answer ≡ Newest.Missing → ((j : ℕ) → 1 ≤ j → j ≤ last_final → state (key_of model serial j) ≡ none)
+  missing : answer ≡ Err FindError.Missing → ((j : ℕ) → 1 ≤ j → j ≤ last_final → state (key_of model serial j) ≡ none)
       → NewestTells state model serial answer
 
 -- has-any says yes exactly if an issue of the meter has a record now, a provisional one too
 pub data AnyTells (state : ℕ → Option ℕ) (model serial : ℕ) (answer : Any) : Type 0 where
-  some_issue : (issue x : ℕ) → answer ≡ Any.Yes → 1 ≤ issue → issue ≤ largest_issue → state (key_of model serial issue) ≡ some x
+  some_issue : (issue x : ℕ) → answer ≡ Ok true → 1 ≤ issue → issue ≤ largest_issue → state (key_of model serial issue) ≡ some x
       → AnyTells state model serial answer
-  no_issue : answer ≡ Any.No → ((j : ℕ) → 1 ≤ j → j ≤ largest_issue → state (key_of model serial j) ≡ none)
+  no_issue : answer ≡ Ok false → ((j : ℕ) → 1 ≤ j → j ≤ largest_issue → state (key_of model serial j) ≡ none)
       → AnyTells state model serial answer
 
 -- done, or spent exactly where the number is too high
 unfoldable pub open_answer : List ℕ → Opened
-open_answer s = elim (nat_le (number0 s) last_number) [ true ↦ Opened.Done | false ↦ Opened.Spent ]
+open_answer s = elim (nat_le (number0 s) last_number) [ true ↦ Ok tt | false ↦ Err OpenError.Spent ]
 
 -- what is found of a key after the opening of two tables
 unfoldable pub after : List ℕ → List ℕ → ℕ → Option ℕ
@@ -115,22 +113,22 @@ after w s k =
 pub record Survives (m : State) (w : List ℕ) : Type 0 where
   pub opens : (s : List ℕ) → CrashOf m s → (opening w s).answer ≡ open_answer s
   -- every key shows one of the states it has had
-  pub shows : (s : List ℕ) → CrashOf m s → (opening w s).answer ≡ Opened.Done
+  pub shows : (s : List ℕ) → CrashOf m s → (opening w s).answer ≡ Ok tt
       → (k : ℕ) → k ≤ last_key → OneOf (after w s k) (m.past k)
   -- one that was neither inserted nor withdrawn since the last sync or opening has had one state, and is found, or not, as it
   -- was then
-  pub stays : (s : List ℕ) → CrashOf m s → (opening w s).answer ≡ Opened.Done
+  pub stays : (s : List ℕ) → CrashOf m s → (opening w s).answer ≡ Ok tt
       → (k : ℕ) (state : Option ℕ) → k ≤ last_key → m.past k ≡ state ∷ [] → after w s k ≡ state
   -- one that was there then and was not withdrawn since is there
-  pub keeps : (s : List ℕ) → CrashOf m s → (opening w s).answer ≡ Opened.Done
+  pub keeps : (s : List ℕ) → CrashOf m s → (opening w s).answer ≡ Ok tt
       → (k x : ℕ) → k ≤ last_key → earliest (m.past k) ≡ some x → (OneOf none (m.past k) → ⊥) → after w s k ≡ some x
   -- no page written: the set of the sync or opening; all written: that of the crash
-  pub nothing_written : (opening w m.stable).answer ≡ Opened.Done
+  pub nothing_written : (opening w m.stable).answer ≡ Ok tt
       → (k : ℕ) → k ≤ last_key → after w m.stable k ≡ earliest (m.past k)
-  pub all_written : (s : List ℕ) → s ≡ crash_now (replicate most_pages true) m → (opening w s).answer ≡ Opened.Done
+  pub all_written : (s : List ℕ) → s ≡ crash_now (replicate most_pages true) m → (opening w s).answer ≡ Ok tt
       → (k : ℕ) → k ≤ last_key → after w s k ≡ latest (m.past k)
   pub all_written_in_sync : (s : List ℕ) → s ≡ crash_in_sync_now (replicate most_pages true) m
-      → (opening w s).answer ≡ Opened.Done → (k : ℕ) → k ≤ last_key → after w s k ≡ latest (m.past k)
+      → (opening w s).answer ≡ Ok tt → (k : ℕ) → k ≤ last_key → after w s k ≡ latest (m.past k)
 
 -- between crashes, while the last opening was done
 pub record Serves (m : State) : Type 0 where
@@ -143,12 +141,12 @@ pub record Serves (m : State) : Type 0 where
   pub any_tells : (model serial : ℕ) → 0 < model → model < 65536 → 0 < serial → serial < 4294967296
       → AnyTells (λ k. latest (m.past k)) model serial (has_any_now m model serial).answer
   -- the session's total is the length of a full listing: a list from key 0 shows so many, or as many as it has room for
-  pub counts : (ks xs : List ℕ) → (list_now m 0 ks xs).answer ≡ Listed.Filled (min (min (length ks) (length xs)) m.session.total)
+  pub counts : (ks xs : List ℕ) → (list_now m 0 ks xs).answer ≡ Ok (min (min (length ks) (length xs)) m.session.total)
   -- no reading call meets damage
-  pub lookup_whole : (model serial issue : ℕ) → (lookup_now m model serial issue).answer ≢ Looked.Damaged
-  pub newest_whole : (model serial : ℕ) → (newest_now m model serial).answer ≢ Newest.Damaged
-  pub any_whole : (model serial : ℕ) → (has_any_now m model serial).answer ≢ Any.Damaged
-  pub list_whole : (from : ℕ) (ks xs : List ℕ) → (list_now m from ks xs).answer ≢ Listed.Damaged
+  pub lookup_whole : (model serial issue : ℕ) → (lookup_now m model serial issue).answer ≢ Err FindError.Damaged
+  pub newest_whole : (model serial : ℕ) → (newest_now m model serial).answer ≢ Err FindError.Damaged
+  pub any_whole : (model serial : ℕ) → (has_any_now m model serial).answer ≢ Err AnyError.Damaged
+  pub list_whole : (from : ℕ) (ks xs : List ℕ) → (list_now m from ks xs).answer ≢ Err ListError.Damaged
   -- none changes what a call answers after it: so the order of reading calls changes no answer of theirs, nor of an
   -- insert or a withdrawal
   pub lookup_stays : (e : Event) → Reads e → (model serial issue : ℕ)
@@ -180,7 +178,7 @@ unfoldable pub Demand3 : Type 0
 Demand3 =
     (n : ℕ) (w s : List ℕ) → Lent n w s → (h : List Event) → AllProper n h
     → ((u : List ℕ) → length u ≡ n * page_size → Survives (run h (start w s)) u)
-    × ((run h (start w s)).opened ≡ Opened.Done → Serves (run h (start w s)))
+    × ((run h (start w s)).opened ≡ Ok tt → Serves (run h (start w s)))
 
 -- ── Without withdrawals ─────────────────────────────────────────────────────────────────────────────────────────
 
@@ -201,16 +199,16 @@ is_withdrawal (crashes_in_sync written w) = false
 unfoldable pub AllKept : Type 0
 AllKept =
     (n : ℕ) (w s : List ℕ) → Lent n w s → (h : List Event) → AllProper n h → all (λ e. not (is_withdrawal e)) h ≡ true
-    → (u : List ℕ) → length u ≡ n * page_size → (t : List ℕ) → CrashOf (run h (start w s)) t → (opening u t).answer ≡ Opened.Done
+    → (u : List ℕ) → length u ≡ n * page_size → (t : List ℕ) → CrashOf (run h (start w s)) t → (opening u t).answer ≡ Ok tt
     → (k x : ℕ) → k ≤ last_key → earliest ((run h (start w s)).past k) ≡ some x → after u t k ≡ some x
 
 -- ── The last opening ────────────────────────────────────────────────────────────────────────────────────────────
 
 -- the session tells whether the last opening was done: it has the tables' n pages then, and else none
 pub record SessionTells (n : ℕ) (m : State) : Type 0 where
-  pub pages : m.opened ≡ Opened.Done → m.session.n ≡ n
-  pub done : m.session.n ≡ n → m.opened ≡ Opened.Done
-  pub refused : (m.opened ≢ Opened.Done) → m.session.n ≡ 0
+  pub pages : m.opened ≡ Ok tt → m.session.n ≡ n
+  pub done : m.session.n ≡ n → m.opened ≡ Ok tt
+  pub refused : (m.opened ≢ Ok tt) → m.session.n ≡ 0
 
 unfoldable pub OpenedTold : Type 0
 OpenedTold = (n : ℕ) (w s : List ℕ) → Lent n w s → (h : List Event) → AllProper n h → SessionTells n (run h (start w s))

@@ -1,10 +1,11 @@
 -- Format: a stable table with one empty leaf. Working stays.
-use Rattle.std.specs.Prelude.{ℕ, true, false, List, [], length, replicate}
+use Rattle.std.specs.Prelude.{ℕ, true, false, List, [], length, replicate, Ok, Err}
 use Rattle.fields.specs.Field.{put_at}
 use Rattle.rules.specs.Layout.{zero_kind, leaf_kind, last_key}
 use Rattle.rules.specs.Page.{View, fresh}
 use Rattle.rules.specs.Table.{build, pages, good_lengths, set_number, set_root}
-use Rattle.rules.specs.declared.Formatted.{Formatted}
+use Rattle.rules.specs.Answer.{Formatted}
+use Rattle.rules.specs.declared.LengthError.{LengthError}
 
 pub record Formatting : Type 0 where
   pub answer : Formatted
@@ -22,6 +23,6 @@ formatted n bytes =
 unfoldable pub format : List ℕ → List ℕ → Formatting
 format w s =
     elim (good_lengths w s) [
-      | true ↦ record { answer = Formatted.Done; stable = formatted (pages s) (length s) }
-      | false ↦ record { answer = Formatted.Length; stable = s }
+      | true ↦ record { answer = Ok tt; stable = formatted (pages s) (length s) }
+      | false ↦ record { answer = Err LengthError.Length; stable = s }
     ]

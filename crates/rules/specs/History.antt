@@ -3,7 +3,7 @@
 --
 -- Beside the pages a history keeps, for each key, the states it has had since the last successful sync or opening.
 -- They are folded from the calls and their answers; no page is read for them.
-use Rattle.std.specs.Prelude.{◌≡◌, ℕ, ◌*◌, ◌<◌, Bool, true, false, List, [], ◌∷◌, length, ◌==◌}
+use Rattle.std.specs.Prelude.{◌≡◌, ℕ, ◌*◌, ◌<◌, Bool, true, false, List, [], ◌∷◌, length, ◌==◌, Ok, Err}
 use Rattle.std.proofs.Math.Option.{Option, some, none}
 use Rattle.rules.specs.Layout.{page_size}
 use Rattle.rules.specs.Key.{key_of, model_of, serial_of, issue_of}
@@ -19,11 +19,7 @@ use Rattle.rules.specs.List.{list}
 use Rattle.rules.specs.Sync.{sync}
 use Rattle.rules.specs.Crash.{crashed, inside_sync}
 use Rattle.rules.specs.declared.Session.{Session}
-use Rattle.rules.specs.declared.Opened.{Opened}
-use Rattle.rules.specs.declared.Inserted.{Inserted}
-use Rattle.rules.specs.declared.Withdrawn.{Withdrawn}
-use Rattle.rules.specs.declared.Looked.{Looked}
-use Rattle.rules.specs.declared.Synced.{Synced}
+use Rattle.rules.specs.Answer.{Opened, Inserted, Withdrawn, Looked, Synced}
 
 -- ── What can happen ─────────────────────────────────────────────────────────────────────────────────────────────
 
@@ -63,11 +59,8 @@ earliest (x ∷ (y ∷ ys)) = earliest (y ∷ ys)
 
 -- what a lookup that answers 0 found
 unfoldable pub record_in : Looked → Option ℕ
-record_in (Looked.Found x) = some x
-record_in Looked.Length = none
-record_in Looked.BadKey = none
-record_in Looked.Damaged = none
-record_in Looked.Missing = none
+record_in (Ok x) = some x
+record_in (Err e) = none
 
 -- what a lookup of a key would answer
 unfoldable pub content : Session → List ℕ → List ℕ → ℕ → Option ℕ
@@ -87,13 +80,8 @@ after_insert k x m r = record {
   opened = m.opened;
   past =
       elim r.answer [
-        | Inserted.Done ↦ gains k (some x) m.past
-        | Inserted.Length ↦ m.past
-        | Inserted.BadKey ↦ m.past
-        | Inserted.Damaged ↦ m.past
-        | Inserted.Present ↦ m.past
-        | Inserted.SyncFirst ↦ m.past
-        | Inserted.Full ↦ m.past
+        | Ok u ↦ gains k (some x) m.past
+        | Err e ↦ m.past
       ];
 }
 
@@ -105,11 +93,8 @@ after_withdraw k m r = record {
   opened = m.opened;
   past =
       elim r.answer [
-        | Withdrawn.Done ↦ gains k none m.past
-        | Withdrawn.Length ↦ m.past
-        | Withdrawn.BadKey ↦ m.past
-        | Withdrawn.Damaged ↦ m.past
-        | Withdrawn.Missing ↦ m.past
+        | Ok u ↦ gains k none m.past
+        | Err e ↦ m.past
       ];
 }
 
@@ -121,9 +106,8 @@ after_sync m r = record {
   opened = m.opened;
   past =
       elim r.answer [
-        | Synced.Done ↦ λ k. latest (m.past k) ∷ []
-        | Synced.Length ↦ m.past
-        | Synced.Spent ↦ m.past
+        | Ok u ↦ λ k. latest (m.past k) ∷ []
+        | Err e ↦ m.past
       ];
 }
 
@@ -136,10 +120,8 @@ after_open past r = record {
   opened = r.answer;
   past =
       elim r.answer [
-        | Opened.Done ↦ λ k. content r.session r.working r.stable k ∷ []
-        | Opened.Length ↦ past
-        | Opened.Damaged ↦ past
-        | Opened.Spent ↦ past
+        | Ok u ↦ λ k. content r.session r.working r.stable k ∷ []
+        | Err e ↦ past
       ];
 }
 

@@ -3,7 +3,7 @@
 -- Document 01 tells a split from the leaf upwards. The same bytes come of going downwards: a root that must split
 -- first gets a new root above it; then each full page is halved below a parent that has room; then the entry goes
 -- in. The numbers are chosen beforehand, lowest first: the leaf's halves, those of the level above, a new root last.
-use Rattle.std.specs.Prelude.{ℕ, ◌+◌, ◌-◌, ◌*◌, Bool, true, false, not, ◌&&◌, ◌||◌, List, [], ◌∷◌, ◌++◌, length, take, drop, ◌==◌, nat_le, nat_lt, slice_index}
+use Rattle.std.specs.Prelude.{ℕ, ◌+◌, ◌-◌, ◌*◌, Bool, true, false, not, ◌&&◌, ◌||◌, List, [], ◌∷◌, ◌++◌, length, take, drop, ◌==◌, nat_le, nat_lt, slice_index, Ok, Err}
 use Rattle.std.proofs.Math.Option.{some, none}
 use Rattle.rules.specs.Layout.{leaf_room, inner_room, leaf_half, inner_half, top_kind, last_key}
 use Rattle.rules.specs.Key.{key_of, good_parts}
@@ -14,7 +14,8 @@ use Rattle.rules.specs.Walk.{Step, numbers, way_of, certs_at}
 use Rattle.rules.specs.Marks.{counted, taken, freed, waits, free_pages}
 use Rattle.rules.specs.Call.{Left, lengths_for}
 use Rattle.rules.specs.declared.Session.{Session}
-use Rattle.rules.specs.declared.Inserted.{Inserted}
+use Rattle.rules.specs.Answer.{Inserted}
+use Rattle.rules.specs.declared.InsertError.{InsertError}
 
 -- ── What must split ─────────────────────────────────────────────────────────────────────────────────────────────
 
@@ -176,7 +177,7 @@ unfoldable pub insert_done : ℕ → ℕ → Session → List Step → List ℕ 
 insert_done k x s way w t =
     let m = split s.c k way (free_pages s (numbers way)) (making w s 0) in
     record {
-      answer = Inserted.Done;
+      answer = Ok tt;
       session = m.session;
       working = changed s.c (put_cert (record { key = k; value = x })) m.table m.at;
       stable = t;
@@ -186,11 +187,11 @@ insert_done k x s way w t =
 unfoldable pub insert_along : ℕ → ℕ → Session → List Step → List ℕ → List ℕ → Left Inserted
 insert_along k x s way w t =
     elim (find k (certs_at way)) [
-      | some y ↦ insert_refused Inserted.Present s w t
+      | some y ↦ insert_refused (Err InsertError.Present) s w t
       | none ↦ elim (too_soon s.c (splitting way)) [
-        | true ↦ insert_refused Inserted.SyncFirst s w t
+        | true ↦ insert_refused (Err InsertError.SyncFirst) s w t
         | false ↦ elim (no_room way (free_pages s (numbers way)))
-            [ true ↦ insert_refused Inserted.Full s w t | false ↦ insert_done k x (counted s) way w t ]
+            [ true ↦ insert_refused (Err InsertError.Full) s w t | false ↦ insert_done k x (counted s) way w t ]
       ]
     ]
 
@@ -198,18 +199,18 @@ unfoldable pub insert_key : ℕ → ℕ → Session → List ℕ → List ℕ �
 insert_key k x s w t =
     let way = way_of s.n s.c k w in
     elim way.steps [
-      | none ↦ insert_refused Inserted.Damaged s way.table t
+      | none ↦ insert_refused (Err InsertError.Damaged) s way.table t
       | some steps ↦ insert_along k x s steps way.table t
     ]
 
 unfoldable pub insert : List ℕ → List ℕ → Session → ℕ → ℕ → ℕ → ℕ → Left Inserted
 insert w t s model serial issue x =
     elim (lengths_for s w t) [
-      | false ↦ insert_refused Inserted.Length s w t
+      | false ↦ insert_refused (Err InsertError.Length) s w t
       | true ↦ elim (good_parts model serial issue) [
-        | false ↦ insert_refused Inserted.BadKey s w t
+        | false ↦ insert_refused (Err InsertError.BadKey) s w t
         | true ↦ elim (fit0 s.n w) [
-          | false ↦ insert_refused Inserted.Damaged s w t
+          | false ↦ insert_refused (Err InsertError.Damaged) s w t
           | true ↦ insert_key (key_of model serial issue) x s w t
         ]
       ]

@@ -16,6 +16,7 @@ pub mod Report
 pub mod Walk
 pub mod Tree
 pub mod Marks
+pub mod Answer
 pub mod Call
 pub mod Format
 pub mod Open

@@ -1,5 +1,5 @@
 -- List fills two lent lists from a start key upwards, and says how many.
-use Rattle.std.specs.Prelude.{ℕ, min, true, false, List, [], ◌∷◌, length}
+use Rattle.std.specs.Prelude.{ℕ, min, true, false, List, [], ◌∷◌, length, Ok, Err}
 use Rattle.rules.specs.Layout.{last_key}
 use Rattle.rules.specs.Entry.{Cert, keys}
 use Rattle.rules.specs.Page.{over}
@@ -7,7 +7,8 @@ use Rattle.rules.specs.Table.{fit0}
 use Rattle.rules.specs.Walk.{walk_of}
 use Rattle.rules.specs.Call.{lengths_for}
 use Rattle.rules.specs.declared.Session.{Session}
-use Rattle.rules.specs.declared.Listed.{Listed}
+use Rattle.rules.specs.Answer.{Listed}
+use Rattle.rules.specs.declared.ListError.{ListError}
 use Rattle.rules.specs.declared.Asked.{Asked}
 
 -- a listing leaves the two lists too
@@ -30,7 +31,7 @@ records_of (x ∷ xs) = x.value ∷ records_of xs
 -- the first places hold what was read on entering; places beyond stay
 unfoldable pub list_done : Session → List ℕ → List ℕ → List Cert → List ℕ → List ℕ → ListLeft
 list_done s w t found ks xs = record {
-  answer = Listed.Filled (length found);
+  answer = Ok (length found);
   session = s;
   working = w;
   stable = t;
@@ -53,14 +54,14 @@ unfoldable pub list_from : Session → List ℕ → List ℕ → ℕ → List �
 list_from s w t start ks xs =
     let walked = walk_of s.n s.c (up_from start ks xs) w in
     elim walked.whole [
-      | false ↦ list_refused Listed.Damaged s walked.table t ks xs
+      | false ↦ list_refused (Err ListError.Damaged) s walked.table t ks xs
       | true ↦ list_done s walked.table t walked.found ks xs
     ]
 
 unfoldable pub list : List ℕ → List ℕ → Session → ℕ → List ℕ → List ℕ → ListLeft
 list w t s start ks xs =
     elim (lengths_for s w t) [
-      | false ↦ list_refused Listed.Length s w t ks xs
+      | false ↦ list_refused (Err ListError.Length) s w t ks xs
       | true ↦ elim (fit0 s.n w)
-          [ false ↦ list_refused Listed.Damaged s w t ks xs | true ↦ list_from s w t start ks xs ]
+          [ false ↦ list_refused (Err ListError.Damaged) s w t ks xs | true ↦ list_from s w t start ks xs ]
     ]

@@ -1,5 +1,6 @@
 -- A place: what a parent's entry asks of its child. When a page fits it, and what is shown there if none does.
-use Rattle.std.specs.Prelude.{ℕ, ◌-◌, Bool, true, false, not, ◌||◌, List, [], ◌∷◌, ◌==◌, nat_le}
+use Rattle.std.specs.Prelude.{ℕ, ◌-◌, Bool, true, false, not, ◌||◌, List, [], ◌∷◌, ◌==◌, nat_le, Some, None, is_none}
+use Rattle.std.specs.Prelude as std
 use Rattle.std.proofs.Math.Option.{Option, some, none}
 use Rattle.rules.specs.Layout.{last_key}
 use Rattle.rules.specs.Test.{between, every, mem}
@@ -57,6 +58,10 @@ pick k (e ∷ es) = elim (between e.low e.high k) [ true ↦ some e | false ↦ 
 unfoldable pub kind_asked : ℕ → ℕ → Bool
 kind_asked want kind = want == 0 || want == kind
 
+-- why a page is lost; none of one that fits
+abbrev pub Why : Type 0
+Why = std.Option Reason
+
 -- a test, and the reason that its failure is
 pub record Trial : Type 0 where
   pub passes : Bool
@@ -66,12 +71,12 @@ abbrev pub trial : Bool → Reason → Trial
 trial passes reason = record { passes = passes; reason = reason }
 
 -- the reason of the first test that fails
-unfoldable pub first_failed : List Trial → Reason
-first_failed [] = Reason.None
-first_failed (x ∷ xs) = elim x.passes [ true ↦ first_failed xs | false ↦ x.reason ]
+unfoldable pub first_failed : List Trial → Why
+first_failed [] = None
+first_failed (x ∷ xs) = elim x.passes [ true ↦ first_failed xs | false ↦ Some x.reason ]
 
 -- the first test of a place that a page fails: soundness, kind, birth, range
-unfoldable pub unfit : ℕ → Place → Page → Reason
+unfoldable pub unfit : ℕ → Place → Page → Why
 unfit n e p =
     first_failed
     (trial (sound n p) Reason.Soundness
@@ -80,13 +85,6 @@ unfit n e p =
     ∷ trial (p.low == e.low) Reason.Range
     ∷ trial (p.high == e.high) Reason.Range
     ∷ [])
-
-unfoldable pub is_none : Reason → Bool
-is_none Reason.None = true
-is_none Reason.Soundness = false
-is_none Reason.Kind = false
-is_none Reason.Birth = false
-is_none Reason.Range = false
 
 -- a page fits a place if it fails none; one that does not is lost
 unfoldable pub fits : ℕ → Place → Page → Bool

@@ -1,7 +1,7 @@
 -- Request K13, quiet restarts: between two openings only calls that change no certificate, so the second opening shows the
 -- entries of the first, and no stable byte has changed but page 0's number and pages that were mended. A statement about
 -- histories, like demand 3; its proof is the theorem quiet-restarts in proofs/.
-use Rattle.std.specs.Prelude.{◌≡◌, ℕ, ◌<◌, ◌≤◌, Bool, false, ◌⊎◌, List, [], ◌∷◌, ◌≢◌}
+use Rattle.std.specs.Prelude.{◌≡◌, ℕ, ◌<◌, ◌≤◌, Bool, false, ◌⊎◌, List, [], ◌∷◌, ◌≢◌, Ok, Err}
 use Rattle.std.proofs.Math.Option.{Option}
 use Rattle.rules.specs.Layout.{last_key, last_number}
 use Rattle.rules.specs.Test.{mem}
@@ -9,18 +9,16 @@ use Rattle.rules.specs.Table.{page_at, number0, beside_number}
 use Rattle.rules.specs.History.{Event, State, inserts, withdraws, opens, crashes, crashes_in_sync, step, run, start, Proper, AllProper, content}
 use Rattle.rules.specs.Demand.{Reads, SameListing, insert_now, withdraw_now, newest_now, has_any_now, list_now, Lent}
 use Rattle.rules.specs.Mends.{mended_between, InTurn}
-use Rattle.rules.specs.declared.Opened.{Opened}
-use Rattle.rules.specs.declared.Inserted.{Inserted}
-use Rattle.rules.specs.declared.Withdrawn.{Withdrawn}
+use Rattle.rules.specs.declared.OpenError.{OpenError}
 
 -- ── What happens between ────────────────────────────────────────────────────────────────────────────────────────
 
 -- a call that changes no certificate: it only reads, or is an insert or a withdrawal that is refused
 pub data QuietCall (m : State) : Event → Type 0 where
   reads : {e : Event} → Reads e → QuietCall m e
-  refused_insert : {model serial issue x : ℕ} → ((insert_now m model serial issue x).answer ≢ Inserted.Done)
+  refused_insert : {model serial issue x : ℕ} → ((insert_now m model serial issue x).answer ≢ Ok tt)
       → QuietCall m (inserts model serial issue x)
-  refused_withdrawal : {model serial issue : ℕ} → ((withdraw_now m model serial issue).answer ≢ Withdrawn.Done)
+  refused_withdrawal : {model serial issue : ℕ} → ((withdraw_now m model serial issue).answer ≢ Ok tt)
       → QuietCall m (withdraws model serial issue)
 
 -- such calls, one after the other
@@ -57,8 +55,8 @@ pub record SameEntries (a b : State) : Type 0 where
 
 pub record Restarted (n : ℕ) (first : State) (between : List Event) (second : State) : Type 0 where
   -- done, unless the counter is spent
-  pub opens : (second.opened ≡ Opened.Done) ⊎ ((second.opened ≡ Opened.Spent) × (last_number < number0 second.stable))
-  pub shows : second.opened ≡ Opened.Done → SameEntries second first
+  pub opens : (second.opened ≡ Ok tt) ⊎ ((second.opened ≡ Err OpenError.Spent) × (last_number < number0 second.stable))
+  pub shows : second.opened ≡ Ok tt → SameEntries second first
   -- the calls between did nothing to the working table but mend the pages of their walks in turn, each when it was lost
   pub mends : InTurn first.session.n first.session.c (mended_between between first) first.working (run between first).working
   -- a page that none of them mended has the same stable bytes, whether the second opening was done or not, and
@@ -71,6 +69,6 @@ pub record Restarted (n : ℕ) (first : State) (between : List Event) (second : 
 -- a crash before the second opening may even fall inside a sync
 unfoldable pub QuietRestarts : Type 0
 QuietRestarts =
-    (n : ℕ) (w s : List ℕ) → Lent n w s → (first : State) → JustOpened n w s first → first.opened ≡ Opened.Done
+    (n : ℕ) (w s : List ℕ) → Lent n w s → (first : State) → JustOpened n w s first → first.opened ≡ Ok tt
     → (between : List Event) → AllProper n between → QuietCalls between first
     → (e : Event) → Opens e → Proper n e → Restarted n first between (step e (run between first))

@@ -14,11 +14,7 @@ use Rattle.rules.specs.HasAny.{first_of, has_any}
 use Rattle.rules.specs.List.{ListLeft, up_from, list}
 use Rattle.rules.specs.declared.Session.{Session}
 use Rattle.rules.specs.declared.Report.{Report}
-use Rattle.rules.specs.declared.Inserted.{Inserted}
-use Rattle.rules.specs.declared.Withdrawn.{Withdrawn}
-use Rattle.rules.specs.declared.Looked.{Looked}
-use Rattle.rules.specs.declared.Newest.{Newest}
-use Rattle.rules.specs.declared.Any.{Any}
+use Rattle.rules.specs.Answer.{Inserted, Withdrawn, Looked, Newest, Any}
 
 -- lengths, key and page 0 are tested before a page is entered: a call that they refuse has nothing to report
 unfoldable pub once_tested : Session → List ℕ → List ℕ → Bool → Report → Report

@@ -1,5 +1,5 @@
 -- Withdraw: the way of the key, then its certificate is taken out of its leaf. The leaf stays, even if it is empty.
-use Rattle.std.specs.Prelude.{ℕ, true, false, List}
+use Rattle.std.specs.Prelude.{ℕ, true, false, List, Ok, Err}
 use Rattle.std.proofs.Math.Option.{some, none}
 use Rattle.rules.specs.Key.{key_of, good_parts}
 use Rattle.rules.specs.Entry.{find, without}
@@ -9,7 +9,8 @@ use Rattle.rules.specs.Walk.{Step, way_of, certs_at, leaf_at}
 use Rattle.rules.specs.Marks.{uncounted}
 use Rattle.rules.specs.Call.{Left, lengths_for}
 use Rattle.rules.specs.declared.Session.{Session}
-use Rattle.rules.specs.declared.Withdrawn.{Withdrawn}
+use Rattle.rules.specs.Answer.{Withdrawn}
+use Rattle.rules.specs.declared.FindError.{FindError}
 
 unfoldable pub without_cert : ℕ → View → View
 without_cert k v = record { kind = v.kind; certs = without k v.certs; children = v.children }
@@ -24,7 +25,7 @@ withdraw_refused answer s w t = record { answer = answer; session = s; working =
 
 unfoldable pub withdraw_done : ℕ → Session → List Step → List ℕ → List ℕ → Left Withdrawn
 withdraw_done k s way w t = record {
-  answer = Withdrawn.Done;
+  answer = Ok tt;
   session = uncounted s;
   working = removed s.c k w (leaf_at way);
   stable = t;
@@ -33,24 +34,24 @@ withdraw_done k s way w t = record {
 unfoldable pub withdraw_along : ℕ → Session → List Step → List ℕ → List ℕ → Left Withdrawn
 withdraw_along k s way w t =
     elim (find k (certs_at way))
-    [ none ↦ withdraw_refused Withdrawn.Missing s w t | some x ↦ withdraw_done k s way w t ]
+    [ none ↦ withdraw_refused (Err FindError.Missing) s w t | some x ↦ withdraw_done k s way w t ]
 
 unfoldable pub withdraw_key : ℕ → Session → List ℕ → List ℕ → Left Withdrawn
 withdraw_key k s w t =
     let way = way_of s.n s.c k w in
     elim way.steps [
-      | none ↦ withdraw_refused Withdrawn.Damaged s way.table t
+      | none ↦ withdraw_refused (Err FindError.Damaged) s way.table t
       | some steps ↦ withdraw_along k s steps way.table t
     ]
 
 unfoldable pub withdraw : List ℕ → List ℕ → Session → ℕ → ℕ → ℕ → Left Withdrawn
 withdraw w t s model serial issue =
     elim (lengths_for s w t) [
-      | false ↦ withdraw_refused Withdrawn.Length s w t
+      | false ↦ withdraw_refused (Err FindError.Length) s w t
       | true ↦ elim (good_parts model serial issue) [
-        | false ↦ withdraw_refused Withdrawn.BadKey s w t
+        | false ↦ withdraw_refused (Err FindError.BadKey) s w t
         | true ↦ elim (fit0 s.n w) [
-          | false ↦ withdraw_refused Withdrawn.Damaged s w t
+          | false ↦ withdraw_refused (Err FindError.Damaged) s w t
           | true ↦ withdraw_key (key_of model serial issue) s w t
         ]
       ]

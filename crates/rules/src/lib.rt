@@ -3,15 +3,14 @@
 // specs/ is what a reader has to believe. It says in short definitions that compute what every page byte means,
 // when a page is sound, what mending makes, which pages a call enters, and what each of the calls answers and
 // leaves. proofs/ holds laws about those definitions, the bench cases and the theorem about crashes.
-// This file declares the numbers of document 01, a place, what a walk is asked for, the session with its moves, and one
-// enum of answers for each call.
+// This file declares the numbers of document 01, a place, what a walk is asked for, the session with its moves, and what
+// each call answers.
 //
 // Below stands `fields`: numbers in bytes.
 
 #![tactic(auto)]
 
 ghost use Rattle.std.specs.Prelude.{◌≡◌, ◌<◌};
-ghost use Rattle.rules.specs.Place.{is_none};
 ghost use Rattle.rules.specs.Report.{nothing, adds};
 ghost use Rattle.rules.specs.Batch.{joins};
 ghost use Rattle.rules.specs.Marks.{taken, freed, waits, raised, counted, uncounted};
@@ -126,35 +125,20 @@ pub struct Asked {
     pub room: usize,
 }
 
-// Why a page is lost: the first test that it fails, in this order; none of a page that fits.
-#[derive(Clone, Copy)]
+// Why a page is lost: the first test that it fails, in this order.
+#[derive(Clone, Copy, PartialEq, Eq, Debug)]
 pub enum Reason {
-    None,
     Soundness,
     Kind,
     Birth,
     Range,
 }
 
-impl Reason {
-    pub fn is_none(self) -> bool
-        ensures { result ≡ is_none self }
-    {
-        match self {
-            Reason::None => true,
-            Reason::Soundness => false,
-            Reason::Kind => false,
-            Reason::Birth => false,
-            Reason::Range => false,
-        }
-    }
-}
-
 // What a call that walks reports: how many pages it mended, and the reason for the first.
-#[derive(Clone, Copy)]
+#[derive(Clone, Copy, PartialEq, Eq, Debug)]
 pub struct Report {
     pub mended: u32,
-    pub reason: Reason,
+    pub reason: Option<Reason>,
 }
 
 impl Report {
@@ -163,25 +147,20 @@ impl Report {
     {
         Report {
             mended: 0,
-            reason: Reason::None,
+            reason: None,
         }
     }
 
     // A page was entered that is lost for this reason, or that fits.
-    pub fn add(self, reason: Reason) -> Self
+    pub fn add(self, reason: Option<Reason>) -> Self
         ensures { result ≡ adds reason self }
     {
         if reason.is_none() {
             return self;
         }
-        let mended = wrapping_add_u32(self.mended, 1);
-        let first = self.reason;
-        if first.is_none() {
-            return Report { mended, reason };
-        }
         Report {
-            mended,
-            reason: first,
+            mended: wrapping_add_u32(self.mended, 1),
+            reason: self.reason.or(reason),
         }
     }
 
@@ -189,18 +168,9 @@ impl Report {
     pub fn join(self, next: Report) -> Self
         ensures { result ≡ joins self next }
     {
-        let mended = wrapping_add_u32(self.mended, next.mended);
-        let first = self.reason;
-        let second = next.reason;
-        if first.is_none() {
-            return Report {
-                mended,
-                reason: second,
-            };
-        }
         Report {
-            mended,
-            reason: first,
+            mended: wrapping_add_u32(self.mended, next.mended),
+            reason: self.reason.or(next.reason),
         }
     }
 }
@@ -282,25 +252,30 @@ pub struct Item {
     pub answer: u32,
 }
 
-// One enum for each call: the answers that it can give, with the numbers beside them.
+// What each call answers: the numbers of a call that is done, or why it is refused. Each call has the error enum that
+// names its refusals and no others, so that a type says which answers a call can give.
 
-#[derive(Clone, Copy)]
-pub enum Formatted {
-    Done,
+// Format and a batch refuse nothing but lengths.
+#[derive(Clone, Copy, PartialEq, Eq, Debug)]
+pub enum LengthError {
     Length,
 }
 
-#[derive(Clone, Copy)]
-pub enum Opened {
-    Done,
+pub type Formatted = Result<(), LengthError>;
+
+pub type Batched = Result<(), LengthError>;
+
+#[derive(Clone, Copy, PartialEq, Eq, Debug)]
+pub enum OpenError {
     Length,
     Damaged,
     Spent,
 }
 
-#[derive(Clone, Copy)]
-pub enum Inserted {
-    Done,
+pub type Opened = Result<(), OpenError>;
+
+#[derive(Clone, Copy, PartialEq, Eq, Debug)]
+pub enum InsertError {
     Length,
     BadKey,
     Damaged,
@@ -309,62 +284,57 @@ pub enum Inserted {
     Full,
 }
 
-#[derive(Clone, Copy)]
-pub enum Withdrawn {
-    Done,
+pub type Inserted = Result<(), InsertError>;
+
+// Lookup, newest and withdraw refuse alike: each must find a certificate.
+#[derive(Clone, Copy, PartialEq, Eq, Debug)]
+pub enum FindError {
     Length,
     BadKey,
     Damaged,
     Missing,
 }
 
-#[derive(Clone, Copy)]
-pub enum Batched {
-    Done,
-    Length,
+pub type Withdrawn = Result<(), FindError>;
+
+// The record found.
+pub type Looked = Result<u32, FindError>;
+
+// The largest issue of a meter, with its record.
+#[derive(Clone, Copy, PartialEq, Eq, Debug)]
+pub struct Latest {
+    pub issue: u16,
+    pub value: u32,
 }
 
-#[derive(Clone, Copy)]
-pub enum Looked {
-    Found(u32),
+pub type Newest = Result<Latest, FindError>;
+
+#[derive(Clone, Copy, PartialEq, Eq, Debug)]
+pub enum AnyError {
     Length,
     BadKey,
     Damaged,
-    Missing,
-}
-
-#[derive(Clone, Copy)]
-pub enum Newest {
-    Found(u16, u32),
-    Length,
-    BadKey,
-    Damaged,
-    Missing,
 }
 
 // Whether a meter has a certificate: yes and no are both done.
-#[derive(Clone, Copy)]
-pub enum Any {
-    Yes,
-    No,
-    Length,
-    BadKey,
-    Damaged,
-}
+pub type Any = Result<bool, AnyError>;
 
-#[derive(Clone, Copy)]
-pub enum Listed {
-    Filled(usize),
+#[derive(Clone, Copy, PartialEq, Eq, Debug)]
+pub enum ListError {
     Length,
     Damaged,
 }
 
-#[derive(Clone, Copy)]
-pub enum Synced {
-    Done,
+// How many places of the lists were filled.
+pub type Listed = Result<usize, ListError>;
+
+#[derive(Clone, Copy, PartialEq, Eq, Debug)]
+pub enum SyncError {
     Length,
     Spent,
 }
+
+pub type Synced = Result<(), SyncError>;
 
 // What a call hands back: its answer and the session, and a call that walks its report.
 

@@ -1,11 +1,11 @@
 -- What a place shows, by the run that was found for it. Assumes nothing.
-use Rattle.std.proofs.Common.{Some, None, ◌≡◌, ℕ, ◌*◌, ◌<◌, ◌≤◌, Bool, true, false, ltb, List, [], ◌∷◌, length, sym, refl, ap, ◌∙◌, subst, arith, ltb-false, ltb-true, eq-eqb, ne_eqb}
+use Rattle.std.proofs.Common.{Some, None, ◌≡◌, ℕ, ◌*◌, ◌<◌, ◌≤◌, Bool, true, false, ltb, List, [], ◌∷◌, length, sym, refl, ap, ◌∙◌, subst, arith, ltb-false, ltb-true, eq-eqb, ne_eqb, is_none}
 use mathlib.Core.Option.{some, none}
 use Rattle.rules.specs.Layout.{page_size}
 use Rattle.rules.specs.Entry.{cut}
 use Rattle.rules.specs.Page.{View}
 use Rattle.rules.specs.Table.{read}
-use Rattle.rules.specs.Place.{fits, mendable, show, kids, cut_view, is_none}
+use Rattle.rules.specs.Place.{fits, mendable, show, kids, cut_view}
 use Rattle.rules.specs.Tree.{spared_at}
 use Rattle.rules.specs.declared.Place.{Place}
 use Rattle.rules.proofs.Entries.Tests.{not_both}
@@ -49,7 +49,7 @@ module _ (n : ℕ) (t : List ℕ) (e : Place) where
 
   module _ (long : length t ≡ n * page_size) where
     beyond : (i : ℕ) → n ≤ i → false ≡ fits n e (read t i)
-    unfolding fits is_none
+    unfolding fits
     beyond i l = ap is_none (unfit_beyond n i t e long l)
 
     pub fits-inside : fits n e (read t e.child) ≡ true → e.child < n

@@ -189,36 +189,36 @@ fn kind_asked(want: u16, kind: u16) -> bool
 
 // The first test of a place that the page fails, in the paper's order. A page that fails none is the one asked for; any
 // other is lost.
-pub fn unfit(page: &[u8], e: Place, n: usize) -> Reason
+pub fn unfit(page: &[u8], e: Place, n: usize) -> Option<Reason>
     requires { page_size ≤ length page.now }
     ensures { result ≡ unfit n e (page_in page.now) }
 {
     let head = read_head(page);
     if !sound(page, n) {
-        return Reason::Soundness;
+        return Some(Reason::Soundness);
     }
     if !kind_asked(e.want, head.kind) {
-        return Reason::Kind;
+        return Some(Reason::Kind);
     }
     if head.birth != e.birth {
-        return Reason::Birth;
+        return Some(Reason::Birth);
     }
     if head.low != e.low {
-        return Reason::Range;
+        return Some(Reason::Range);
     }
     if head.high != e.high {
-        return Reason::Range;
+        return Some(Reason::Range);
     }
-    Reason::None
+    None
 }
 
 // A number beyond the table names no page, so nothing sound is there.
-pub fn unfit_at(table: Table<'_>, e: Place) -> Reason
+pub fn unfit_at(table: Table<'_>, e: Place) -> Option<Reason>
     ensures { result ≡ reason_at table.entry.pages table.entry.bytes.now e }
 {
     let child = e.child as usize;
     if child >= table.pages {
-        return Reason::Soundness;
+        return Some(Reason::Soundness);
     }
     unfit(table.page(child), e, table.pages)
 }

@@ -1,4 +1,5 @@
 -- The three ways through a sync, and what the lengths say. Assumes nothing.
+use Rattle.std.specs.Prelude.{Ok, Err}
 use mathlib.Core.Path.{◌≡◌, sym, ◌∙◌}
 use mathlib.Core.Bool.{true, false}
 use mathlib.Core.List.{List}
@@ -12,21 +13,21 @@ use Rattle.rules.specs.Marks.{turned}
 use Rattle.rules.specs.Call.{lengths_for}
 use Rattle.rules.specs.Sync.{sync_refused, sync_done, sync}
 use Rattle.rules.specs.declared.Session.{Session}
-use Rattle.rules.specs.declared.Synced.{Synced}
+use Rattle.rules.specs.declared.SyncError.{SyncError}
 use Rattle.rules.proofs.Bytes.Lengths.{lengths_for_true}
 use Rattle.sync.specs.Syncs.{left}
 
 module _ (w t : List ℕ) (s : Session) where
-  pub refused : lengths_for s w t ≡ false → left (record { answer = Synced.Length; session = s }) w t ≡ sync w t s
+  pub refused : lengths_for s w t ≡ false → left (record { answer = Err SyncError.Length; session = s }) w t ≡ sync w t s
   unfolding sync sync_refused
   refused e = rw (e, sync)
 
   module _ (e : lengths_for s w t ≡ true) where
-    pub spent : last_number < s.c → left (record { answer = Synced.Spent; session = s }) w t ≡ sync w t s
+    pub spent : last_number < s.c → left (record { answer = Err SyncError.Spent; session = s }) w t ≡ sync w t s
     unfolding sync sync_refused
     spent h = rw (e, lt-leb s.c last_number h, sync)
 
-    pub done : s.c ≤ last_number → left (record { answer = Synced.Done; session = turned s }) (set_number w (s.c + 2)) (set_number w (s.c + 2)) ≡ sync w t s
+    pub done : s.c ≤ last_number → left (record { answer = Ok tt; session = turned s }) (set_number w (s.c + 2)) (set_number w (s.c + 2)) ≡ sync w t s
     unfolding sync sync_done
     done h = rw (e, le-leb s.c last_number h, sync)
 

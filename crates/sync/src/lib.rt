@@ -11,28 +11,28 @@ ghost use Rattle.std.specs.Prelude.{◌≡◌};
 ghost use Rattle.rules.specs.Sync;
 ghost use Rattle.sync.specs.Syncs.{left};
 
-use rules::{AT_NUMBER, LAST_NUMBER, Session, Synced, Syncing};
+use rules::{AT_NUMBER, LAST_NUMBER, Session, SyncError, Syncing};
 
 pub fn sync(working: &mut [u8], stable: &mut [u8], session: Session) -> Syncing
     ensures { left result working.new stable.new ≡ Sync.sync working.old stable.old session }
 {
     if !tables::lengths_for(session.n, working, stable) {
         return Syncing {
-            answer: Synced::Length,
+            answer: Err(SyncError::Length),
             session,
         };
     }
     let c = session.c;
     if c > LAST_NUMBER {
         return Syncing {
-            answer: Synced::Spent,
+            answer: Err(SyncError::Spent),
             session,
         };
     }
     fields::put32(working, AT_NUMBER, c + 2);
     tables::copy(stable, working);
     Syncing {
-        answer: Synced::Done,
+        answer: Ok(()),
         session: marks::turn(session),
     }
 }

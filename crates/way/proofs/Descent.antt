@@ -15,12 +15,11 @@ use Rattle.rules.specs.Test.{mem}
 use Rattle.rules.specs.Page.{Page, is_leaf}
 use Rattle.rules.specs.Sound.{starts_at}
 use Rattle.rules.specs.Table.{read, fit0}
-use Rattle.rules.specs.Place.{root_place, kids, pick}
+use Rattle.rules.specs.Place.{root_place, kids, pick, Why}
 use Rattle.rules.specs.Enter as entry
 use Rattle.rules.specs.Report.{adds, reason_at}
 use Rattle.rules.specs.Walk as rules
 use Rattle.rules.specs.declared.Place.{Place}
-use Rattle.rules.specs.declared.Reason.{Reason}
 use Rattle.rules.specs.declared.Report.{Report}
 use Rattle.rules.proofs.Entries.Views.{Shaped, leaf_of-kind, inner-of-kind, shaped-read}
 use Rattle.rules.proofs.Entries.Asks.{pick-leaf}
@@ -134,7 +133,7 @@ module _ {n c k : ℕ} {t₀ t : List ℕ} {w : Way} {e : Place} {level : ℕ} {
     pub damaged-reported : Handed n c k t₀ x₀ u (way_for []) x
     damaged-reported = both damaged (sym damaged-report)
 
-  module _ (u : List ℕ) (h : Head) (why : Reason) (f : enters.entering u (enters.found h why) ≡ enters.told (reason_at n t e) (entry.enter n c (enters.above_of a) t e)) where
+  module _ (u : List ℕ) (h : Head) (why : Why) (f : enters.entering u (enters.found h why) ≡ enters.told (reason_at n t e) (entry.enter n c (enters.above_of a) t e)) where
     page : (p : Page) × ((entry.enter n c (rules.numbers d.above) t e).page ≡ some p) × (h ≡ head_of p) × (why ≡ reason_at n t e)
     page = told-page (reason_at n t e) h why (entry.enter n c (rules.numbers d.above) t e) (f ∙ ap (enters.told (reason_at n t e)) as_rules)
 
@@ -163,7 +162,7 @@ module _ {n c k : ℕ} {t₀ t : List ℕ} {w : Way} {e : Place} {level : ℕ} {
 
     -- what is reported with this page
     pub more : (y : Report) → y ≡ adds why x → y ≡ adds (reason_at n t e) x
-    more y g = g ∙ ap (λ (r : Reason). adds r x) page.3
+    more y g = g ∙ ap (λ (r : Why). adds r x) page.3
 
     -- a leaf ends the way
     no_kid : h.kind ≡ leaf_kind → pick k (kids e page.0.view) ≡ none

@@ -10,12 +10,11 @@ use Rattle.std.specs.Prelude.{Option, Some, None}
 use Rattle.fields.specs.Field.{Bytes}
 use Rattle.rules.specs.Layout.{page_size, leaf_kind, last_key}
 use Rattle.rules.specs.Table.{read, fit0}
-use Rattle.rules.specs.Place.{root_place, pick}
+use Rattle.rules.specs.Place.{root_place, pick, Why}
 use Rattle.rules.specs.Enter as entry
 use Rattle.rules.specs.Report.{adds, reason_at}
 use Rattle.rules.specs.Walk as rules
 use Rattle.rules.specs.declared.Place.{Place}
-use Rattle.rules.specs.declared.Reason.{Reason}
 use Rattle.rules.specs.declared.Report.{Report}
 use Rattle.head.specs.declared.Head.{Head}
 use Rattle.enter.specs.Entering as enters
@@ -58,7 +57,7 @@ module _ {n c k : ℕ} {t₀ t : List ℕ} {a : Above} {e : Place} {level : ℕ}
     damaged u h =
         both (sym (ap (end_in k) (way.damaged-way s.descent o a s.above u h))) (sym (way.damaged-report s.descent o a s.above u h))
 
-    module _ (u : List ℕ) (h : Head) (why : Reason)
+    module _ (u : List ℕ) (h : Head) (why : Why)
         (f : enters.entering u (enters.found h why) ≡ enters.told (reason_at n t e) (entry.enter n c (enters.above_of a) t e))
         (y : Report) (v : y ≡ adds why x) where
       -- one more page than stand above it

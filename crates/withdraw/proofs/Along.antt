@@ -1,4 +1,5 @@
 -- What a step to the leaf of a key gives a withdrawal: damage, or the leaf to take the certificate out of. Assumes nothing.
+use Rattle.std.specs.Prelude.{Ok, Err}
 use mathlib.Core.Path.{◌≡◌, refl, sym, ap, ◌∙◌}
 use mathlib.Core.List.{List, ◌∷◌}
 use mathlib.Core.Option.{Option, some, none}
@@ -16,8 +17,8 @@ use Rattle.rules.specs.Call.{Left}
 use Rattle.rules.specs.Withdraw.{removed, withdraw_refused, withdraw_done, withdraw_along, withdraw_key}
 use Rattle.rules.specs.declared.Session.{Session}
 use Rattle.rules.specs.declared.Report.{Report}
-use Rattle.rules.specs.declared.Looked.{Looked}
-use Rattle.rules.specs.declared.Withdrawn.{Withdrawn}
+use Rattle.rules.specs.Answer.{Withdrawn, Looked}
+use Rattle.rules.specs.declared.FindError.{FindError}
 use Rattle.head.proofs.Headers.{head_of}
 use Rattle.entries.specs.Spot.{keys_in, spot_of}
 use Rattle.entries.proofs.KeysIn.{keys-certs}
@@ -41,7 +42,7 @@ reported_too p q = cc
 -- ── What was found ──────────────────────────────────────────────────────────────────────────────────────────────
 
 module _ (o : Option ℕ) (r : Looked) (e : r ≡ looked_in o) where
-  pub none_found : ((x : ℕ) → r ≡ Looked.Found x → ⊥) → o ≡ none
+  pub none_found : ((x : ℕ) → r ≡ Ok x → ⊥) → o ≡ none
   unfolding looked_in
   none_found h = go o refl
     where
@@ -49,13 +50,13 @@ module _ (o : Option ℕ) (r : Looked) (e : r ≡ looked_in o) where
       go none q = q
       go (some v) q = absurd (h v (e ∙ ap looked_in q))
 
-  pub one_found : (x : ℕ) → r ≡ Looked.Found x → (v : ℕ) × (o ≡ some v)
+  pub one_found : (x : ℕ) → r ≡ Ok x → (v : ℕ) × (o ≡ some v)
   unfolding looked_in
   one_found x f = go o refl
     where
       go : (p : Option ℕ) → o ≡ p → (v : ℕ) × (o ≡ some v)
       go none q =
-          let m : Looked.Found x ≡ Looked.Missing = sym f ∙ (e ∙ ap looked_in q) in
+          let m : Ok x ≡ (Err FindError.Missing) = sym f ∙ (e ∙ ap looked_in q) in
           let z : ◌≡◌ {A = ℕ} 0 1 = cc in absurd (omega arith)
       go (some v) q = (v, q)
 
@@ -65,7 +66,7 @@ module _ (o : Option ℕ) (r : Looked) (e : r ≡ looked_in o) where
 unfoldable along_way : ℕ → Session → List ℕ → rules.Way → Left Withdrawn
 along_way k s stable x =
     elim x.steps [
-      | none ↦ withdraw_refused Withdrawn.Damaged s x.table stable
+      | none ↦ withdraw_refused (Err FindError.Damaged) s x.table stable
       | some steps ↦ withdraw_along k s steps x.table stable
     ]
 
@@ -79,7 +80,7 @@ module _ (s : Session) (k : ℕ) (t u : List ℕ) (g : Ground s.n s.c t) (h : k 
     (f : nexting u r ≡ next_of k (rules.way_of s.n s.c k t) (rules.way_report s.n s.c k t nothing)) where
   -- a damaged place was met
   pub damaged : {y : Report} → r ≡ Stepped.Damaged y → (stable : List ℕ)
-      → reported (left Withdrawn.Damaged s u stable) y ≡ reported (withdraw_key k s t stable) (rules.way_report s.n s.c k t nothing)
+      → reported (left (Err FindError.Damaged) s u stable) y ≡ reported (withdraw_key k s t stable) (rules.way_report s.n s.c k t nothing)
   unfolding withdraw_key withdraw_refused along_way
   damaged {y} e stable =
       let q = next-damaged g h k nothing y (ap (nexting u) (sym e) ∙ f) in
@@ -120,7 +121,7 @@ module _ (s : Session) (k : ℕ) (t u : List ℕ) (g : Ground s.n s.c t) (h : k 
         ∙ ap (λ (xs : List Cert). looked_in (find k xs)) certs)
 
     pub missing : find k (certs_at steps) ≡ none → (stable : List ℕ)
-        → reported (left Withdrawn.Missing s u stable) l.report
+        → reported (left (Err FindError.Missing) s u stable) l.report
         ≡ reported (withdraw_key k s t stable) (rules.way_report s.n s.c k t nothing)
     unfolding withdraw_along withdraw_refused
     missing q stable = reported_too reached.report (rw (withdraw_along, q) at (along stable))
@@ -133,11 +134,11 @@ module _ (s : Session) (k : ℕ) (t u : List ℕ) (g : Ground s.n s.c t) (h : k 
 
     pub taken_out : (v : ℕ) → find k (certs_at steps) ≡ some v → (stable w : List ℕ) → w ≡ removed s.c k u l.child
         → (s' : Session) → s' ≡ uncounted s
-        → reported (left Withdrawn.Done s' w stable) l.report
+        → reported (left (Ok tt) s' w stable) l.report
         ≡ reported (withdraw_key k s t stable) (rules.way_report s.n s.c k t nothing)
     unfolding withdraw_along withdraw_done leaf_at
     taken_out v q stable w d s' z =
         reported_too reached.report
-        (ap (λ (y : Session). left Withdrawn.Done y w stable) z
-        ∙ (ap (λ (y : List ℕ). left Withdrawn.Done (uncounted s) y stable) (d ∙ ap (removed s.c k u) reached.child)
+        (ap (λ (y : Session). left (Ok tt) y w stable) z
+        ∙ (ap (λ (y : List ℕ). left (Ok tt) (uncounted s) y stable) (d ∙ ap (removed s.c k u) reached.child)
         ∙ (rw (withdraw_along, q) at (along stable))))

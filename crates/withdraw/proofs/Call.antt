@@ -1,4 +1,5 @@
 -- What a withdrawal answers, test after test. Assumes nothing.
+use Rattle.std.specs.Prelude.{Err}
 use mathlib.Core.Path.{◌≡◌, sym, ap, ◌∙◌}
 use mathlib.Core.Bool.{true, false}
 use mathlib.Core.List.{List}
@@ -12,7 +13,8 @@ use Rattle.rules.specs.Withdraw.{withdraw, withdraw_key, withdraw_refused}
 use Rattle.rules.specs.Reports.{key_report, withdraw_reported}
 use Rattle.rules.specs.declared.Session.{Session}
 use Rattle.rules.specs.declared.Report.{Report}
-use Rattle.rules.specs.declared.Withdrawn.{Withdrawn}
+use Rattle.rules.specs.Answer.{Withdrawn}
+use Rattle.rules.specs.declared.FindError.{FindError}
 use Rattle.rules.specs.declared.Withdrawing.{Withdrawing}
 use Rattle.rules.proofs.Demand1.Tested.{tested-length, tested-key, tested-zero, tested-done}
 use Rattle.way.specs.Ways.{reported}
@@ -29,19 +31,19 @@ module _ (w t : List ℕ) (s : Session) (model serial issue : ℕ) where
   both p q = cc
 
   pub bad_length_lem : {x : Report} → lengths_for s w t ≡ false → x ≡ nothing
-      → leaving (record { answer = Withdrawn.Length; report = x; session = s }) w t ≡ withdraw_reported w t s model serial issue
+      → leaving (record { answer = Err FindError.Length; report = x; session = s }) w t ≡ withdraw_reported w t s model serial issue
   unfolding withdraw withdraw_refused key_report along
   bad_length_lem l q = both (rw (withdraw, l)) (q ∙ sym (tested-length s w t (good_parts model serial issue) along l))
 
   module _ (l : lengths_for s w t ≡ true) where
     pub bad_key : {x : Report} → good_parts model serial issue ≡ false → x ≡ nothing
-        → leaving (record { answer = Withdrawn.BadKey; report = x; session = s }) w t ≡ withdraw_reported w t s model serial issue
+        → leaving (record { answer = Err FindError.BadKey; report = x; session = s }) w t ≡ withdraw_reported w t s model serial issue
     unfolding withdraw withdraw_refused key_report along
     bad_key g q = both (rw (withdraw, l, g)) (q ∙ sym (tested-key s w t (good_parts model serial issue) along l g))
 
     module _ (g : good_parts model serial issue ≡ true) where
       pub bad_zero : {x : Report} → fit0 s.n w ≡ false → x ≡ nothing
-          → leaving (record { answer = Withdrawn.Damaged; report = x; session = s }) w t ≡ withdraw_reported w t s model serial issue
+          → leaving (record { answer = Err FindError.Damaged; report = x; session = s }) w t ≡ withdraw_reported w t s model serial issue
       unfolding withdraw withdraw_refused key_report along
       bad_zero f q = both (rw (withdraw, l, g, f)) (q ∙ sym (tested-zero s w t (good_parts model serial issue) along l g f))
 

@@ -3,7 +3,7 @@ use Rattle.std.specs.Prelude.{ℕ, List}
 use Rattle.rules.specs.Report.{Reported}
 use Rattle.rules.specs.Call.{Left}
 use Rattle.rules.specs.declared.Session.{Session}
-use Rattle.rules.specs.declared.Withdrawn.{Withdrawn}
+use Rattle.rules.specs.Answer.{Withdrawn}
 use Rattle.rules.specs.declared.Withdrawing.{Withdrawing}
 
 abbrev pub left : Withdrawn → Session → List ℕ → List ℕ → Left Withdrawn

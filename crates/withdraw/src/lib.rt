@@ -22,7 +22,7 @@ ghost use Rattle.way.specs.Ways.{reported};
 ghost use Rattle.withdraw.specs.Withdraws.{leaving};
 
 use leaves::Stepped;
-use rules::{Looked, Report, Session, Withdrawing, Withdrawn};
+use rules::{FindError, Report, Session, Withdrawing};
 
 // A key's certificate taken out of the leaf at the end of its way.
 fn take_out(t: &mut [u8], session: Session, key: u64) -> Withdrawing
@@ -35,16 +35,16 @@ fn take_out(t: &mut [u8], session: Session, key: u64) -> Withdrawing
     match leaves::next(t, n, session.c, key, key, first, Report::nothing()) {
         Stepped::Damaged(report) => {
             return Withdrawing {
-                answer: Withdrawn::Damaged,
+                answer: Err(FindError::Damaged),
                 report,
                 session,
             };
         }
         Stepped::Leaf(leaf) => {
             let report = leaf.report;
-            let Looked::Found(_) = lookup::find_on(t, leaf.child, leaf.spot, key) else {
+            let Ok(_) = lookup::find_on(t, leaf.child, leaf.spot, key) else {
                 return Withdrawing {
-                    answer: Withdrawn::Missing,
+                    answer: Err(FindError::Missing),
                     report,
                     session,
                 };
@@ -52,7 +52,7 @@ fn take_out(t: &mut [u8], session: Session, key: u64) -> Withdrawing
             edit::remove_cert(t, leaf.child as usize, key, session.c);
             let lowered = session.uncount();
             return Withdrawing {
-                answer: Withdrawn::Done,
+                answer: Ok(()),
                 report,
                 session: lowered,
             };
@@ -73,21 +73,21 @@ pub fn withdraw(
 {
     if !tables::lengths_for(session.n, working, stable) {
         return Withdrawing {
-            answer: Withdrawn::Length,
+            answer: Err(FindError::Length),
             report: Report::nothing(),
             session,
         };
     }
     if !keys::good_parts(model, serial, issue) {
         return Withdrawing {
-            answer: Withdrawn::BadKey,
+            answer: Err(FindError::BadKey),
             report: Report::nothing(),
             session,
         };
     }
     if !head::fit0(working, session.n as usize) {
         return Withdrawing {
-            answer: Withdrawn::Damaged,
+            answer: Err(FindError::Damaged),
             report: Report::nothing(),
             session,
         };

@@ -10,4 +10,4 @@ returns c =
     let args = c.args in
     let insert = c.insert-done in
     tried-is args.working.now args.stable.now args.made args.item insert.result insert.new.working
-    c.inserted.result c.join.result insert.ensures c.inserted.ensures c.join.ensures
+    c.number.result c.join.result insert.ensures c.number.ensures c.join.ensures

@@ -3,8 +3,7 @@ use Rattle.std.proofs.Common.{ap}
 use Rattle.rules.specs.Report.{Reported}
 use Rattle.rules.specs.Reports.{insert_reported, lookup_reported}
 use Rattle.rules.specs.Call.{Left}
-use Rattle.rules.specs.declared.Inserted.{Inserted}
-use Rattle.rules.specs.declared.Looked.{Looked}
+use Rattle.rules.specs.Answer.{Inserted, Looked}
 use Rattle.driver.specs.Acts.{told, inserted_reply, looked_reply}
 use Rattle.driver.proofs.act.Goals as goal
 

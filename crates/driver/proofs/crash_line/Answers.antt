@@ -9,7 +9,7 @@ use Rattle.driver.proofs.crash_line.Goals as goal
 pub returns : goal.returns
 returns c =
     let args = c.args in
-    rw c.opened.ensures
+    rw c.number.ensures
     (ap (told opened_reply) (c.open-left.ensures ∙ ap (opening args.working.now)
     (elim c.if-session-ne0.branch [
       | then-session-ne0 w ↦ w.stable-is ∙ w.write_pages.ensures ∙ crashed-mix args.written args.session.n args.working.now args.stable.now w.if-session-ne0.true

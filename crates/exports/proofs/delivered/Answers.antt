@@ -3,4 +3,4 @@
 use Rattle.exports.proofs.delivered.Goals as goal
 
 pub returns : goal.returns
-returns c = rw (c.batched.ensures, c.reason.ensures)
+returns c = rw (c.number.ensures, c.reason.ensures)

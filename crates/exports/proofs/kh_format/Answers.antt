@@ -5,4 +5,4 @@ use Rattle.exports.specs.Leaves.{formatted}
 use Rattle.exports.proofs.kh_format.Goals as goal
 
 pub returns : goal.returns
-returns c = rw c.formatted.ensures (ap formatted c.format.ensures)
+returns c = rw c.number.ensures (ap formatted c.format.ensures)

@@ -8,4 +8,4 @@ pub returns : goal.returns
 returns c =
     let args = c.args in
     let left = c.lean_has_any-left in
-    rw (c.any.ensures, c.any_yes.ensures, c.reason.ensures) (ap C.any (left.ensures args.session refl refl))
+    rw (c.number.ensures, c.any_yes.ensures, c.reason.ensures) (ap C.any (left.ensures args.session refl refl))

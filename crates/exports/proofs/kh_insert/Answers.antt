@@ -5,4 +5,4 @@ use Rattle.exports.specs.Leaves.{inserted}
 use Rattle.exports.proofs.kh_insert.Goals as goal
 
 pub returns : goal.returns
-returns c = rw (c.inserted.ensures, c.reason.ensures) (ap inserted c.insert-left.ensures)
+returns c = rw (c.number.ensures, c.reason.ensures) (ap inserted c.insert-left.ensures)

@@ -8,4 +8,4 @@ pub returns : goal.returns
 returns c =
     let args = c.args in
     let left = c.lean_list-left in
-    rw (c.listed.ensures, c.listed_count.ensures, c.reason.ensures) (ap C.listed (left.ensures args.session refl refl))
+    rw (c.number.ensures, c.listed_count.ensures, c.reason.ensures) (ap C.listed (left.ensures args.session refl refl))

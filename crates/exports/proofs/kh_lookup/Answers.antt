@@ -8,4 +8,4 @@ pub returns : goal.returns
 returns c =
     let args = c.args in
     let left = c.lean_lookup-left in
-    rw (c.looked.ensures, c.looked_record.ensures, c.reason.ensures) (ap C.looked (left.ensures args.session refl refl))
+    rw (c.number.ensures, c.looked_record.ensures, c.reason.ensures) (ap C.looked (left.ensures args.session refl refl))

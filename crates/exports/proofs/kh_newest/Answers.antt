@@ -8,4 +8,4 @@ pub returns : goal.returns
 returns c =
     let args = c.args in
     let left = c.lean_newest-left in
-    rw (c.newest.ensures, c.newest_issue.ensures, c.newest_record.ensures, c.reason.ensures) (ap C.newest (left.ensures args.session refl refl))
+    rw (c.number.ensures, c.newest_issue.ensures, c.newest_record.ensures, c.reason.ensures) (ap C.newest (left.ensures args.session refl refl))

@@ -7,5 +7,5 @@ use Rattle.exports.proofs.kh_open.Goals as goal
 
 pub returns : goal.returns
 returns c =
-    rw c.opened.ensures
+    rw c.number.ensures
     (ap (answered opened_no) c.open-left.ensures)

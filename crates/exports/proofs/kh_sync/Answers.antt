@@ -8,4 +8,4 @@ use Rattle.exports.proofs.kh_sync.Goals as goal
 pub returns : goal.returns
 returns c =
     let sync = c.sync-left in
-    rw c.synced.ensures (ap (answered synced_no) sync.ensures)
+    rw c.number.ensures (ap (answered synced_no) sync.ensures)

@@ -5,4 +5,4 @@ use Rattle.exports.specs.Leaves.{withdrawn}
 use Rattle.exports.proofs.kh_withdraw.Goals as goal
 
 pub returns : goal.returns
-returns c = rw (c.withdrawn.ensures, c.reason.ensures) (ap withdrawn c.withdraw-left.ensures)
+returns c = rw (c.number.ensures, c.reason.ensures) (ap withdrawn c.withdraw-left.ensures)

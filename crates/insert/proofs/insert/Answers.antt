@@ -19,7 +19,7 @@ pub returns-in_default : goal.returns-in_default
 returns-in_default c =
     let args = c.args in
     let tested = c.tested-tests in
-    let no = c.in_default.not-Done in
+    let no = c.in_default.not-Ok tt in
     told_too args.working.now args.stable.now args.session args.model args.serial args.issue
     args.value
     (test_refused args.working.now args.stable.now args.session args.model args.serial args.issue
@@ -33,7 +33,7 @@ way_of-went-requires c =
     let tested = c.tested-tests in
     let p = test_passed args.working.now args.stable.now args.session args.model args.serial
     args.issue args.value tested.result (tested.ensures args.session refl)
-    c.in-Done.is in
+    c.in-Ok.is in
     let l = lengths_for_true args.session args.working.now args.stable.now p.lengths in
     (l.working, p.zero)
 
@@ -46,7 +46,7 @@ choose-chosen-requires c =
     let Way-of = c.way_of-went in
     let way-is = ap (λ (y : Reported Walking). y.left) Way-of.ensures in
     let p = test_passed args.working.now args.stable.now args.session args.model args.serial
-    args.issue args.value tested.result (tested.ensures args.session refl) c.in-Done.is in
+    args.issue args.value tested.result (tested.ensures args.session refl) c.in-Ok.is in
     let l = lengths_for_true args.session args.working.now args.stable.now p.lengths in (
       l.most,
       way-short key_of_lem.result args.value args.session args.working.now l.working p.zero
@@ -65,7 +65,7 @@ decided-answer-requires c =
     let way-is = ap (λ (y : Reported Walking). y.left) Way-of.ensures in
     let choose = c.choose-chosen in
     let p = test_passed args.working.now args.stable.now args.session args.model args.serial
-    args.issue args.value tested.result (tested.ensures args.session refl) c.in-Done.is in
+    args.issue args.value tested.result (tested.ensures args.session refl) c.in-Ok.is in
     let l = lengths_for_true args.session args.working.now args.stable.now p.lengths in
     deciding key_of_lem.result args.value args.session args.working.now l.working p.zero
     slice-known.given (omega (arith, good)) (omega (arith, key_of_lem.type_inv)) Way-of.new.t Way-of.result.way
@@ -85,7 +85,7 @@ returns-in_default-answer c =
     let choose = c.choose-chosen in
     let decided = c.decided-answer in
     let p = test_passed args.working.now args.stable.now args.session args.model args.serial
-    args.issue args.value tested.result (tested.ensures args.session refl) c.in-Done.is in
+    args.issue args.value tested.result (tested.ensures args.session refl) c.in-Ok.is in
     let l = lengths_for_true args.session args.working.now args.stable.now p.lengths in
     told_too args.working.now args.stable.now args.session args.model args.serial args.issue
     args.value
@@ -94,7 +94,7 @@ returns-in_default-answer c =
     way-is l.most (omega (arith, Way-of.auto.t, l.working)) slice-known2.given choose.result
     choose.ensures decided.result
     (decided.ensures (deciding key_of_lem.result args.value args.session args.working.now l.working p.zero slice-known.given (omega (arith, good)) (omega (arith, key_of_lem.type_inv)) Way-of.new.t Way-of.result.way way-is l.most (omega (arith, Way-of.auto.t, l.working)) slice-known2.given choose.result choose.ensures))
-    args.stable.now c.in_default-answer.not-Done
+    args.stable.now (c.in_default-answer.not-Ok tt)
     ∙
     (ap (λ (k : ℕ). insert_key k args.value args.session args.working.now args.stable.now) key_of_lem.ensures ∙ sym p.keyed))
     (ap (λ (y : Reported Walking). y.report) Way-of.ensures
@@ -114,14 +114,14 @@ apply-requires c =
     let choose = c.choose-chosen in
     let decided = c.decided-answer in
     let p = test_passed args.working.now args.stable.now args.session args.model args.serial
-    args.issue args.value tested.result (tested.ensures args.session refl) c.in-Done.is in
+    args.issue args.value tested.result (tested.ensures args.session refl) c.in-Ok.is in
     let l = lengths_for_true args.session args.working.now args.stable.now p.lengths in
     let ready = key-ready key_of_lem.result args.value args.session args.working.now l.working p.zero
     slice-known.given (omega (arith, good)) (omega (arith, key_of_lem.type_inv)) Way-of.new.t Way-of.result.way
     way-is l.most (omega (arith, Way-of.auto.t, l.working)) slice-known2.given choose.result
     choose.ensures decided.result
     (decided.ensures (deciding key_of_lem.result args.value args.session args.working.now l.working p.zero slice-known.given (omega (arith, good)) (omega (arith, key_of_lem.type_inv)) Way-of.new.t Way-of.result.way way-is l.most (omega (arith, Way-of.auto.t, l.working)) slice-known2.given choose.result choose.ensures))
-    c.in-Done-answer.is in
+    c.in-Ok-answer.is in
     record { session = counted args.session; counter = refl; ready = ready }
 
 pub marked-left-requires : goal.marked-left-requires
@@ -137,14 +137,14 @@ marked-left-requires c =
     let choose = c.choose-chosen in
     let decided = c.decided-answer in
     let p = test_passed args.working.now args.stable.now args.session args.model args.serial
-    args.issue args.value tested.result (tested.ensures args.session refl) c.in-Done.is in
+    args.issue args.value tested.result (tested.ensures args.session refl) c.in-Ok.is in
     let l = lengths_for_true args.session args.working.now args.stable.now p.lengths in
     let ready = key-ready key_of_lem.result args.value args.session args.working.now l.working p.zero
     slice-known.given (omega (arith, good)) (omega (arith, key_of_lem.type_inv)) Way-of.new.t Way-of.result.way
     way-is l.most (omega (arith, Way-of.auto.t, l.working)) slice-known2.given choose.result
     choose.ensures decided.result
     (decided.ensures (deciding key_of_lem.result args.value args.session args.working.now l.working p.zero slice-known.given (omega (arith, good)) (omega (arith, key_of_lem.type_inv)) Way-of.new.t Way-of.result.way way-is l.most (omega (arith, Way-of.auto.t, l.working)) slice-known2.given choose.result choose.ensures))
-    c.in-Done-answer.is in
+    c.in-Ok-answer.is in
     subst (λ (z : Session). ReadySession z Way-of.result.way choose.result.pages) (sym c.count.ensures)
     (record { key = key_of_lem.result; table = Way-of.new.t; ready = ready })
 
@@ -161,14 +161,14 @@ returns c =
     let choose = c.choose-chosen in
     let decided = c.decided-answer in
     let p = test_passed args.working.now args.stable.now args.session args.model args.serial
-    args.issue args.value tested.result (tested.ensures args.session refl) c.in-Done.is in
+    args.issue args.value tested.result (tested.ensures args.session refl) c.in-Ok.is in
     let l = lengths_for_true args.session args.working.now args.stable.now p.lengths in
     let ready = key-ready key_of_lem.result args.value args.session args.working.now l.working p.zero
     slice-known.given (omega (arith, good)) (omega (arith, key_of_lem.type_inv)) Way-of.new.t Way-of.result.way
     way-is l.most (omega (arith, Way-of.auto.t, l.working)) slice-known2.given choose.result
     choose.ensures decided.result
     (decided.ensures (deciding key_of_lem.result args.value args.session args.working.now l.working p.zero slice-known.given (omega (arith, good)) (omega (arith, key_of_lem.type_inv)) Way-of.new.t Way-of.result.way way-is l.most (omega (arith, Way-of.auto.t, l.working)) slice-known2.given choose.result choose.ensures))
-    c.in-Done-answer.is in
+    c.in-Ok-answer.is in
     let count = c.count in
     let apply = c.apply in
     let marked = c.marked-left in
@@ -179,7 +179,7 @@ returns c =
     way-is l.most (omega (arith, Way-of.auto.t, l.working)) slice-known2.given choose.result
     choose.ensures decided.result
     (decided.ensures (deciding key_of_lem.result args.value args.session args.working.now l.working p.zero slice-known.given (omega (arith, good)) (omega (arith, key_of_lem.type_inv)) Way-of.new.t Way-of.result.way way-is l.most (omega (arith, Way-of.auto.t, l.working)) slice-known2.given choose.result choose.ensures))
-    c.in-Done-answer.is args.stable.now marked.result apply.new.table
+    c.in-Ok-answer.is args.stable.now marked.result apply.new.table
     (ap (λ (z : Session). done z apply.new.table args.stable.now) (marked.ensures ∙ ap (marks_by Way-of.result.way choose.result.pages (splits_by (heads_of Way-of.result.way))) count.ensures)
     ∙ apply.ensures (record { session = counted args.session; counter = refl; ready = ready }) args.stable.now)
     ∙

@@ -11,10 +11,10 @@ returns-in_default c =
     let args = c.args in
     let find_at = c.find_at in
     not_found (find args.key (read args.table.now args.leaf.place.child).view.certs) find_at.result
-    find_at.ensures c.in_default.not-Found
+    find_at.ensures c.in_default.not-Ok
 
 pub returns : goal.returns
 returns c =
     let args = c.args in
     is_found_lem (find args.key (read args.table.now args.leaf.place.child).view.certs) _
-    (sym c.in-Found.is ∙ c.find_at.ensures)
+    (sym c.in-Ok.is ∙ c.find_at.ensures)

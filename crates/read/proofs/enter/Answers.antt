@@ -8,4 +8,4 @@ pub returns : goal.returns
 returns c =
     more-is c.args.working.now c.args.stable.now c.args.made c.args.certificate c.insert-inserted.result c.insert-inserted.new.working
     c.counted.result c.join.result c.insert-inserted.ensures
-    (c.counted.ensures ∙ ap (one_done c.args.made.done) c.inserted.ensures) c.join.ensures
+    (c.counted.ensures ∙ ap (one_done c.args.made.done) c.number.ensures) c.join.ensures

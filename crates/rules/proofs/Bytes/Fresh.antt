@@ -1,6 +1,6 @@
 -- A store fresh from format: page 0 names page 1, an empty leaf over every key, so the tree as it stands is that leaf, and
 -- opening is done with counter 2. For every number of pages that a table may have. Assumes nothing.
-use Rattle.std.proofs.Common.{◌≡◌, ℕ, ◌-◌, ◌*◌, ◌≤◌, true, List, [], ◌∷◌, ◌++◌, length, replicate, refl, ap, ◌∙◌, arith, lit<, lit≤, lt-ltb, eq-eqb, le-leb}
+use Rattle.std.proofs.Common.{◌≡◌, ℕ, ◌-◌, ◌*◌, ◌≤◌, true, List, [], ◌∷◌, ◌++◌, length, replicate, refl, ap, ◌∙◌, arith, lit<, lit≤, lt-ltb, eq-eqb, le-leb, Ok}
 use mathlib.Core.Option.{some}
 use lib.ListN.{length-replicate}
 use Rattle.fields.specs.Field.{put_at, Bytes}
@@ -11,12 +11,11 @@ use Rattle.rules.specs.Entry.{keys, rising}
 use Rattle.rules.specs.Page.{Page, is_leaf, count, fresh}
 use Rattle.rules.specs.Table.{read, build, kind0, n0, number0, root0, previous0, birth0, set_number, set_root, fit0}
 use Rattle.rules.specs.Sound.{in_order, sound}
-use Rattle.rules.specs.Place.{root_place, kids, places_in, kind_asked, fits, show, unfit, first_failed, is_none}
+use Rattle.rules.specs.Place.{root_place, kids, places_in, kind_asked, fits, show, unfit, first_failed}
 use Rattle.rules.specs.Tree.{empty, join, spared_at, here, tree_each, tree, tree_of, good_tree}
 use Rattle.rules.specs.Format.{empty_leaf, formatted, format}
 use Rattle.rules.specs.Open.{open_done, opening}
 use Rattle.rules.specs.declared.Place.{Place}
-use Rattle.rules.specs.declared.Formatted.{Formatted}
 use Rattle.rules.proofs.Bytes.All.{nil}
 use Rattle.rules.proofs.Bytes.Pages.{Wide, room-page_bytes, bytes-replicate}
 use Rattle.rules.proofs.Bytes.Tables.{Has, Room, length-build, bytes-build, read-build-same}
@@ -53,7 +52,7 @@ abbrev pub fresh_root : Place
 fresh_root = record { child = 1; previous = 0; birth = 1; low = 0; high = last_key; want = 0 }
 
 pub first_fits : (n : ℕ) → fits n fresh_root fresh_leaf ≡ true
-unfolding fits unfit first_failed is_none sound every between in_order rising all keys kind_asked is_leaf fresh empty_leaf
+unfolding fits unfit first_failed sound every between in_order rising all keys kind_asked is_leaf fresh empty_leaf
 first_fits n = refl
 
 module _ (n : ℕ) (least : fewest_pages ≤ n) (most : n ≤ most_pages) where
@@ -170,7 +169,7 @@ module _ (n : ℕ) (least : fewest_pages ≤ n) (most : n ≤ most_pages) where
 
   -- ── The two calls ─────────────────────────────────────────────────────────────────────────────────────────────
 
-  pub format-done : (w s : List ℕ) → length w ≡ n * page_size → length s ≡ n * page_size → format w s ≡ record { answer = Formatted.Done; stable = formatted n (n * page_size) }
+  pub format-done : (w s : List ℕ) → length w ≡ n * page_size → length s ≡ n * page_size → format w s ≡ record { answer = Ok tt; stable = formatted n (n * page_size) }
   unfolding format
   format-done w s e f =
       rw (tables-good (record { least = least; most = most; working = e; stable = f }), format, pages-of s n f, f)

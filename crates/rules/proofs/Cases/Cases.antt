@@ -1,15 +1,15 @@
 -- The bench cases of document 01 that are marked P, proved by computing.
-use Rattle.std.proofs.Common.{◌≡◌, ℕ, ◌+◌, ◌*◌, ◌≤◌, Bool, true, false, eqb, List, [], ◌∷◌, length, refl, ap, ◌∙◌, arith, lit≤}
+use Rattle.std.proofs.Common.{◌≡◌, ℕ, ◌+◌, ◌*◌, ◌≤◌, Bool, true, false, eqb, List, [], ◌∷◌, length, refl, ap, ◌∙◌, arith, lit≤, Err}
 use lib.ListN.{length-replicate}
 use Rattle.rules.specs.Layout.{page_size, fewest_pages, most_pages}
 use Rattle.rules.specs.Test.{between}
 use Rattle.rules.specs.Table.{number0, root0, set_number}
 use Rattle.rules.specs.Marks.{opened, marks}
-use Rattle.rules.specs.Call.{Left, formatted_no, opened_no, inserted_no, withdrawn_no, looked_no, synced_no}
+use Rattle.rules.specs.Call.{Left, formatted_no, opened_no, inserted_no, withdrawn_no, looked_no, synced_no, length_error_no, open_error_no}
 use Rattle.rules.specs.Format.{formatted, format}
 use Rattle.rules.specs.Open.{open_refused, open_done, opening}
-use Rattle.rules.specs.declared.Formatted.{Formatted}
-use Rattle.rules.specs.declared.Opened.{Opened}
+use Rattle.rules.specs.Answer.{Opened}
+use Rattle.rules.specs.declared.LengthError.{LengthError}
 use Rattle.rules.proofs.Bytes.Lengths.{lengths_bad}
 use Rattle.rules.proofs.Bytes.PageZero.{number0-set_number}
 use Rattle.rules.proofs.Bytes.Fresh.{length-formatted, number0-formatted, format-done, opening-formatted}
@@ -26,11 +26,11 @@ unfolding table
 length-table n = length-replicate {A = ℕ} (n * page_size) 0
 
 format-taken : (n : ℕ) → fewest_pages ≤ n → n ≤ most_pages → formatted_no (format (table n) (table n)).answer ≡ 0
-unfolding formatted_no
+unfolding length_error_no
 format-taken n least most = rw (format-done n least most (table n) (table n) (length-table n) (length-table n))
 
 open-taken : (n : ℕ) → fewest_pages ≤ n → n ≤ most_pages → opened_no (store n).answer ≡ 0
-unfolding opened_no store open_done
+unfolding open_error_no store open_done
 open-taken n least most =
     rw (format-done n least most (table n) (table n) (length-table n) (length-table n), opening-formatted n least most (table n) (length-table n))
 
@@ -58,16 +58,16 @@ module _ (n : ℕ) (least : fewest_pages ≤ n) (most : n ≤ most_pages) where
     stable = ap (λ (r : Left Opened). number0 r.stable) store_is ∙ number;
   }
 
-format-refused : (n : ℕ) → between fewest_pages most_pages n ≡ false → format (table n) (table n) ≡ record { answer = Formatted.Length; stable = table n }
+format-refused : (n : ℕ) → between fewest_pages most_pages n ≡ false → format (table n) (table n) ≡ record { answer = Err LengthError.Length; stable = table n }
 unfolding format
 format-refused n h = rw (lengths_bad (table n) (table n) n (length-table n) h, format)
 
 open_refused_lem : (n : ℕ) → between fewest_pages most_pages n ≡ false → opened_no (store n).answer ≡ 1
-unfolding opened_no store opening open_refused
+unfolding open_error_no store opening open_refused
 open_refused_lem n h = rw (format-refused n h, lengths_bad (table n) (table n) n (length-table n) h, opening)
 
 case3 : Case3
-unfolding between formatted_no
+unfolding between length_error_no
 case3 = record {
   format_3 = rw (format-refused 3 refl);
   format_4 = format-taken 4 (lit≤ tt) (lit≤ tt);

@@ -1,11 +1,11 @@
 -- A batch is single inserts in list order. Assumes nothing.
-use Rattle.std.proofs.Common.{◌≡◌, ℕ, suc, Bool, true, false, List, [], ◌∷◌, ◌++◌, length, refl, ap}
+use Rattle.std.proofs.Common.{◌≡◌, ℕ, suc, Bool, true, false, List, [], ◌∷◌, ◌++◌, length, refl, ap, Ok, Err}
 use Rattle.rules.specs.Report.{nothing}
 use Rattle.rules.specs.Call.{lengths_for}
 use Rattle.rules.specs.Batch.{Between, between, after_item, item_no, answered, after_items, items_answered, batch_left, batch}
 use Rattle.rules.specs.declared.Session.{Session}
 use Rattle.rules.specs.declared.Item.{Item}
-use Rattle.rules.specs.declared.Batched.{Batched}
+use Rattle.rules.specs.declared.LengthError.{LengthError}
 
 -- ── Item by item ────────────────────────────────────────────────────────────────────────────────────────────────
 
@@ -42,12 +42,12 @@ module _ (t : List ℕ) where
 -- ── The call ────────────────────────────────────────────────────────────────────────────────────────────────────
 
 module _ (w t : List ℕ) (s : Session) (xs : List Item) where
-  pub batch_refused : lengths_for s w t ≡ false → batch w t s xs ≡ batch_left Batched.Length t (between w s nothing) xs
+  pub batch_refused : lengths_for s w t ≡ false → batch w t s xs ≡ batch_left (Err LengthError.Length) t (between w s nothing) xs
   unfolding batch
   batch_refused h = rw (batch, h)
 
   pub batch-done : lengths_for s w t ≡ true
-      → batch w t s xs ≡ batch_left Batched.Done t (after_items t (between w s nothing) xs) (items_answered t (between w s nothing) xs)
+      → batch w t s xs ≡ batch_left (Ok tt) t (after_items t (between w s nothing) xs) (items_answered t (between w s nothing) xs)
   unfolding batch
   batch-done h = rw (batch, h)
 
@@ -61,6 +61,6 @@ module _ (w t : List ℕ) (s : Session) (xs : List Item) where
 
 -- an empty batch touches nothing, also over a page 0 that does not fit
 pub batch-empty : (w t : List ℕ) (s : Session) → lengths_for s w t ≡ true
-    → batch w t s [] ≡ batch_left Batched.Done t (between w s nothing) []
+    → batch w t s [] ≡ batch_left (Ok tt) t (between w s nothing) []
 unfolding batch after_items items_answered
 batch-empty w t s h = rw (batch, h)

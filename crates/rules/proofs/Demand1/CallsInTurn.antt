@@ -1,6 +1,6 @@
 -- A call mends the pages that its companion in Mends computes, in that order, and does nothing else to the working table: each
 -- call that reads, and an insert or a withdrawal that is refused. Assumes nothing.
-use Rattle.std.proofs.Common.{◌≡◌, ℕ, Bool, true, false, ◌&&◌, ltb, List, [], sym, refl, subst, true≢false}
+use Rattle.std.proofs.Common.{◌≡◌, ℕ, Bool, true, false, ◌&&◌, ltb, List, [], sym, refl, subst, true≢false, Ok}
 use Rattle.rules.specs.Test.{every}
 use Rattle.rules.specs.Key.{key_of, good_parts}
 use Rattle.rules.specs.Table.{fit0}
@@ -15,8 +15,6 @@ use Rattle.rules.specs.List.{list, list_refused, up_from}
 use Rattle.rules.specs.Mends.{way_mends, walk_of_mends, tested_mends, key_mends, meter_mends, list_mends, InTurn, no_mend}
 use Rattle.rules.specs.declared.Session.{Session}
 use Rattle.rules.specs.declared.Asked.{Asked}
-use Rattle.rules.specs.declared.Inserted.{Inserted}
-use Rattle.rules.specs.declared.Withdrawn.{Withdrawn}
 use Rattle.rules.proofs.Demand1.InTurns.{way-turns, walk_of-turns}
 use Rattle.rules.proofs.Demand1.Reports.{lookup-walked, newest-walked, list-walked}
 use Rattle.rules.proofs.Demand1.LikeLookup.{insert-leaves, withdraw-leaves}
@@ -56,13 +54,13 @@ module _ (w t : List ℕ) (s : Session) where
       (way_of s.n s.c k w).table (λ l. rw (lookup, l)) (λ l g. rw (lookup, l, g)) (λ l g f. rw (lookup, l, g, f))
       (λ l g f. rw (lookup, l, g, f) (lookup-walked k s w t)) (way-turns s.n s.c k w)
 
-  pub insert-turns : (model serial issue x : ℕ) → ((insert w t s model serial issue x).answer ≡ Inserted.Done → ⊥)
+  pub insert-turns : (model serial issue x : ℕ) → ((insert w t s model serial issue x).answer ≡ Ok tt → ⊥)
       → InTurn s.n s.c (key_mends w t s model serial issue) w (insert w t s model serial issue x).working
   insert-turns model serial issue x refused =
       subst (InTurn s.n s.c (key_mends w t s model serial issue) w) (sym (insert-leaves w t s model serial issue x refused))
       (lookup-turns model serial issue)
 
-  pub withdraw-turns : (model serial issue : ℕ) → ((withdraw w t s model serial issue).answer ≡ Withdrawn.Done → ⊥)
+  pub withdraw-turns : (model serial issue : ℕ) → ((withdraw w t s model serial issue).answer ≡ Ok tt → ⊥)
       → InTurn s.n s.c (key_mends w t s model serial issue) w (withdraw w t s model serial issue).working
   withdraw-turns model serial issue refused =
       subst (InTurn s.n s.c (key_mends w t s model serial issue) w) (sym (withdraw-leaves w t s model serial issue refused))

@@ -1,6 +1,6 @@
 -- A report that counts 0 gives no reason. The count wraps at 2^32, but a page names 30 children at the most and a tree has
 -- three levels, so a call enters at most 931 places, whatever the bytes. Assumes nothing.
-use Rattle.std.proofs.Common.{◌≡◌, ℕ, zero, suc, ◌+◌, ◌-◌, ◌*◌, ◌<◌, ◌≤◌, Bool, true, false, ◌&&◌, ltb, ◌⊎◌, List, [], ◌∷◌, length, refl, ap, inl, inr, mul-le-mul_right, suc-mul, arith, lit<}
+use Rattle.std.proofs.Common.{◌≡◌, ℕ, zero, suc, ◌+◌, ◌-◌, ◌*◌, ◌<◌, ◌≤◌, Bool, true, false, ◌&&◌, ltb, ◌⊎◌, List, [], ◌∷◌, length, refl, ap, inl, inr, mul-le-mul_right, suc-mul, arith, lit<, None, is_none}
 use mathlib.Core.Option.{Option, some, none, some-injective, none-ne-some}
 use Rattle.rules.specs.Layout.{top_kind}
 use Rattle.rules.specs.Test.{every, mem}
@@ -8,7 +8,7 @@ use Rattle.rules.specs.Key.{key_of, good_parts}
 use Rattle.rules.specs.Entry.{Child}
 use Rattle.rules.specs.Page.{Page, fresh}
 use Rattle.rules.specs.Table.{read, fit0}
-use Rattle.rules.specs.Place.{root_place, places_in, kids, pick, is_none, fits, mendable, mended, cut_view}
+use Rattle.rules.specs.Place.{root_place, places_in, kids, pick, fits, mendable, mended, cut_view, Why}
 use Rattle.rules.specs.Enter.{mend, enter}
 use Rattle.rules.specs.Report.{nothing, adds, reason_at}
 use Rattle.rules.specs.Walk.{Step, numbers, descend_report, way_report, Walked, unwalked, noted, enters, finds, stops, walk_each, walk, walk_of}
@@ -19,7 +19,6 @@ use Rattle.rules.specs.Reports.{once_tested, key_report, newest_reported, list_r
 use Rattle.rules.specs.declared.Session.{Session}
 use Rattle.rules.specs.declared.Place.{Place}
 use Rattle.rules.specs.declared.Asked.{Asked}
-use Rattle.rules.specs.declared.Reason.{Reason}
 use Rattle.rules.specs.declared.Report.{Report}
 use Rattle.rules.proofs.Entries.Entries.{length_cut}
 use Rattle.rules.proofs.Entries.Places.{fits_true, mendable_true}
@@ -29,7 +28,7 @@ use Rattle.rules.proofs.Entries.Places.{fits_true, mendable_true}
 -- at most so many mends, and no reason without one
 record Counted (b : ℕ) (x : Report) : Type 0 where
   most : x.mended ≤ b
-  told : (x.reason ≡ Reason.None) ⊎ (1 ≤ x.mended)
+  told : (x.reason ≡ None) ⊎ (1 ≤ x.mended)
 
 -- what a 32-bit count holds
 abbrev wraps : ℕ
@@ -43,7 +42,7 @@ under (suc level) = 1 + 30 * under level
 counted-more : {b d : ℕ} {x : Report} → b ≤ d → Counted b x → Counted d x
 counted-more l y = record { most = omega (arith, y.most); told = y.told }
 
-counted-adds : (b : ℕ) (r : Reason) (x : Report) → b + 1 < wraps → Counted b x → Counted (b + 1) (adds r x)
+counted-adds : (b : ℕ) (r : Why) (x : Report) → b + 1 < wraps → Counted b x → Counted (b + 1) (adds r x)
 unfolding adds
 counted-adds b r x l y = go (is_none r) refl
   where
@@ -151,12 +150,12 @@ walk-counted (suc level) n c a above e w b l y =
 
 -- 0 and none go together
 abbrev pub ZeroIsNone : Report → Type 0
-ZeroIsNone x = x.mended ≡ 0 → x.reason ≡ Reason.None
+ZeroIsNone x = x.mended ≡ 0 → x.reason ≡ None
 
 counted-zero : (b : ℕ) (x : Report) → Counted b x → ZeroIsNone x
 counted-zero b x y h = go y.told
   where
-    go : (x.reason ≡ Reason.None) ⊎ (1 ≤ x.mended) → x.reason ≡ Reason.None
+    go : (x.reason ≡ None) ⊎ (1 ≤ x.mended) → x.reason ≡ None
     go (inl r) = r
     go (inr l) = absurd (omega (arith, h))
 

@@ -1,13 +1,13 @@
 -- On the way of one key the reason reported is that of the first lost place, read off the table as it is before the call.
 -- Assumes nothing.
-use Rattle.std.proofs.Common.{◌≡◌, ℕ, zero, suc, Bool, true, false, List, [], ◌∷◌, refl, ap, ◌∙◌}
+use Rattle.std.proofs.Common.{◌≡◌, ℕ, zero, suc, Bool, true, false, List, [], ◌∷◌, refl, ap, ◌∙◌, None, is_none}
 use mathlib.Core.Option.{Option, some, none}
 use Rattle.rules.specs.Layout.{top_kind}
 use Rattle.rules.specs.Test.{mem}
 use Rattle.rules.specs.Key.{key_of, good_parts}
 use Rattle.rules.specs.Page.{Page}
 use Rattle.rules.specs.Table.{read, fit0}
-use Rattle.rules.specs.Place.{root_place, kids, pick, is_none, fits, mendable, mended}
+use Rattle.rules.specs.Place.{root_place, kids, pick, fits, mendable, mended, Why}
 use Rattle.rules.specs.Enter.{mend, enter}
 use Rattle.rules.specs.Report.{nothing, adds, reason_at}
 use Rattle.rules.specs.Walk.{Step, numbers, descend_report, way_report}
@@ -15,7 +15,6 @@ use Rattle.rules.specs.Call.{lengths_for}
 use Rattle.rules.specs.Reports.{key_report}
 use Rattle.rules.specs.declared.Session.{Session}
 use Rattle.rules.specs.declared.Place.{Place}
-use Rattle.rules.specs.declared.Reason.{Reason}
 use Rattle.rules.specs.declared.Report.{Report}
 use Rattle.rules.proofs.Entries.Reasons.{reason-some, adds-fits, adds-stays, adds-first}
 use Rattle.rules.proofs.Demand1.WalkSteps.{enter-fits, report-damaged, report-ends, report-below}
@@ -41,10 +40,10 @@ unfoldable pub first_lost : ℕ → ℕ → List ℕ → Option Place
 first_lost n k t = lost_from top_kind n k [] t (root_place t)
 
 -- why that place is mended: no reason if it is damaged, or if none is lost
-unfoldable pub why_mended : ℕ → List ℕ → Option Place → Reason
-why_mended n t none = Reason.None
+unfoldable pub why_mended : ℕ → List ℕ → Option Place → Why
+why_mended n t none = None
 why_mended n t (some e) =
-    elim (mendable n e (read t e.previous)) [ true ↦ reason_at n t e | false ↦ Reason.None ]
+    elim (mendable n e (read t e.previous)) [ true ↦ reason_at n t e | false ↦ None ]
 
 -- ── The first reason stays ──────────────────────────────────────────────────────────────────────────────────────
 
@@ -77,18 +76,18 @@ reason_kept (suc level) n c k above t e x f =
 
 -- ── One step ────────────────────────────────────────────────────────────────────────────────────────────────────
 
-abbrev reason_of : Report → Reason
+abbrev reason_of : Report → Why
 reason_of x = x.reason
 
 module _ (level n c k : ℕ) (above : List Step) (t : List ℕ) (e : Place) where
-  abbrev told : Reason
+  abbrev told : Why
   told = (descend_report (suc level) n c k above t e nothing).reason
 
-  abbrev read_off : Reason
+  abbrev read_off : Why
   read_off = why_mended n t (lost_from (suc level) n k (numbers above) t e)
 
   -- a damaged place names no reason
-  at_damage : (enter n c (numbers above) t e).page ≡ none → told ≡ Reason.None
+  at_damage : (enter n c (numbers above) t e).page ≡ none → told ≡ None
   unfolding nothing
   at_damage h = ap reason_of (report-damaged level n c k above t e nothing h)
 

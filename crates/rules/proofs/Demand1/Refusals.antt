@@ -1,5 +1,5 @@
 -- Demand 1 about the rules: what each call may change, and what a refused one leaves.
-use Rattle.std.proofs.Common.{◌≡◌, ℕ, Bool, true, false, ◌&&◌, ltb, leb, List, refl, true≢false}
+use Rattle.std.proofs.Common.{◌≡◌, ℕ, Bool, true, false, ◌&&◌, ltb, leb, List, refl, true≢false, Ok, Err}
 use mathlib.Core.Option.{Option, some, none}
 use Rattle.rules.specs.Layout.{last_number}
 use Rattle.rules.specs.Key.{key_of, good_parts}
@@ -19,11 +19,7 @@ use Rattle.rules.specs.List.{ListLeft, list, list_from, list_done, list_refused,
 use Rattle.rules.specs.Sync.{sync, sync_refused, sync_done}
 use Rattle.rules.specs.declared.Session.{Session}
 use Rattle.rules.specs.declared.Asked.{Asked}
-use Rattle.rules.specs.declared.Formatted.{Formatted}
-use Rattle.rules.specs.declared.Opened.{Opened}
-use Rattle.rules.specs.declared.Inserted.{Inserted}
-use Rattle.rules.specs.declared.Listed.{Listed}
-use Rattle.rules.specs.declared.Synced.{Synced}
+use Rattle.rules.specs.Answer.{Listed}
 use Rattle.rules.proofs.Demand1.Mending.{Mends, same, way_mends_lem, walk_of_mends_lem}
 
 -- ── Words ───────────────────────────────────────────────────────────────────────────────────────────────────────
@@ -36,7 +32,7 @@ pub record OnlyMended {A : Type 0} (w t : List ℕ) (s : Session) (r : Left A) :
 
 -- ── Format, open, sync: a refusal changes no byte ───────────────────────────────────────────────────────────────
 
-pub format-refused : (w s : List ℕ) → ((format w s).answer ≡ Formatted.Done → ⊥) → (format w s).stable ≡ s
+pub format-refused : (w s : List ℕ) → ((format w s).answer ≡ Ok tt → ⊥) → (format w s).stable ≡ s
 unfolding format
 format-refused w s h = go (good_lengths w s) refl
   where
@@ -44,7 +40,7 @@ format-refused w s h = go (good_lengths w s) refl
     go false p = rw (p, format)
     go true p = absurd (h (rw (p, format)))
 
-pub opening-refused : (w s : List ℕ) → ((opening w s).answer ≡ Opened.Done → ⊥) → Unchanged w s nobody (opening w s)
+pub opening-refused : (w s : List ℕ) → ((opening w s).answer ≡ Ok tt → ⊥) → Unchanged w s nobody (opening w s)
 unfolding opening open_refused open_done
 opening-refused w s h =
     go (good_lengths w s) refl (fit0 (pages s) s && good_tree (tree_of (pages s) s)) refl (leb (number0 s) last_number) refl
@@ -58,7 +54,7 @@ opening-refused w s h =
     go true p true q false o = rw (p, opening, q, o) (record { working = refl; stable = refl; session = refl })
     go true p true q true o = absurd (h (rw (p, opening, q, o)))
 
-pub sync_refused_lem : (w t : List ℕ) (s : Session) → ((sync w t s).answer ≡ Synced.Done → ⊥) → Unchanged w t s (sync w t s)
+pub sync_refused_lem : (w t : List ℕ) (s : Session) → ((sync w t s).answer ≡ Ok tt → ⊥) → Unchanged w t s (sync w t s)
 unfolding sync sync_refused sync_done
 sync_refused_lem w t s h = go (lengths_for s w t) refl (leb s.c last_number) refl
   where
@@ -82,7 +78,7 @@ module _ (k x : ℕ) (s : Session) (way : List Step) (w t : List ℕ) where
       go none o false p true q = rw (insert_along, o, p, q)
       go none o false p false q = rw (insert_along, o, p, q)
 
-  pub along_refused : ((insert_along k x s way w t).answer ≡ Inserted.Done → ⊥) → Unchanged w t s (insert_along k x s way w t)
+  pub along_refused : ((insert_along k x s way w t).answer ≡ Ok tt → ⊥) → Unchanged w t s (insert_along k x s way w t)
   unfolding insert_along insert_refused insert_done
   along_refused h = go (find k (certs_at way)) refl (too_soon s.c (splitting way)) refl
       (no_room way (free_pages s (numbers way))) refl
@@ -95,7 +91,7 @@ module _ (k x : ℕ) (s : Session) (way : List Step) (w t : List ℕ) where
       go none o false p false q = absurd (h (rw (insert_along, o, p, q)))
 
 module _ (k x : ℕ) (s : Session) (w t : List ℕ) where
-  key-refused : ((insert_key k x s w t).answer ≡ Inserted.Done → ⊥) → OnlyMended w t s (insert_key k x s w t)
+  key-refused : ((insert_key k x s w t).answer ≡ Ok tt → ⊥) → OnlyMended w t s (insert_key k x s w t)
   unfolding insert_key insert_refused
   key-refused h = go (way_of s.n s.c k w).steps refl
     where
@@ -124,7 +120,7 @@ module _ (k x : ℕ) (s : Session) (w t : List ℕ) where
       go (some steps) o = rw (insert_key, o) (along_stable k x s steps (way_of s.n s.c k w).table t)
 
 module _ (w t : List ℕ) (s : Session) (model serial issue x : ℕ) where
-  pub insert_refused_lem : ((insert w t s model serial issue x).answer ≡ Inserted.Done → ⊥)
+  pub insert_refused_lem : ((insert w t s model serial issue x).answer ≡ Ok tt → ⊥)
       → OnlyMended w t s (insert w t s model serial issue x)
   unfolding insert insert_refused
   insert_refused_lem h = go (lengths_for s w t) refl (good_parts model serial issue) refl (fit0 s.n w) refl
@@ -225,9 +221,8 @@ pub record ListsStay (ks xs : List ℕ) (r : ListLeft) : Type 0 where
 
 -- done, with so many places filled
 unfoldable pub is_filled : Listed → Bool
-is_filled (Listed.Filled k) = true
-is_filled Listed.Length = false
-is_filled Listed.Damaged = false
+is_filled (Ok k) = true
+is_filled (Err e) = false
 
 module _ (s : Session) (w t : List ℕ) (start : ℕ) (ks xs : List ℕ) where
   from-mends : ListMended w t s (list_from s w t start ks xs)

@@ -1,6 +1,6 @@
 -- What a report tells of the table. Where its reason is none nothing was mended: the table is as it was, and the count is
 -- 0. Of any bytes, of the way of one key and of a walk over a range. Assumes nothing.
-use Rattle.std.proofs.Common.{◌≡◌, ℕ, zero, suc, Bool, true, false, ◌&&◌, ltb, List, [], ◌∷◌, sym, refl, ap, ◌∙◌, true≢false}
+use Rattle.std.proofs.Common.{◌≡◌, ℕ, zero, suc, Bool, true, false, ◌&&◌, ltb, List, [], ◌∷◌, sym, refl, ap, ◌∙◌, true≢false, Ok, None}
 use mathlib.Core.Option.{Option, some, none}
 use Rattle.rules.specs.Layout.{top_kind}
 use Rattle.rules.specs.Page.{Page}
@@ -17,10 +17,8 @@ use Rattle.rules.specs.Newest.{newest, newest_meter, newest_left, meter}
 use Rattle.rules.specs.List.{list, list_from, list_done, list_refused, up_from}
 use Rattle.rules.specs.Reports.{once_tested, key_report, insert_reported, lookup_reported, newest_reported, list_reported}
 use Rattle.rules.specs.declared.Session.{Session}
-use Rattle.rules.specs.declared.Inserted.{Inserted}
 use Rattle.rules.specs.declared.Place.{Place}
 use Rattle.rules.specs.declared.Asked.{Asked}
-use Rattle.rules.specs.declared.Reason.{Reason}
 use Rattle.rules.specs.declared.Report.{Report}
 use Rattle.rules.proofs.Entries.Reasons.{adds_none, adds-fits}
 use Rattle.rules.proofs.Demand1.WalkSteps.{enter-damaged, enter-fits}
@@ -36,7 +34,7 @@ pub record Quiet (t u : List ℕ) (x : Report) : Type 0 where
 
 -- a report without a reason is right to have none
 abbrev Honest : List ℕ → List ℕ → Report → Type 0
-Honest t u x = x.reason ≡ Reason.None → Quiet t u x
+Honest t u x = x.reason ≡ None → Quiet t u x
 
 -- ── Entering ────────────────────────────────────────────────────────────────────────────────────────────────────
 
@@ -82,7 +80,7 @@ descend_honest (suc level) n c k above t u e x q =
     found none h ih = rw (descend, descend_report, h) (damaged_honest n c (numbers above) t u e x q h)
     found (some p) h ih = below p h (pick k (kids e p.view)) refl ih
 
-pub way-quiet : (n c k : ℕ) (t : List ℕ) → (way_report n c k t nothing).reason ≡ Reason.None
+pub way-quiet : (n c k : ℕ) (t : List ℕ) → (way_report n c k t nothing).reason ≡ None
     → Quiet t (way_of n c k t).table (way_report n c k t nothing)
 unfolding way_of way_report
 way-quiet n c k t =
@@ -117,7 +115,7 @@ walk_honest (suc level) n c a above t e w q =
         (finds a x.view (noted n e w) (enter n c above w.table e).table)
         (entered_honest n c above t w.table e w.report q))
 
-pub walk_of-quiet : (n c : ℕ) (a : Asked) (t : List ℕ) → (walk_of n c a t).report.reason ≡ Reason.None
+pub walk_of-quiet : (n c : ℕ) (a : Asked) (t : List ℕ) → (walk_of n c a t).report.reason ≡ None
     → Quiet t (walk_of n c a t).table (walk_of n c a t).report
 unfolding walk_of
 walk_of-quiet n c a t =
@@ -154,7 +152,7 @@ lookup-walked k s w t = go (way_of s.n s.c k w).steps refl
 
 pub lookup-quiet : (w t : List ℕ) (s : Session) (model serial issue : ℕ)
     → let r = lookup_reported w t s model serial issue in
-    r.report.reason ≡ Reason.None → Quiet w r.left.working r.report
+    r.report.reason ≡ None → Quiet w r.left.working r.report
 unfolding lookup_reported key_report lookup lookup_left
 lookup-quiet w t s model serial issue =
     let k = key_of model serial issue in
@@ -164,7 +162,7 @@ lookup-quiet w t s model serial issue =
     let q = way-quiet s.n s.c k w h in
     record { table = rw (lookup, l, g, f) (lookup-walked k s w t ∙ q.table); report = q.report })
 
-pub insert-walked : (k x : ℕ) (s : Session) (w t : List ℕ) → ((insert_key k x s w t).answer ≡ Inserted.Done → ⊥)
+pub insert-walked : (k x : ℕ) (s : Session) (w t : List ℕ) → ((insert_key k x s w t).answer ≡ Ok tt → ⊥)
     → (insert_key k x s w t).working ≡ (way_of s.n s.c k w).table
 unfolding insert_key insert_refused
 insert-walked k x s w t r = go (way_of s.n s.c k w).steps refl
@@ -175,9 +173,9 @@ insert-walked k x s w t r = go (way_of s.n s.c k w).steps refl
         rw (insert_key, h) (along_refused k x s steps (way_of s.n s.c k w).table t (λ e. r (rw (insert_key, h) e))).working
 
 pub insert-quiet : (w t : List ℕ) (s : Session) (model serial issue x : ℕ)
-    → ((insert w t s model serial issue x).answer ≡ Inserted.Done → ⊥)
+    → ((insert w t s model serial issue x).answer ≡ Ok tt → ⊥)
     → let r = insert_reported w t s model serial issue x in
-    r.report.reason ≡ Reason.None → Quiet w r.left.working r.report
+    r.report.reason ≡ None → Quiet w r.left.working r.report
 unfolding insert_reported key_report insert insert_refused
 insert-quiet w t s model serial issue x r =
     let k = key_of model serial issue in
@@ -200,7 +198,7 @@ newest-walked a s w t = go (walk_of s.n s.c a w).whole refl
 
 pub newest-quiet : (w t : List ℕ) (s : Session) (model serial : ℕ)
     → let r = newest_reported w t s model serial in
-    r.report.reason ≡ Reason.None → Quiet w r.left.working r.report
+    r.report.reason ≡ None → Quiet w r.left.working r.report
 unfolding newest_reported newest newest_left
 newest-quiet w t s model serial =
     let a = meter model serial in
@@ -222,7 +220,7 @@ list-walked s w t start ks xs = go (walk_of s.n s.c (up_from start ks xs) w).who
 
 pub list-quiet : (w t : List ℕ) (s : Session) (start : ℕ) (ks xs : List ℕ)
     → let r = list_reported w t s start ks xs in
-    r.report.reason ≡ Reason.None → Quiet w r.left.working r.report
+    r.report.reason ≡ None → Quiet w r.left.working r.report
 unfolding list_reported list list_refused
 list-quiet w t s start ks xs =
     let a = up_from start ks xs in

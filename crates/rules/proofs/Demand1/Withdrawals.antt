@@ -1,6 +1,6 @@
 -- Demand 1 about withdraw: a refusal leaves nothing but mends, as a lookup does, stable never changes, and it answers as a lookup
 -- does.
-use Rattle.std.proofs.Common.{◌≡◌, ℕ, Bool, true, false, List, refl}
+use Rattle.std.proofs.Common.{◌≡◌, ℕ, Bool, true, false, List, refl, Ok, Err}
 use mathlib.Core.Option.{Option, some, none}
 use Rattle.rules.specs.Key.{key_of, good_parts}
 use Rattle.rules.specs.Entry.{find}
@@ -10,15 +10,14 @@ use Rattle.rules.specs.Call.{lengths_for}
 use Rattle.rules.specs.Withdraw.{withdraw_refused, withdraw_done, withdraw_along, withdraw_key, withdraw}
 use Rattle.rules.specs.Lookup.{found_in, lookup_left, lookup_key, lookup}
 use Rattle.rules.specs.declared.Session.{Session}
-use Rattle.rules.specs.declared.Withdrawn.{Withdrawn}
-use Rattle.rules.specs.declared.Looked.{Looked}
+use Rattle.rules.specs.Answer.{Withdrawn, Looked}
 use Rattle.rules.proofs.Demand1.Mending.{same, way_mends_lem}
 use Rattle.rules.proofs.Demand1.Refusals.{OnlyMended}
 
 -- ── A refusal, and the stable table ─────────────────────────────────────────────────────────────────────────────
 
 module _ (k : ℕ) (s : Session) (w t : List ℕ) where
-  key-refused : ((withdraw_key k s w t).answer ≡ Withdrawn.Done → ⊥) → OnlyMended w t s (withdraw_key k s w t)
+  key-refused : ((withdraw_key k s w t).answer ≡ Ok tt → ⊥) → OnlyMended w t s (withdraw_key k s w t)
   unfolding withdraw_key withdraw_along withdraw_refused withdraw_done
   key-refused h = go (way_of s.n s.c k w).steps refl
     where
@@ -47,7 +46,7 @@ module _ (k : ℕ) (s : Session) (w t : List ℕ) where
       go (some steps) o = along steps o (find k (certs_at steps)) refl
 
 module _ (w t : List ℕ) (s : Session) (model serial issue : ℕ) where
-  pub withdraw_refused_lem : ((withdraw w t s model serial issue).answer ≡ Withdrawn.Done → ⊥)
+  pub withdraw_refused_lem : ((withdraw w t s model serial issue).answer ≡ Ok tt → ⊥)
       → OnlyMended w t s (withdraw w t s model serial issue)
   unfolding withdraw withdraw_refused
   withdraw_refused_lem h = go (lengths_for s w t) refl (good_parts model serial issue) refl (fit0 s.n w) refl
@@ -75,11 +74,8 @@ module _ (w t : List ℕ) (s : Session) (model serial issue : ℕ) where
 
 -- done where a lookup finds a record, and else its refusal
 unfoldable pub withdrawn_as : Looked → Withdrawn
-withdrawn_as (Looked.Found x) = Withdrawn.Done
-withdrawn_as Looked.Length = Withdrawn.Length
-withdrawn_as Looked.BadKey = Withdrawn.BadKey
-withdrawn_as Looked.Damaged = Withdrawn.Damaged
-withdrawn_as Looked.Missing = Withdrawn.Missing
+withdrawn_as (Ok x) = Ok tt
+withdrawn_as (Err e) = Err e
 
 key_as : (k : ℕ) (s : Session) (w t : List ℕ) → (withdraw_key k s w t).answer ≡ withdrawn_as (lookup_key k s w t).answer
 unfolding withdraw_key withdraw_along withdraw_refused withdraw_done lookup_key lookup_left found_in withdrawn_as
@@ -109,7 +105,7 @@ withdraw_as w t s model serial issue = go (lengths_for s w t) refl (good_parts m
 
 -- ── The table of a lookup ───────────────────────────────────────────────────────────────────────────────────────
 
-key-leaves : (k : ℕ) (s : Session) (w t : List ℕ) → ((withdraw_key k s w t).answer ≡ Withdrawn.Done → ⊥)
+key-leaves : (k : ℕ) (s : Session) (w t : List ℕ) → ((withdraw_key k s w t).answer ≡ Ok tt → ⊥)
     → (withdraw_key k s w t).working ≡ (lookup_key k s w t).working
 unfolding withdraw_key withdraw_along withdraw_refused withdraw_done lookup_key lookup_left
 key-leaves k s w t h = go (way_of s.n s.c k w).steps refl
@@ -126,7 +122,7 @@ key-leaves k s w t h = go (way_of s.n s.c k w).steps refl
 
 -- refused, it leaves the working table that a lookup leaves
 pub withdraw-leaves : (w t : List ℕ) (s : Session) (model serial issue : ℕ)
-    → ((withdraw w t s model serial issue).answer ≡ Withdrawn.Done → ⊥)
+    → ((withdraw w t s model serial issue).answer ≡ Ok tt → ⊥)
     → (withdraw w t s model serial issue).working ≡ (lookup w t s model serial issue).working
 unfolding withdraw withdraw_refused lookup lookup_left
 withdraw-leaves w t s model serial issue h =

@@ -1,6 +1,6 @@
 -- What a place asks and what it shows, as facts: fits and mendable into facts and back, show into facts; and a mended
 -- page fits its place. Assumes nothing.
-use Rattle.std.proofs.Common.{◌≡◌, ℕ, ◌-◌, ◌<◌, ◌≤◌, Bool, true, false, not, eqb, ◌⊎◌, List, [], ◌∷◌, length, sym, refl, ap, ◌∙◌, subst, inl, inr, arith, eq-eqb, ne_eqb, eqb-true, le-leb, leb-true}
+use Rattle.std.proofs.Common.{◌≡◌, ℕ, ◌-◌, ◌<◌, ◌≤◌, Bool, true, false, not, eqb, ◌⊎◌, List, [], ◌∷◌, length, sym, refl, ap, ◌∙◌, subst, inl, inr, arith, eq-eqb, ne_eqb, eqb-true, le-leb, leb-true, is_none}
 use mathlib.Core.Option.{some, none, some-injective, none-ne-some}
 use borrow.Author.Tests.{eqb-false, not-true}
 use Rattle.rules.specs.Layout.{leaf_room}
@@ -10,7 +10,7 @@ use Rattle.rules.specs.Entry.{Cert, keys}
 use Rattle.rules.specs.Page.{View, Page, is_leaf, fresh, touch}
 use Rattle.rules.specs.Table.{read}
 use Rattle.rules.specs.Sound.{sound}
-use Rattle.rules.specs.Place.{kind_asked, trial, first_failed, unfit, is_none, fits, mendable, cut_view, mended, show}
+use Rattle.rules.specs.Place.{kind_asked, trial, first_failed, unfit, fits, mendable, cut_view, mended, show}
 use Rattle.rules.specs.Insert.{put_cert}
 use Rattle.rules.specs.Withdraw.{without_cert}
 use Rattle.rules.specs.declared.Place.{Place}
@@ -51,7 +51,7 @@ tests n e p =
 
 -- a page fits if every test passes
 fits-every : (n : ℕ) (e : Place) (p : Page) → fits n e p ≡ every (tests n e p)
-unfolding fits unfit first_failed is_none every
+unfolding fits unfit first_failed every
 fits-every n e p =
     go (sound n p) (kind_asked e.want p.view.kind) (eqb p.birth e.birth) (eqb p.low e.low) (eqb p.high e.high)
   where

@@ -47,7 +47,7 @@ returns-in_default c =
     let f = from_nothing s.n s.c k t u c.next.result c.nothing.result c.nothing.ensures c.next.ensures in
     let e = c.in-Leaf.is in
     let x = found_as s k t u g h f e c.find_on.ensures in
-    missing s k t u g h f e (none_found _ c.find_on.result x c.in_default.not-Found)
+    missing s k t u g h f e (none_found _ c.find_on.result x c.in_default.not-Ok)
 
 pub remove_cert-requires : goal.remove_cert-requires
 remove_cert-requires c =
@@ -61,7 +61,7 @@ remove_cert-requires c =
     let e = c.in-Leaf.is in
     let r = reached s k t u g h f e in
     let x = found_as s k t u g h f e c.find_on.ensures in
-    let o = one_found _ c.find_on.result x _ c.in-Found.is in
+    let o = one_found _ c.find_on.result x _ c.in-Ok.is in
     record { page_size_in_bounds = omega (arith, c.next.auto.t, c.requires.0, r.child_below); has_cert = has s k t u g h f e o.0 o.1 }
 
 pub returns-in-Leaf : goal.returns-in-Leaf
@@ -75,5 +75,5 @@ returns-in-Leaf c =
     let f = from_nothing s.n s.c k t u c.next.result c.nothing.result c.nothing.ensures c.next.ensures in
     let e = c.in-Leaf.is in
     let x = found_as s k t u g h f e c.find_on.ensures in
-    let o = one_found _ c.find_on.result x _ c.in-Found.is in
+    let o = one_found _ c.find_on.result x _ c.in-Ok.is in
     λ stable. taken_out s k t u g h f e o.0 o.1 stable c.remove_cert.new.table c.remove_cert.ensures c.uncount-lowered.result c.uncount-lowered.ensures

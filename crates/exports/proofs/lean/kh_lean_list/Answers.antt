@@ -7,4 +7,4 @@ use Rattle.exports.proofs.lean.kh_lean_list.Goals as goal
 pub returns : goal.returns
 returns c =
     let left = c.lean_list-left in
-    λ s same-n same-c. rw (c.listed.ensures, c.listed_count.ensures, c.reason.ensures) (ap C.listed (left.ensures s same-n same-c))
+    λ s same-n same-c. rw (c.number.ensures, c.listed_count.ensures, c.reason.ensures) (ap C.listed (left.ensures s same-n same-c))

@@ -7,4 +7,4 @@ use Rattle.exports.proofs.lean.kh_lean_lookup.Goals as goal
 pub returns : goal.returns
 returns c =
     let left = c.lean_lookup-left in
-    λ s same-n same-c. rw (c.looked.ensures, c.looked_record.ensures, c.reason.ensures) (ap C.looked (left.ensures s same-n same-c))
+    λ s same-n same-c. rw (c.number.ensures, c.looked_record.ensures, c.reason.ensures) (ap C.looked (left.ensures s same-n same-c))

@@ -7,4 +7,4 @@ use Rattle.exports.proofs.lean.kh_lean_newest.Goals as goal
 pub returns : goal.returns
 returns c =
     let left = c.lean_newest-left in
-    λ s same-n same-c. rw (c.newest.ensures, c.newest_issue.ensures, c.newest_record.ensures, c.reason.ensures) (ap C.newest (left.ensures s same-n same-c))
+    λ s same-n same-c. rw (c.number.ensures, c.newest_issue.ensures, c.newest_record.ensures, c.reason.ensures) (ap C.newest (left.ensures s same-n same-c))

@@ -1,6 +1,6 @@
 -- Opening a good table: it answers done, or spent exactly where the number is above the last one; and what it hands out
 -- is a store in which every key's only state is what the table tells of it.
-use Rattle.std.proofs.Common.{◌≡◌, ℕ, ◌+◌, ◌*◌, ◌<◌, ◌≤◌, Bool, true, false, not, ◌&&◌, ltb, List, length, get_or, sym, refl, ◌∙◌, arith, ltb-false, ltb-true, le-leb}
+use Rattle.std.proofs.Common.{◌≡◌, ℕ, ◌+◌, ◌*◌, ◌<◌, ◌≤◌, Bool, true, false, not, ◌&&◌, ltb, List, length, get_or, sym, refl, ◌∙◌, arith, ltb-false, ltb-true, le-leb, Ok, Err}
 use mathlib.Core.Bool.{false≢true}
 use lib.ListN.{get_or-eq_default}
 use borrow.Author.Tests.{lt-leb, not-true}
@@ -11,7 +11,8 @@ use Rattle.rules.specs.Tree.{Tree, tree_of, good_tree}
 use Rattle.rules.specs.Marks.{is_page, opened}
 use Rattle.rules.specs.Call.{Left}
 use Rattle.rules.specs.Open.{opening, open_done, open_refused}
-use Rattle.rules.specs.declared.Opened.{Opened}
+use Rattle.rules.specs.Answer.{Opened}
+use Rattle.rules.specs.declared.OpenError.{OpenError}
 use Rattle.rules.proofs.Entries.Tests.{and_left, and_right, and_of}
 use Rattle.rules.proofs.Bytes.Lengths.{pages-of, tables-good}
 use Rattle.rules.proofs.Bytes.PageZero.{length-set_number, bytes-set_number, number0-set_number, fit0-set_number}
@@ -34,7 +35,7 @@ raise t = set_number t (number0 t + 1)
 -- what an opening of n pages that succeeds leaves
 abbrev pub done : ℕ → List ℕ → Left Opened
 done n t = record {
-  answer = Opened.Done;
+  answer = Ok tt;
   session = opened n (number0 t) (tree_of n t);
   working = raise t;
   stable = raise t;
@@ -54,7 +55,7 @@ module _ (n : ℕ) (w t : List ℕ) (f : fewest_pages ≤ n) (m : n ≤ most_pag
       rw (lengths, opening)
       (rw tests (rw (le-leb (number0 t) last_number l) (rw (pages-of t n h.length_is))))
 
-  pub opening-spent : last_number < number0 t → opening w t ≡ open_refused Opened.Spent w t
+  pub opening-spent : last_number < number0 t → opening w t ≡ open_refused (Err OpenError.Spent) w t
   unfolding opening
   opening-spent l =
       rw (lengths, opening) (rw tests (rw (lt-leb (number0 t) last_number l)))

@@ -1,7 +1,7 @@
 -- After a crash: the next opening answers done, or spent exactly where the number is above the last one; where it is
 -- done, each key is in a state that it has had since the last sync or opening, then if no page was written, now if all
 -- were.
-use Rattle.std.proofs.Common.{◌≡◌, ℕ, ◌+◌, ◌*◌, ◌<◌, ◌≤◌, Bool, true, false, ◌⊎◌, List, length, get_or, sym, ◌∙◌, inl, inr, arith}
+use Rattle.std.proofs.Common.{◌≡◌, ℕ, ◌+◌, ◌*◌, ◌<◌, ◌≤◌, Bool, true, false, ◌⊎◌, List, length, get_or, sym, ◌∙◌, inl, inr, arith, Err}
 use mathlib.Core.Option.{Option}
 use Rattle.rules.specs.Layout.{page_size, last_number}
 use Rattle.rules.specs.Table.{number0}
@@ -9,7 +9,7 @@ use Rattle.rules.specs.Tree.{tree_of}
 use Rattle.rules.specs.Marks.{opened}
 use Rattle.rules.specs.Crash.{mix}
 use Rattle.rules.specs.Open.{opening, open_refused}
-use Rattle.rules.specs.declared.Opened.{Opened}
+use Rattle.rules.specs.declared.OpenError.{OpenError}
 use Rattle.rules.specs.declared.Session.{Session}
 use Rattle.rules.proofs.Bytes.Mixes.{length-mix, bytes-mix}
 use Rattle.rules.proofs.Demand3.Ways.Ways.{Tells}
@@ -60,7 +60,7 @@ module _ {s : Session} {W S : List ℕ} {Been : States} (x : Safe s W S Been) (U
   recovery_done w h l = opening-done s.n w left x.few x.most h left-whole left-good l
 
   pub recovery_spent : (w : List ℕ) → length w ≡ s.n * page_size → last_number < number0 left
-      → opening w left ≡ open_refused Opened.Spent w left
+      → opening w left ≡ open_refused (Err OpenError.Spent) w left
   recovery_spent w h l = opening-spent s.n w left x.few x.most h left-whole left-good l
 
   -- ── The store after it ──────────────────────────────────────────────────────────────────────────────────────────

@@ -1,6 +1,6 @@
 -- Sync: it answers done, or spent exactly where the counter is above the last number; then the working table is stable
 -- too, and each key's only state is the one that it has.
-use Rattle.std.proofs.Common.{◌≡◌, ℕ, ◌+◌, ◌<◌, ◌≤◌, Bool, true, false, not, ◌&&◌, ltb, ◌⊎◌, List, sym, refl, ◌∙◌, inl, inr, arith, ltb-false, ltb-true, le-leb}
+use Rattle.std.proofs.Common.{◌≡◌, ℕ, ◌+◌, ◌<◌, ◌≤◌, Bool, true, false, not, ◌&&◌, ltb, ◌⊎◌, List, sym, refl, ◌∙◌, inl, inr, arith, ltb-false, ltb-true, le-leb, Err}
 use mathlib.Core.Bool.{false≢true}
 use mathlib.Core.Option.{Option}
 use lib.ListN.{get_or-eq_default}
@@ -10,7 +10,7 @@ use Rattle.rules.specs.Table.{number0, set_number}
 use Rattle.rules.specs.Marks.{is_page, turned}
 use Rattle.rules.specs.Call.{lengths_for}
 use Rattle.rules.specs.Sync.{sync, sync_done, sync_refused}
-use Rattle.rules.specs.declared.Synced.{Synced}
+use Rattle.rules.specs.declared.SyncError.{SyncError}
 use Rattle.rules.specs.declared.Session.{Session}
 use Rattle.rules.proofs.Entries.Tests.{and_right, or_cases}
 use Rattle.rules.proofs.Bytes.Lengths.{tables-lengths_for}
@@ -35,7 +35,7 @@ module _ {s : Session} {W S : List ℕ} {Been : States} (x : Safe s W S Been) wh
   unfolding sync
   sync_done_lem l = rw (lengths_for_lem x, sync) (rw (le-leb s.c last_number l))
 
-  pub sync-spent : last_number < s.c → sync W S s ≡ sync_refused Synced.Spent s W S
+  pub sync-spent : last_number < s.c → sync W S s ≡ sync_refused (Err SyncError.Spent) s W S
   unfolding sync
   sync-spent l = rw (lengths_for_lem x, sync) (rw (lt-leb s.c last_number l))
 

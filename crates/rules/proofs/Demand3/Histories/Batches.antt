@@ -1,6 +1,6 @@
 -- A batch is a row of inserts in a history: it leaves what they leave, the refused ones included, so histories need no event
 -- of its own. Assumes nothing.
-use Rattle.std.proofs.Common.{◌≡◌, ℕ, ◌<◌, Bool, true, false, List, [], ◌∷◌, refl, ap, ◌∙◌}
+use Rattle.std.proofs.Common.{◌≡◌, ℕ, ◌<◌, Bool, true, false, List, [], ◌∷◌, refl, ap, ◌∙◌, Err}
 use Rattle.rules.specs.Report.{nothing}
 use Rattle.rules.specs.Call.{Left, lengths_for}
 use Rattle.rules.specs.Insert.{insert_refused, insert}
@@ -8,7 +8,8 @@ use Rattle.rules.specs.Reports.{insert_reported}
 use Rattle.rules.specs.Batch.{Between, between, insert_item, after_item, after_items, batch}
 use Rattle.rules.specs.History.{Event, inserts, State, after_insert, step, run, Proper, AllProper}
 use Rattle.rules.specs.declared.Session.{Session}
-use Rattle.rules.specs.declared.Inserted.{Inserted}
+use Rattle.rules.specs.Answer.{Inserted}
+use Rattle.rules.specs.declared.InsertError.{InsertError}
 use Rattle.rules.specs.declared.Item.{Item}
 use Rattle.rules.proofs.Demand1.Refusals.{insert_stable}
 use Rattle.rules.proofs.Demand1.Batches.{batch_refused, batch-done}
@@ -64,7 +65,7 @@ items-run t b m (x ∷ xs) h = items-run t (after_item t b x) (step (event_of x)
 -- ── Lengths that do not ─────────────────────────────────────────────────────────────────────────────────────────
 
 length-refused : (w t : List ℕ) (s : Session) → lengths_for s w t ≡ false → (model serial issue x : ℕ)
-    → insert w t s model serial issue x ≡ insert_refused Inserted.Length s w t
+    → insert w t s model serial issue x ≡ insert_refused (Err InsertError.Length) s w t
 unfolding insert
 length-refused w t s off model serial issue x = rw (insert, off)
 
@@ -72,7 +73,7 @@ refused-step : (w t : List ℕ) (s : Session) → lengths_for s w t ≡ false �
     → Leaves w t s (step (event_of x) m)
 unfolding event_of step after_insert insert_refused
 refused-step w t s off m x h =
-    let same : insert m.working m.stable m.session x.model x.serial x.issue x.value ≡ insert_refused Inserted.Length s w t
+    let same : insert m.working m.stable m.session x.model x.serial x.issue x.value ≡ insert_refused (Err InsertError.Length) s w t
     = (λ i. insert (h.working i) (h.stable i) (h.session i) x.model x.serial x.issue x.value) ∙ length-refused w t s off x.model x.serial x.issue x.value in
     record {
       working = ap (λ (r : Left Inserted). r.working) same;

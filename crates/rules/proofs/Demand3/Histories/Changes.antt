@@ -1,16 +1,17 @@
 -- An insert and a withdrawal on a store that is alive leave it alive, whatever they answer.
-use Rattle.std.proofs.Common.{◌≡◌, ℕ, ◌+◌, ◌≤◌, Bool, true, false, List, sym, refl, ap, ◌∙◌, subst, arith}
+use Rattle.std.proofs.Common.{◌≡◌, ℕ, ◌+◌, ◌≤◌, Bool, true, false, List, sym, refl, ap, ◌∙◌, subst, arith, Ok, Err}
 use mathlib.Core.Option.{some, none}
 use Rattle.rules.specs.Layout.{last_key}
 use Rattle.rules.specs.Key.{key_of, good_parts}
 use Rattle.rules.specs.Marks.{wraps, uncounted}
-use Rattle.rules.specs.Call.{Left, inserted_no, withdrawn_no}
+use Rattle.rules.specs.Call.{Left, inserted_no, withdrawn_no, find_error_no, insert_error_no}
 use Rattle.rules.specs.Insert.{insert_refused, insert}
 use Rattle.rules.specs.Withdraw.{withdraw_refused, withdraw}
 use Rattle.rules.specs.History.{inserts, withdraws, State, gains, after_insert, after_withdraw, after_reading, Proper}
 use Rattle.rules.specs.Demand.{first}
-use Rattle.rules.specs.declared.Inserted.{Inserted}
-use Rattle.rules.specs.declared.Withdrawn.{Withdrawn}
+use Rattle.rules.specs.Answer.{Inserted, Withdrawn}
+use Rattle.rules.specs.declared.InsertError.{InsertError}
+use Rattle.rules.specs.declared.FindError.{FindError}
 use Rattle.rules.specs.declared.Session.{Session}
 use Rattle.rules.proofs.Bytes.Keys.{key_of-bound}
 use Rattle.rules.proofs.Demand3.Ways.Invariant.{Good}
@@ -29,14 +30,9 @@ use Rattle.rules.proofs.Demand3.Histories.Gained.{Had, alive-stays, Gained, gain
 -- a refusal leaves a key's states as they were
 insert-past : (k x : ℕ) (m : State) (answer : Inserted) → 1 ≤ inserted_no answer → (s : Session) (w t : List ℕ)
     → after_insert k x m (record { answer = answer; session = s; working = w; stable = t }) ≡ after_reading m s w t
-unfolding after_insert after_reading inserted_no
-insert-past k x m Inserted.Done h s w t = absurd (omega (arith, h))
-insert-past k x m Inserted.Length h s w t = refl
-insert-past k x m Inserted.BadKey h s w t = refl
-insert-past k x m Inserted.Damaged h s w t = refl
-insert-past k x m Inserted.Present h s w t = refl
-insert-past k x m Inserted.SyncFirst h s w t = refl
-insert-past k x m Inserted.Full h s w t = refl
+unfolding after_insert after_reading insert_error_no
+insert-past k x m (Ok tt) h s w t = absurd (omega (arith, h))
+insert-past k x m (Err e) h s w t = refl
 
 module _ {n : ℕ} {m : State} (a : Alive n m) (k x : ℕ) (r : Left Inserted) where
   insert_as : (answer : Inserted) → r.answer ≡ answer
@@ -56,7 +52,7 @@ module _ {n : ℕ} {m : State} (a : Alive n m) (k x : ℕ) (r : Left Inserted) w
     inserted-is : after_insert k x m r ≡ gaining m k (some x) r.session r.working
     unfolding after_insert
     inserted-is =
-        insert_as Inserted.Done i.answer
+        insert_as (Ok tt) i.answer
         ∙ ap
         (λ (t : List ℕ).
         record { session = r.session; working = r.working; stable = t; opened = m.opened; past = gains k (some x) m.past })
@@ -87,7 +83,7 @@ module _ {n : ℕ} {m : State} (a : Alive n m) (k x : ℕ) (r : Left Inserted) w
 
 pub alive-insert : {n : ℕ} {m : State} → Alive n m → (model serial issue x : ℕ) → Proper n (inserts model serial issue x)
     → Alive n (after_insert (key_of model serial issue) x m (insert m.working m.stable m.session model serial issue x))
-unfolding Proper inserted_no insert_refused
+unfolding Proper insert_error_no insert_refused
 alive-insert {n} {m} a model serial issue x t = go (good_parts model serial issue) refl
   where
     k : ℕ
@@ -97,9 +93,9 @@ alive-insert {n} {m} a model serial issue x t = go (good_parts model serial issu
     r = insert m.working m.stable m.session model serial issue x
 
     came : Inserts m.session m.working m.stable (Had m) k x r → Alive n (after_insert k x m r)
-    came (present y told h z) = insert_stays a k x r Inserted.Present (omega arith) h z
-    came (sync_first told h z) = insert_stays a k x r Inserted.SyncFirst (omega arith) h z
-    came (no_room_lem told h z) = insert_stays a k x r Inserted.Full (omega arith) h z
+    came (present y told h z) = insert_stays a k x r (Err InsertError.Present) (omega arith) h z
+    came (sync_first told h z) = insert_stays a k x r (Err InsertError.SyncFirst) (omega arith) h z
+    came (no_room_lem told h z) = insert_stays a k x r (Err InsertError.Full) (omega arith) h z
     came (added i) = alive-inserted a k x r (omega (arith, key_of-bound model serial issue t.1 t.2 t.0)) i
 
     go : (b : Bool) → good_parts model serial issue ≡ b → Alive n (after_insert k x m r)
@@ -107,19 +103,16 @@ alive-insert {n} {m} a model serial issue x t = go (good_parts model serial issu
     go false g =
         subst (λ (z : Left Inserted). Alive n (after_insert k x m z))
         (sym (insert_bad_key a.safe model serial issue x t.0 t.1 t.2 t.3 g))
-        (insert_stays a k x (insert_refused Inserted.BadKey m.session m.working m.stable) Inserted.BadKey (omega arith) refl
+        (insert_stays a k x (insert_refused (Err InsertError.BadKey) m.session m.working m.stable) (Err InsertError.BadKey) (omega arith) refl
         (record { session = refl; stable = refl; safe = a.safe; steady = steady-same }))
 
 -- ── Withdraw ────────────────────────────────────────────────────────────────────────────────────────────────────
 
 withdraw-past : (k : ℕ) (m : State) (answer : Withdrawn) → 1 ≤ withdrawn_no answer → (s : Session) (w t : List ℕ)
     → after_withdraw k m (record { answer = answer; session = s; working = w; stable = t }) ≡ after_reading m s w t
-unfolding after_withdraw after_reading withdrawn_no
-withdraw-past k m Withdrawn.Done h s w t = absurd (omega (arith, h))
-withdraw-past k m Withdrawn.Length h s w t = refl
-withdraw-past k m Withdrawn.BadKey h s w t = refl
-withdraw-past k m Withdrawn.Damaged h s w t = refl
-withdraw-past k m Withdrawn.Missing h s w t = refl
+unfolding after_withdraw after_reading find_error_no
+withdraw-past k m (Ok tt) h s w t = absurd (omega (arith, h))
+withdraw-past k m (Err e) h s w t = refl
 
 module _ {n : ℕ} {m : State} (a : Alive n m) (k : ℕ) (r : Left Withdrawn) where
   withdraw_as : (answer : Withdrawn) → r.answer ≡ answer
@@ -139,7 +132,7 @@ module _ {n : ℕ} {m : State} (a : Alive n m) (k : ℕ) (r : Left Withdrawn) wh
     withdrawn-is : after_withdraw k m r ≡ gaining m k none (uncounted m.session) r.working
     unfolding after_withdraw
     withdrawn-is =
-        withdraw_as Withdrawn.Done i.answer
+        withdraw_as (Ok tt) i.answer
         ∙ ap
         (λ (s : Session).
         record { session = s; working = r.working; stable = r.stable; opened = m.opened; past = gains k none m.past })
@@ -170,7 +163,7 @@ module _ {n : ℕ} {m : State} (a : Alive n m) (k : ℕ) (r : Left Withdrawn) wh
 
 pub alive-withdraw : {n : ℕ} {m : State} → Alive n m → (model serial issue : ℕ) → Proper n (withdraws model serial issue)
     → Alive n (after_withdraw (key_of model serial issue) m (withdraw m.working m.stable m.session model serial issue))
-unfolding Proper withdrawn_no withdraw_refused
+unfolding Proper find_error_no withdraw_refused
 alive-withdraw {n} {m} a model serial issue t = go (good_parts model serial issue) refl
   where
     k : ℕ
@@ -180,7 +173,7 @@ alive-withdraw {n} {m} a model serial issue t = go (good_parts model serial issu
     r = withdraw m.working m.stable m.session model serial issue
 
     came : Withdraws m.session m.working m.stable (Had m) k r → Alive n (after_withdraw k m r)
-    came (missing told h z) = withdraw_stays a k r Withdrawn.Missing (omega arith) h z
+    came (missing told h z) = withdraw_stays a k r (Err FindError.Missing) (omega arith) h z
     came (taken x i) = alive-withdrawn a k r x i
 
     go : (b : Bool) → good_parts model serial issue ≡ b → Alive n (after_withdraw k m r)
@@ -188,5 +181,5 @@ alive-withdraw {n} {m} a model serial issue t = go (good_parts model serial issu
     go false g =
         subst (λ (z : Left Withdrawn). Alive n (after_withdraw k m z))
         (sym (withdraw_bad_key a.safe model serial issue t.0 t.1 t.2 g))
-        (withdraw_stays a k (withdraw_refused Withdrawn.BadKey m.session m.working m.stable) Withdrawn.BadKey (omega arith) refl
+        (withdraw_stays a k (withdraw_refused (Err FindError.BadKey) m.session m.working m.stable) (Err FindError.BadKey) (omega arith) refl
         (record { session = refl; stable = refl; safe = a.safe; steady = steady-same }))

@@ -1,12 +1,12 @@
 -- A store whose last opening found the number spent: every call that is given its session is refused and changes nothing, and
 -- every further opening finds the number spent.
-use Rattle.std.proofs.Common.{◌≡◌, ℕ, ◌*◌, Bool, false, ◌&&◌, eqb, List, length, sym, ap, ◌∙◌, subst, arith, eq-eqb, eqb-true}
+use Rattle.std.proofs.Common.{◌≡◌, ℕ, ◌*◌, Bool, false, ◌&&◌, eqb, List, length, sym, ap, ◌∙◌, subst, arith, eq-eqb, eqb-true, Ok, Err}
 use borrow.Author.Tests.{lt-leb}
 use Rattle.rules.specs.Layout.{page_size, last_number}
 use Rattle.rules.specs.Table.{pages, good_lengths, number0}
 use Rattle.rules.specs.Key.{key_of}
 use Rattle.rules.specs.Marks.{nobody}
-use Rattle.rules.specs.Call.{Left, lengths_for, opened_no}
+use Rattle.rules.specs.Call.{Left, lengths_for, opened_no, open_error_no}
 use Rattle.rules.specs.Open.{opening, open_refused}
 use Rattle.rules.specs.Insert.{insert, insert_refused}
 use Rattle.rules.specs.Withdraw.{withdraw, withdraw_refused}
@@ -18,14 +18,13 @@ use Rattle.rules.specs.Sync.{sync, sync_refused}
 use Rattle.rules.specs.Crash.{crashed, inside_sync}
 use Rattle.rules.specs.History.{Event, inserts, withdraws, looks, asks_newest, asks_any, lists, syncs, opens, crashes, crashes_in_sync, State, after_insert, after_withdraw, after_sync, after_open, after_reading, step, Proper}
 use Rattle.rules.specs.Demand.{CrashOf, between_calls, in_sync, open_answer, Survives}
-use Rattle.rules.specs.declared.Opened.{Opened}
-use Rattle.rules.specs.declared.Inserted.{Inserted}
-use Rattle.rules.specs.declared.Withdrawn.{Withdrawn}
-use Rattle.rules.specs.declared.Looked.{Looked}
-use Rattle.rules.specs.declared.Newest.{Newest}
-use Rattle.rules.specs.declared.Any.{Any}
-use Rattle.rules.specs.declared.Listed.{Listed}
-use Rattle.rules.specs.declared.Synced.{Synced}
+use Rattle.rules.specs.Answer.{Opened, Inserted, Withdrawn, Looked, Newest, Any, Synced}
+use Rattle.rules.specs.declared.OpenError.{OpenError}
+use Rattle.rules.specs.declared.InsertError.{InsertError}
+use Rattle.rules.specs.declared.FindError.{FindError}
+use Rattle.rules.specs.declared.AnyError.{AnyError}
+use Rattle.rules.specs.declared.ListError.{ListError}
+use Rattle.rules.specs.declared.SyncError.{SyncError}
 use Rattle.rules.specs.declared.Session.{Session}
 use Rattle.rules.proofs.Entries.Tests.{and_right, fails}
 use Rattle.rules.proofs.Bytes.Lengths.{pages-of}
@@ -37,8 +36,8 @@ module _ {n : ℕ} {m : State} (o : Over n m) where
   unfolding nobody
   no_pages = ap (λ (s : Session). s.n) o.nobody
 
-  pub over_closed : m.opened ≡ Opened.Done → ⊥
-  unfolding opened_no
+  pub over_closed : m.opened ≡ Ok tt → ⊥
+  unfolding open_error_no
   over_closed d = omega (arith, ap opened_no (sym o.opened ∙ d))
 
   -- ── Calls ─────────────────────────────────────────────────────────────────────────────────────────────────────
@@ -58,44 +57,44 @@ module _ {n : ℕ} {m : State} (o : Over n m) where
 
   inserting : (model serial issue x : ℕ)
       → insert m.working m.stable m.session model serial issue x
-      ≡ insert_refused Inserted.Length m.session m.working m.stable
+      ≡ insert_refused (Err InsertError.Length) m.session m.working m.stable
   unfolding insert
   inserting model serial issue x = rw (refused, insert)
 
   withdrawing : (model serial issue : ℕ)
       → withdraw m.working m.stable m.session model serial issue
-      ≡ withdraw_refused Withdrawn.Length m.session m.working m.stable
+      ≡ withdraw_refused (Err FindError.Length) m.session m.working m.stable
   unfolding withdraw
   withdrawing model serial issue = rw (refused, withdraw)
 
   looking : (model serial issue : ℕ)
-      → lookup m.working m.stable m.session model serial issue ≡ lookup_left m.session m.working m.stable Looked.Length
+      → lookup m.working m.stable m.session model serial issue ≡ lookup_left m.session m.working m.stable (Err FindError.Length)
   unfolding lookup
   looking model serial issue = rw (refused, lookup)
 
   asking : (model serial : ℕ)
-      → newest m.working m.stable m.session model serial ≡ newest_left m.session m.working m.stable Newest.Length
+      → newest m.working m.stable m.session model serial ≡ newest_left m.session m.working m.stable (Err FindError.Length)
   unfolding newest
   asking model serial = rw (refused, newest)
 
   asking_any : (model serial : ℕ)
-      → has_any m.working m.stable m.session model serial ≡ any_left m.session m.working m.stable Any.Length
+      → has_any m.working m.stable m.session model serial ≡ any_left m.session m.working m.stable (Err AnyError.Length)
   unfolding has_any
   asking_any model serial = rw (refused, has_any)
 
   listing : (start : ℕ) (ks xs : List ℕ)
-      → list m.working m.stable m.session start ks xs ≡ list_refused Listed.Length m.session m.working m.stable ks xs
+      → list m.working m.stable m.session start ks xs ≡ list_refused (Err ListError.Length) m.session m.working m.stable ks xs
   unfolding list
   listing start ks xs = rw (refused, list)
 
-  syncing : sync m.working m.stable m.session ≡ sync_refused Synced.Length m.session m.working m.stable
+  syncing : sync m.working m.stable m.session ≡ sync_refused (Err SyncError.Length) m.session m.working m.stable
   unfolding sync
   syncing = rw (refused, sync)
 
   -- ── Openings ──────────────────────────────────────────────────────────────────────────────────────────────────
 
   module _ (w : List ℕ) (h : length w ≡ n * page_size) where
-    opening-again : opening w m.stable ≡ open_refused Opened.Spent w m.stable
+    opening-again : opening w m.stable ≡ open_refused (Err OpenError.Spent) w m.stable
     opening-again = opening-spent n w m.stable o.few o.most h o.stable o.good o.spent
 
     over-opens : Over n (after_open m.past (opening w m.stable))
@@ -112,11 +111,11 @@ module _ {n : ℕ} {m : State} (o : Over n m) where
   crash-stays (in_sync written) = crashed-stays written (inside_sync m.session m.working)
 
   module _ (w : List ℕ) (h : length w ≡ n * page_size) where
-    never_done : (opening w m.stable).answer ≡ Opened.Done → ⊥
-    unfolding open_refused opened_no
+    never_done : (opening w m.stable).answer ≡ Ok tt → ⊥
+    unfolding open_refused open_error_no
     never_done d = omega (arith, ap opened_no (sym (ap (λ (r : Left Opened). r.answer) (opening-again w h)) ∙ d))
 
-    not_done : {t : List ℕ} → t ≡ m.stable → (opening w t).answer ≡ Opened.Done → ⊥
+    not_done : {t : List ℕ} → t ≡ m.stable → (opening w t).answer ≡ Ok tt → ⊥
     not_done q d = never_done (sym (ap (λ (u : List ℕ). (opening w u).answer) q) ∙ d)
 
     answers : (opening w m.stable).answer ≡ open_answer m.stable

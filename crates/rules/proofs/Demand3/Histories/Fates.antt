@@ -1,6 +1,6 @@
 -- A store of a history, between two calls. It is alive: safe, and each key's states are those that the tables tell. Or its last
 -- opening was refused because the number is spent, and then every later one is.
-use Rattle.std.proofs.Common.{◌≡◌, ℕ, ◌+◌, ◌*◌, ◌<◌, ◌≤◌, List, [], ◌∷◌, length, sym, refl, ◌∙◌, subst, mod-eq_of_lt, arith}
+use Rattle.std.proofs.Common.{◌≡◌, ℕ, ◌+◌, ◌*◌, ◌<◌, ◌≤◌, List, [], ◌∷◌, length, sym, refl, ◌∙◌, subst, mod-eq_of_lt, arith, Ok, Err}
 use mathlib.Core.Option.{Option}
 use Rattle.rules.specs.Layout.{page_size, fewest_pages, most_pages, last_key, last_number}
 use Rattle.rules.specs.Table.{number0}
@@ -9,7 +9,8 @@ use Rattle.rules.specs.Marks.{wraps, opened, nobody}
 use Rattle.rules.specs.Open.{open_refused}
 use Rattle.rules.specs.History.{State, latest, earliest, content, after_open, after_reading}
 use Rattle.rules.specs.Demand.{OneOf}
-use Rattle.rules.specs.declared.Opened.{Opened}
+use Rattle.rules.specs.Answer.{Opened}
+use Rattle.rules.specs.declared.OpenError.{OpenError}
 use Rattle.rules.specs.declared.Session.{Session}
 use Rattle.rules.proofs.Demand3.Ways.Ways.{Tells}
 use Rattle.rules.proofs.Demand3.Ways.Invariant.{Good, States}
@@ -25,7 +26,7 @@ use Rattle.rules.proofs.Demand3.Histories.Pasts.{one_of_only, Settled, one}
 
 pub record Alive (n : ℕ) (m : State) : Type 0 where
   pub pages : m.session.n ≡ n
-  pub opened : m.opened ≡ Opened.Done
+  pub opened : m.opened ≡ Ok tt
   pub safe : Safe m.session m.working m.stable (λ k o. OneOf o (m.past k))
   pub then : (k : ℕ) → k ≤ last_key → Tells m.session.n m.stable k (earliest (m.past k))
   pub now : (k : ℕ) → k ≤ last_key → Tells m.session.n m.working k (latest (m.past k))
@@ -34,7 +35,7 @@ pub record Alive (n : ℕ) (m : State) : Type 0 where
 
 pub record Over (n : ℕ) (m : State) : Type 0 where
   pub nobody : m.session ≡ nobody
-  pub opened : m.opened ≡ Opened.Spent
+  pub opened : m.opened ≡ Err OpenError.Spent
   pub few : fewest_pages ≤ n
   pub most : n ≤ most_pages
   pub working : length m.working ≡ n * page_size
@@ -77,7 +78,7 @@ wraps-back h = omega arith
 -- ── A new epoch ─────────────────────────────────────────────────────────────────────────────────────────────────
 
 -- each key has had one state, which the table tells
-pub alive_anew : (s : Session) (t : List ℕ) (last : Opened) (state : ℕ → Option ℕ) → last ≡ Opened.Done → Safe s t t (Tells s.n t)
+pub alive_anew : (s : Session) (t : List ℕ) (last : Opened) (state : ℕ → Option ℕ) → last ≡ Ok tt → Safe s t t (Tells s.n t)
     → ((k : ℕ) (o : Option ℕ) → Tells s.n t k o → o ≡ state k) → s.total ≡ certs_in s.n t
     → Alive s.n (record { session = s; working = t; stable = t; opened = last; past = λ k. state k ∷ [] })
 unfolding latest earliest
@@ -98,14 +99,14 @@ pub alive-done : (n : ℕ) (past : ℕ → List (Option ℕ)) (t : List ℕ) →
     → Safe (opened n (number0 t) (tree_of n t)) (raise t) (raise t) (Tells n (raise t)) → Alive n (after_open past (done n t))
 unfolding after_open opened
 alive-done n past t g x =
-    alive_anew (opened n (number0 t) (tree_of n t)) (raise t) Opened.Done
+    alive_anew (opened n (number0 t) (tree_of n t)) (raise t) (Ok tt)
     (content (opened n (number0 t) (tree_of n t)) (raise t) (raise t)) refl x
     (λ k o y. sym (content-told x (tells-bound y) y))
     (wraps-few (few-certs n t)
     ∙ sym (same-certs g (working-good x.inv) (λ k o y. alike-tells (raise t) g (alike-set_number n t (number0 t + 1)) y)))
 
 pub over-refused : (n : ℕ) (past : ℕ → List (Option ℕ)) (w t : List ℕ) → fewest_pages ≤ n → n ≤ most_pages → length w ≡ n * page_size → Whole n t → Good n t
-    → last_number < number0 t → Over n (after_open past (open_refused Opened.Spent w t))
+    → last_number < number0 t → Over n (after_open past (open_refused (Err OpenError.Spent) w t))
 unfolding after_open open_refused
 over-refused n past w t f l h x g s = record {
   nobody = refl;

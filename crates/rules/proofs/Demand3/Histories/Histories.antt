@@ -1,6 +1,6 @@
 -- Histories: a store fresh from format and opening is alive, and every event leaves it alive or with its number spent. So what
 -- demand 3 says holds at every point of every history.
-use Rattle.std.proofs.Common.{◌≡◌, ℕ, ◌*◌, ◌≤◌, Bool, true, false, leb, List, [], ◌∷◌, length, sym, refl, ap, ◌∙◌, subst, arith, leb-false, leb-true}
+use Rattle.std.proofs.Common.{◌≡◌, ℕ, ◌*◌, ◌≤◌, Bool, true, false, leb, List, [], ◌∷◌, length, sym, refl, ap, ◌∙◌, subst, arith, leb-false, leb-true, Ok}
 use Rattle.rules.specs.Layout.{page_size, fewest_pages, last_number}
 use Rattle.rules.specs.Table.{good_lengths}
 use Rattle.rules.specs.Marks.{turned}
@@ -10,8 +10,7 @@ use Rattle.rules.specs.Open.{opening}
 use Rattle.rules.specs.Sync.{sync, sync_done, sync_refused}
 use Rattle.rules.specs.History.{Event, inserts, withdraws, looks, asks_newest, asks_any, lists, syncs, opens, crashes, crashes_in_sync, State, latest, after_sync, after_open, crash_now, crash_in_sync_now, step, start, run, Proper, AllProper}
 use Rattle.rules.specs.Demand.{between_calls, in_sync, look, ask, ask_any, listing, Survives, Serves, Lent, Demand3, SessionTells, OpenedTold}
-use Rattle.rules.specs.declared.Opened.{Opened}
-use Rattle.rules.specs.declared.Synced.{Synced}
+use Rattle.rules.specs.Answer.{Opened, Synced}
 use Rattle.rules.proofs.Bytes.Lengths.{pages-of, tables-good}
 use Rattle.rules.proofs.Demand3.Ways.Nodes.{tells-one}
 use Rattle.rules.proofs.Demand3.Epochs.Epochs.{working-good}
@@ -90,7 +89,7 @@ fate_survives : {n : ℕ} {m : State} → Fate n m → (u : List ℕ) → length
 fate_survives (alive a) u h = alive_survives a u h
 fate_survives (over o) u h = over_survives o u h
 
-fate_serves : {n : ℕ} {m : State} → Fate n m → m.opened ≡ Opened.Done → Serves m
+fate_serves : {n : ℕ} {m : State} → Fate n m → m.opened ≡ Ok tt → Serves m
 fate_serves (alive a) d = alive_serves a
 fate_serves (over o) d = absurd (over_closed o d)
 

@@ -1,6 +1,6 @@
 -- In a history without withdrawals a key that was there at the last sync or opening has never been absent since; so it is found
 -- after every crash.
-use Rattle.std.proofs.Common.{◌≡◌, ℕ, Bool, true, false, not, eqb, ◌⊎◌, List, [], ◌∷◌, sym, refl, ap, ◌∙◌, subst, inl, inr, eqb-true}
+use Rattle.std.proofs.Common.{◌≡◌, ℕ, Bool, true, false, not, eqb, ◌⊎◌, List, [], ◌∷◌, sym, refl, ap, ◌∙◌, subst, inl, inr, eqb-true, Ok, Err}
 use mathlib.Core.Bool.{false≢true}
 use mathlib.Core.Option.{Option, some, none, none-ne-some}
 use borrow.Author.Tests.{eqb-false}
@@ -8,9 +8,7 @@ use Rattle.rules.specs.Test.{all}
 use Rattle.rules.specs.Call.{Left}
 use Rattle.rules.specs.History.{Event, inserts, withdraws, looks, asks_newest, asks_any, lists, syncs, opens, crashes, crashes_in_sync, State, latest, earliest, gains, content, after_insert, after_sync, after_open, after_reading, step, start, run}
 use Rattle.rules.specs.Demand.{OneOf, Demand3, is_withdrawal, AllKept}
-use Rattle.rules.specs.declared.Opened.{Opened}
-use Rattle.rules.specs.declared.Inserted.{Inserted}
-use Rattle.rules.specs.declared.Synced.{Synced}
+use Rattle.rules.specs.Answer.{Opened, Inserted, Synced}
 use Rattle.rules.specs.declared.Session.{Session}
 use Rattle.rules.proofs.Entries.Tests.{all_head, all_tail}
 use Rattle.rules.proofs.Demand3.Histories.Pasts.{only_one_of, one_of_cases, settled-earliest, absent, gains-here, gains-other}
@@ -47,28 +45,20 @@ lasting_gains i y past l k x e a = go (eqb k i) refl
 lasting_insert : (i y : ℕ) (m : State) (answer : Inserted) (s : Session) (w t : List ℕ) → Lasting m.past
     → Lasting (after_insert i y m (record { answer = answer; session = s; working = w; stable = t })).past
 unfolding after_insert
-lasting_insert i y m Inserted.Done s w t l = lasting_gains i y m.past l
-lasting_insert i y m Inserted.Length s w t l = l
-lasting_insert i y m Inserted.BadKey s w t l = l
-lasting_insert i y m Inserted.Damaged s w t l = l
-lasting_insert i y m Inserted.Present s w t l = l
-lasting_insert i y m Inserted.SyncFirst s w t l = l
-lasting_insert i y m Inserted.Full s w t l = l
+lasting_insert i y m (Ok tt) s w t l = lasting_gains i y m.past l
+lasting_insert i y m (Err e) s w t l = l
 
 lasting_sync : (m : State) (answer : Synced) (s : Session) (w t : List ℕ) → Lasting m.past
     → Lasting (after_sync m (record { answer = answer; session = s; working = w; stable = t })).past
 unfolding after_sync
-lasting_sync m Synced.Done s w t l = lasting_one (λ k. latest (m.past k))
-lasting_sync m Synced.Length s w t l = l
-lasting_sync m Synced.Spent s w t l = l
+lasting_sync m (Ok tt) s w t l = lasting_one (λ k. latest (m.past k))
+lasting_sync m (Err e) s w t l = l
 
 lasting_open : (past : ℕ → List (Option ℕ)) (answer : Opened) (s : Session) (w t : List ℕ) → Lasting past
     → Lasting (after_open past (record { answer = answer; session = s; working = w; stable = t })).past
 unfolding after_open
-lasting_open past Opened.Done s w t l = lasting_one (content s w t)
-lasting_open past Opened.Length s w t l = l
-lasting_open past Opened.Damaged s w t l = l
-lasting_open past Opened.Spent s w t l = l
+lasting_open past (Ok tt) s w t l = lasting_one (content s w t)
+lasting_open past (Err e) s w t l = l
 
 lasting_opened : (past : ℕ → List (Option ℕ)) (r : Left Opened) → Lasting past → Lasting (after_open past r).past
 lasting_opened past r l = lasting_open past r.answer r.session r.working r.stable l

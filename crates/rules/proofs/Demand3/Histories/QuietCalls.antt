@@ -1,6 +1,6 @@
 -- Calls that change no certificate: each leaves session and stable table as they came, adds no state to any key, mends the
 -- pages of its walk in turn, never page 0, and does nothing else to the working table. So do any number of them.
-use Rattle.std.proofs.Common.{◌≡◌, ℕ, List, [], ◌∷◌, refl, ap, ◌∙◌, subst}
+use Rattle.std.proofs.Common.{◌≡◌, ℕ, List, [], ◌∷◌, refl, ap, ◌∙◌, subst, Ok, Err}
 use Rattle.rules.specs.Table.{page_at}
 use Rattle.rules.specs.Key.{key_of}
 use Rattle.rules.specs.Call.{Left}
@@ -9,8 +9,7 @@ use Rattle.rules.specs.Demand.{Reads, look, ask, ask_any, listing, lookup_now, i
 use Rattle.rules.specs.Mends.{mended_now, mended_between, InTurn, no_mend}
 use Rattle.rules.specs.Quiet.{QuietCall, reads, refused_insert, refused_withdrawal, QuietCalls, no_call, call}
 use Rattle.rules.specs.declared.Session.{Session}
-use Rattle.rules.specs.declared.Inserted.{Inserted}
-use Rattle.rules.specs.declared.Withdrawn.{Withdrawn}
+use Rattle.rules.specs.Answer.{Inserted, Withdrawn}
 use Rattle.rules.proofs.Demand1.InTurns.{turns_then}
 use Rattle.rules.proofs.Demand1.Refusals.{insert_refused_lem}
 use Rattle.rules.proofs.Demand1.Withdrawals.{withdraw_refused_lem}
@@ -30,29 +29,21 @@ record Still (n : ℕ) (m : State) (e : Event) : Type 0 where
 
 -- ── A refusal adds no state ─────────────────────────────────────────────────────────────────────────────────────
 
-insert-past : (k x : ℕ) (m : State) (r : Left Inserted) → (r.answer ≡ Inserted.Done → ⊥) → (after_insert k x m r).past ≡ m.past
+insert-past : (k x : ℕ) (m : State) (r : Left Inserted) → (r.answer ≡ Ok tt → ⊥) → (after_insert k x m r).past ≡ m.past
 unfolding after_insert
 insert-past k x m r refused = go r.answer refl
   where
     go : (a : Inserted) → r.answer ≡ a → (after_insert k x m r).past ≡ m.past
-    go Inserted.Done h = absurd (refused h)
-    go Inserted.Length h = rw (h, after_insert)
-    go Inserted.BadKey h = rw (h, after_insert)
-    go Inserted.Damaged h = rw (h, after_insert)
-    go Inserted.Present h = rw (h, after_insert)
-    go Inserted.SyncFirst h = rw (h, after_insert)
-    go Inserted.Full h = rw (h, after_insert)
+    go (Ok tt) h = absurd (refused h)
+    go (Err e) h = rw (h, after_insert)
 
-withdraw-past : (k : ℕ) (m : State) (r : Left Withdrawn) → (r.answer ≡ Withdrawn.Done → ⊥) → (after_withdraw k m r).past ≡ m.past
+withdraw-past : (k : ℕ) (m : State) (r : Left Withdrawn) → (r.answer ≡ Ok tt → ⊥) → (after_withdraw k m r).past ≡ m.past
 unfolding after_withdraw
 withdraw-past k m r refused = go r.answer refl
   where
     go : (a : Withdrawn) → r.answer ≡ a → (after_withdraw k m r).past ≡ m.past
-    go Withdrawn.Done h = absurd (refused h)
-    go Withdrawn.Length h = rw (h, after_withdraw)
-    go Withdrawn.BadKey h = rw (h, after_withdraw)
-    go Withdrawn.Damaged h = rw (h, after_withdraw)
-    go Withdrawn.Missing h = rw (h, after_withdraw)
+    go (Ok tt) h = absurd (refused h)
+    go (Err e) h = rw (h, after_withdraw)
 
 -- ── One call ────────────────────────────────────────────────────────────────────────────────────────────────────
 

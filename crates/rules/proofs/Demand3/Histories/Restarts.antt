@@ -1,10 +1,10 @@
 -- Quiet restarts: a crash after calls that change no certificate, and the opening after it.
-use Rattle.std.proofs.Common.{◌≡◌, ℕ, ◌+◌, ◌*◌, ◌<◌, ◌≤◌, Bool, true, false, ◌&&◌, eqb, leb, ◌⊎◌, List, [], ◌∷◌, length, sym, refl, ap, ◌∙◌, subst, inl, inr, arith, leb-false}
+use Rattle.std.proofs.Common.{◌≡◌, ℕ, ◌+◌, ◌*◌, ◌<◌, ◌≤◌, Bool, true, false, ◌&&◌, eqb, leb, ◌⊎◌, List, [], ◌∷◌, length, sym, refl, ap, ◌∙◌, subst, inl, inr, arith, leb-false, Ok, Err}
 use mathlib.Core.Option.{Option}
 use Rattle.rules.specs.Layout.{page_size, last_key, last_number}
 use Rattle.rules.specs.Table.{pages, page_at, good_lengths, fit0, number0, set_number, beside_number}
 use Rattle.rules.specs.Tree.{tree_of, good_tree}
-use Rattle.rules.specs.Call.{opened_no}
+use Rattle.rules.specs.Call.{opened_no, open_error_no}
 use Rattle.rules.specs.Format.{format}
 use Rattle.rules.specs.Open.{opening, open_refused, open_done}
 use Rattle.rules.specs.Crash.{mix, crashed, inside_sync}
@@ -12,7 +12,8 @@ use Rattle.rules.specs.History.{Event, opens, crashes, crashes_in_sync, State, a
 use Rattle.rules.specs.Demand.{CrashOf, between_calls, in_sync, open_answer, after, Lent}
 use Rattle.rules.specs.Quiet.{QuietCalls, Opens, plainly, after_crash, after_crash_in_sync, JustOpened, formatted, later, content_now, SameEntries, Restarted, QuietRestarts}
 use Rattle.rules.specs.declared.Session.{Session}
-use Rattle.rules.specs.declared.Opened.{Opened}
+use Rattle.rules.specs.Answer.{Opened}
+use Rattle.rules.specs.declared.OpenError.{OpenError}
 use Rattle.rules.proofs.Bytes.PageZero.{length-set_number, page_at-set_number, beside_same, beside-set_number}
 use Rattle.rules.proofs.Demand1.Unmended.{unmended}
 use Rattle.rules.proofs.Demand1.Refusals.{opening-refused}
@@ -157,16 +158,16 @@ from {n = n} {m = m} a syncs x8 t = elim x8 [ ]
 
 -- it is done; or it is refused, which leaves the number that is spent
 Answers : Opened → List ℕ → Type 0
-Answers answer t = (answer ≡ Opened.Done) ⊎ ((answer ≡ Opened.Spent) × (last_number < number0 t))
+Answers answer t = (answer ≡ Ok tt) ⊎ ((answer ≡ Err OpenError.Spent) × (last_number < number0 t))
 
 answers : (w t : List ℕ) → (opening w t).answer ≡ open_answer t → Answers (opening w t).answer (opening w t).stable
-unfolding open_answer opened_no Answers
+unfolding open_answer open_error_no Answers
 answers w t h = go (leb (number0 t) last_number) refl
   where
     go : (b : Bool) → leb (number0 t) last_number ≡ b → Answers (opening w t).answer (opening w t).stable
     go true l = inl (h ∙ rw (l, open_answer))
     go false l =
-        let spent : (opening w t).answer ≡ Opened.Spent = h ∙ rw (l, open_answer) in
+        let spent : (opening w t).answer ≡ (Err OpenError.Spent) = h ∙ rw (l, open_answer) in
         let kept = (opening-refused w t (λ d. omega (arith, ap opened_no (sym spent ∙ d)))).stable in
         inr (spent, omega (arith, leb-false (number0 t) last_number l, ap number0 kept))
 
@@ -177,8 +178,8 @@ record Fresh (m : State) : Type 0 where
   copied : m.working ≡ m.stable
   past : (k : ℕ) → m.past k ≡ content_now m k ∷ []
 
-opening_copies : (w t : List ℕ) → (opening w t).answer ≡ Opened.Done → (opening w t).working ≡ (opening w t).stable
-unfolding opening open_refused open_done opened_no
+opening_copies : (w t : List ℕ) → (opening w t).answer ≡ Ok tt → (opening w t).working ≡ (opening w t).stable
+unfolding opening open_refused open_done open_error_no
 opening_copies w t d =
     go (good_lengths w t) refl (fit0 (pages t) t && good_tree (tree_of (pages t) t)) refl (leb (number0 t) last_number) refl
   where
@@ -189,11 +190,11 @@ opening_copies w t d =
     go true p true q false o = absurd (omega (arith, ap opened_no (rw (p, opening, q, o) at d)))
     go true p true q true o = rw (p, opening, q, o)
 
-done-fresh : (past : ℕ → List (Option ℕ)) (w t : List ℕ) → (opening w t).answer ≡ Opened.Done → Fresh (after_open past (opening w t))
+done-fresh : (past : ℕ → List (Option ℕ)) (w t : List ℕ) → (opening w t).answer ≡ Ok tt → Fresh (after_open past (opening w t))
 unfolding after_open
 done-fresh past w t d = record { copied = opening_copies w t d; past = λ k. rw (d, after_open) }
 
-step-fresh : (m : State) (e : Event) → Opens e → (step e m).opened ≡ Opened.Done → Fresh (step e m)
+step-fresh : (m : State) (e : Event) → Opens e → (step e m).opened ≡ Ok tt → Fresh (step e m)
 unfolding step after_open
 step-fresh m opens plainly d = done-fresh m.past m.working m.stable d
 step-fresh m (crashes marks w) after_crash d = done-fresh m.past w (crash_now marks m) d
@@ -206,12 +207,12 @@ step-fresh m (asks_any _ _) x8 d = elim x8 [ ]
 step-fresh m (lists _ _ _) x10 d = elim x10 [ ]
 step-fresh m syncs x8 d = elim x8 [ ]
 
-first-fresh : {n : ℕ} {w s : List ℕ} {m : State} → JustOpened n w s m → m.opened ≡ Opened.Done → Fresh m
+first-fresh : {n : ℕ} {w s : List ℕ} {m : State} → JustOpened n w s m → m.opened ≡ Ok tt → Fresh m
 unfolding start after_open
 first-fresh {n} {w} {s} formatted d = done-fresh (λ k. []) w (format w s).stable d
 first-fresh {n} {w} {s} (later h t e o p) d = step-fresh (run h (start w s)) e o d
 
-first-alive : {n : ℕ} {w s : List ℕ} {m : State} → Lent n w s → JustOpened n w s m → m.opened ≡ Opened.Done → Alive n m
+first-alive : {n : ℕ} {w s : List ℕ} {m : State} → Lent n w s → JustOpened n w s m → m.opened ≡ Ok tt → Alive n m
 unfolding run AllProper
 first-alive {n} {w} {s} {m} l j d = go (fate j)
   where
@@ -249,14 +250,14 @@ module _ {n : ℕ} {first : State} (x : Alive n first) (f : Fresh first) (es : L
   unfolding second after_open
   held = ap (λ (z : State). z.stable) F.is
 
-  finds : second.opened ≡ Opened.Done → (k : ℕ) → k ≤ last_key → content_now second k ≡ content_now first k
+  finds : second.opened ≡ Ok tt → (k : ℕ) → k ≤ last_key → content_now second k ≡ content_now first k
   unfolding m second after_open after
   finds d k h =
       ap (λ (z : State). content_now z k) F.is
       ∙ (alive_survives R.alive F.lent F.sized).stays F.table F.crash (sym answered ∙ d) k (content_now first k) h
       (ap (λ (past : ℕ → List (Option ℕ)). past k) R.past ∙ f.past k)
 
-  shows : second.opened ≡ Opened.Done → SameEntries second first
+  shows : second.opened ≡ Ok tt → SameEntries second first
   unfolding m second
   shows d = go (subst (Fate n) (sym F.is) (fate_crashes R.alive F.lent F.sized F.table F.crash))
     where

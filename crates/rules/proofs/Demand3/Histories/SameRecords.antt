@@ -1,5 +1,5 @@
 -- Two stores of histories in which every key has the same record answer every call that reads alike, and have the same total.
-use Rattle.std.proofs.Common.{◌≡◌, ℕ, ◌≤◌, List, [], length, sym, ap, ◌∙◌, subst}
+use Rattle.std.proofs.Common.{◌≡◌, ℕ, ◌≤◌, List, [], length, sym, ap, ◌∙◌, subst, Ok}
 use mathlib.Core.Option.{Option}
 use Rattle.rules.specs.Layout.{last_key}
 use Rattle.rules.specs.Entry.{Cert, keys}
@@ -9,7 +9,6 @@ use Rattle.rules.specs.List.{up_from, records_of}
 use Rattle.rules.specs.History.{State, latest}
 use Rattle.rules.specs.Demand.{SameListing, list_now}
 use Rattle.rules.specs.Quiet.{content_now, SameEntries}
-use Rattle.rules.specs.declared.Listed.{Listed}
 use Rattle.rules.proofs.Demand3.Ways.Ways.{Tells}
 use Rattle.rules.proofs.Demand3.Ways.Invariant.{Good}
 use Rattle.rules.proofs.Demand3.Ways.Nodes.{tells-one}
@@ -45,7 +44,7 @@ module _ {n : ℕ} {a b : State} (x : Alive n a) (y : Alive n b) (same : (k : �
       let v = list_answers y.safe (calm y.safe) from ks xs in
       let u = list_answers x.safe (calm x.safe) from ks xs in
       record {
-        answer = v.answer ∙ (ap (λ (cs : List Cert). Listed.Filled (length (gather q [] cs))) certs ∙ sym u.answer);
+        answer = v.answer ∙ (ap (λ (cs : List Cert). Ok (length (gather q [] cs))) certs ∙ sym u.answer);
         keys = v.keys ∙ (ap (λ (cs : List Cert). over (keys (gather q [] cs)) ks) certs ∙ sym u.keys);
         records = v.records ∙ (ap (λ (cs : List Cert). over (records_of (gather q [] cs)) xs) certs ∙ sym u.records);
       }

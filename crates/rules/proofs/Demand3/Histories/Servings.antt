@@ -1,6 +1,6 @@
 -- A store of a history between crashes, while the last opening was done: what demand 3 says of the calls then. A call that only
 -- reads leaves the store alive.
-use Rattle.std.proofs.Common.{◌≡◌, ℕ, min, List, length, sym, refl, ap, ◌∙◌, subst}
+use Rattle.std.proofs.Common.{◌≡◌, ℕ, min, List, length, sym, refl, ap, ◌∙◌, subst, Ok}
 use Rattle.rules.specs.Insert.{insert}
 use Rattle.rules.specs.Withdraw.{withdraw}
 use Rattle.rules.specs.Lookup.{lookup}
@@ -9,7 +9,6 @@ use Rattle.rules.specs.HasAny.{has_any}
 use Rattle.rules.specs.List.{list}
 use Rattle.rules.specs.History.{Event, looks, asks_newest, asks_any, lists, State, latest, after_reading, step, crashes, crashes_in_sync, inserts, opens, syncs, withdraws}
 use Rattle.rules.specs.Demand.{OneOf, lookup_now, newest_now, has_any_now, list_now, insert_now, withdraw_now, Reads, look, ask, ask_any, listing, SameListing, Serves}
-use Rattle.rules.specs.declared.Listed.{Listed}
 use Rattle.rules.specs.declared.Session.{Session}
 use Rattle.rules.proofs.Demand1.Refusals.{lookup_mends, newest_mends, any_mends, list_mends_lem}
 use Rattle.rules.proofs.Demand1.Withdrawals.{withdrawn_as, withdraw_as}
@@ -96,7 +95,7 @@ module _ {n : ℕ} {m : State} (a : Alive n m) where
     list_tells = list-told a.safe (λ k. latest (m.past k)) a.now;
     newest_tells = newest-told a.safe (λ k. latest (m.past k)) a.now;
     any_tells = any_told a.safe (λ k. latest (m.past k)) a.now;
-    counts = λ ks xs. list_counts a.safe ks xs ∙ ap (λ (i : ℕ). Listed.Filled (min (min (length ks) (length xs)) i)) (sym a.total);
+    counts = λ ks xs. list_counts a.safe ks xs ∙ ap (λ (i : ℕ). Ok (min (min (length ks) (length xs)) i)) (sym a.total);
     lookup_whole = never-lost a.safe (calm a.safe);
     newest_whole = never-damaged a.safe;
     any_whole = any_undamaged a.safe;

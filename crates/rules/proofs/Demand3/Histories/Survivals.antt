@@ -1,5 +1,5 @@
 -- A crash of a store of a history, and the opening after it: what demand 3 says of them, and that a history goes on from there.
-use Rattle.std.proofs.Common.{◌≡◌, ℕ, ◌+◌, ◌*◌, ◌<◌, ◌≤◌, Bool, true, false, eqb, leb, List, [], length, replicate, sym, refl, ap, ◌∙◌, subst, arith, ne_eqb, le-leb, leb-false, leb-true}
+use Rattle.std.proofs.Common.{◌≡◌, ℕ, ◌+◌, ◌*◌, ◌<◌, ◌≤◌, Bool, true, false, eqb, leb, List, [], length, replicate, sym, refl, ap, ◌∙◌, subst, arith, ne_eqb, le-leb, leb-false, leb-true, Ok, Err}
 use mathlib.Core.Option.{Option}
 use lib.ListN.{get_or-replicate}
 use borrow.Author.Tests.{lt-leb}
@@ -7,12 +7,13 @@ use Rattle.rules.specs.Layout.{page_size, most_pages, last_key, last_number}
 use Rattle.rules.specs.Table.{number0, set_number}
 use Rattle.rules.specs.Tree.{tree_of}
 use Rattle.rules.specs.Marks.{opened}
-use Rattle.rules.specs.Call.{Left, opened_no}
+use Rattle.rules.specs.Call.{Left, opened_no, open_error_no}
 use Rattle.rules.specs.Crash.{mix, crashed, inside_sync}
 use Rattle.rules.specs.Open.{opening, open_refused}
 use Rattle.rules.specs.History.{State, latest, earliest, content, after_open, crash_in_sync_now}
 use Rattle.rules.specs.Demand.{CrashOf, between_calls, in_sync, OneOf, open_answer, after, Survives}
-use Rattle.rules.specs.declared.Opened.{Opened}
+use Rattle.rules.specs.Answer.{Opened}
+use Rattle.rules.specs.declared.OpenError.{OpenError}
 use Rattle.rules.proofs.Demand3.Ways.Ways.{Tells}
 use Rattle.rules.proofs.Demand3.Ways.Invariant.{Good}
 use Rattle.rules.proofs.Demand3.Ways.Nodes.{tells}
@@ -27,16 +28,16 @@ use Rattle.rules.proofs.Demand3.Histories.Fates.{Alive, Fate, alive, over, alive
 
 -- ── The answers of an opening ───────────────────────────────────────────────────────────────────────────────────
 
-answer-done : (t : List ℕ) → number0 t ≤ last_number → open_answer t ≡ Opened.Done
+answer-done : (t : List ℕ) → number0 t ≤ last_number → open_answer t ≡ Ok tt
 unfolding open_answer
 answer-done t h = rw (le-leb (number0 t) last_number h, open_answer)
 
-answer-spent : (t : List ℕ) → last_number < number0 t → open_answer t ≡ Opened.Spent
+answer-spent : (t : List ℕ) → last_number < number0 t → open_answer t ≡ Err OpenError.Spent
 unfolding open_answer
 answer-spent t h = rw (lt-leb (number0 t) last_number h, open_answer)
 
-not_done : {a : Opened} → a ≡ Opened.Spent → a ≡ Opened.Done → ⊥
-unfolding opened_no
+not_done : {a : Opened} → a ≡ Err OpenError.Spent → a ≡ Ok tt → ⊥
+unfolding open_error_no
 not_done h d = omega (arith, ap opened_no (sym h ∙ d))
 
 -- ── The table that a crash leaves ───────────────────────────────────────────────────────────────────────────────
@@ -112,9 +113,9 @@ module _ {n : ℕ} {m : State} (a : Alive n m) where
         subst (λ (u : List ℕ). number0 u ≤ last_number → opening lent u ≡ done m.session.n u) w.left
         (recovery_done x w.source w.alike w.whole w.above w.pages lent length_is)
 
-    opens-spent : last_number < number0 t → opening lent t ≡ open_refused Opened.Spent lent t
+    opens-spent : last_number < number0 t → opening lent t ≡ open_refused (Err OpenError.Spent) lent t
     opens-spent =
-        subst (λ (u : List ℕ). last_number < number0 u → opening lent u ≡ open_refused Opened.Spent lent u) w.left
+        subst (λ (u : List ℕ). last_number < number0 u → opening lent u ≡ open_refused (Err OpenError.Spent) lent u) w.left
         (recovery_spent x w.source w.alike w.whole w.above w.pages lent length_is)
 
     opens-answer : (opening lent t).answer ≡ open_answer t
@@ -130,7 +131,7 @@ module _ {n : ℕ} {m : State} (a : Alive n m) where
             ap (λ (r : Left Opened). r.answer) (opens-spent l) ∙ sym (answer-spent t l)
 
     -- where it is done the number is not spent
-    low-enough : (opening lent t).answer ≡ Opened.Done → number0 t ≤ last_number
+    low-enough : (opening lent t).answer ≡ Ok tt → number0 t ≤ last_number
     low-enough d = go (leb (number0 t) last_number) refl
       where
         go : (b : Bool) → leb (number0 t) last_number ≡ b → number0 t ≤ last_number
@@ -159,7 +160,7 @@ module _ {n : ℕ} {m : State} (a : Alive n m) where
         ap (λ (r : Left Opened). content r.session r.working r.stable k) (opens-done l)
         ∙ content-told (opened-safe l) h y
 
-    shows : (opening lent t).answer ≡ Opened.Done → (k : ℕ) → k ≤ last_key → OneOf (after lent t k) (m.past k)
+    shows : (opening lent t).answer ≡ Ok tt → (k : ℕ) → k ≤ last_key → OneOf (after lent t k) (m.past k)
     unfolding opened
     shows d k h =
         let l = low-enough d in
@@ -195,7 +196,7 @@ module _ {n : ℕ} {m : State} (a : Alive n m) where
   none_written = plainly []
 
   module _ (lent : List ℕ) (sized : length lent ≡ n * page_size) where
-    nothing : (opening lent m.stable).answer ≡ Opened.Done → (k : ℕ) → k ≤ last_key → after lent m.stable k ≡ earliest (m.past k)
+    nothing : (opening lent m.stable).answer ≡ Ok tt → (k : ℕ) → k ≤ last_key → after lent m.stable k ≡ earliest (m.past k)
     unfolding mix
     nothing d k h =
         found lent sized none_written (low-enough lent sized none_written d) h
@@ -203,11 +204,11 @@ module _ {n : ℕ} {m : State} (a : Alive n m) where
 
     -- every page is written from a source that reads as the working table
     all_from : (u : List ℕ) → Alike m.session.n m.working u → Whole m.session.n u → m.session.c < number0 u
-        → (t : List ℕ) → t ≡ mix (replicate most_pages true) u m.stable → (opening lent t).answer ≡ Opened.Done
+        → (t : List ℕ) → t ≡ mix (replicate most_pages true) u m.stable → (opening lent t).answer ≡ Ok tt
         → (k : ℕ) → k ≤ last_key → after lent t k ≡ latest (m.past k)
     all_from u same whole above t q =
         subst
-        (λ (v : List ℕ). (opening lent v).answer ≡ Opened.Done → (k : ℕ) → k ≤ last_key → after lent v k ≡ latest (m.past k))
+        (λ (v : List ℕ). (opening lent v).answer ≡ Ok tt → (k : ℕ) → k ≤ last_key → after lent v k ≡ latest (m.past k))
         (sym q)
         (λ d k h.
         found lent sized from (low-enough lent sized from d) h
@@ -217,15 +218,15 @@ module _ {n : ℕ} {m : State} (a : Alive n m) where
         from : Written m (mix (replicate most_pages true) u m.stable)
         from = record { source = u; alike = same; whole = whole; above = above; pages = replicate most_pages true; left = refl }
 
-    everything : (t : List ℕ) → t ≡ mix (replicate most_pages true) m.working m.stable → (opening lent t).answer ≡ Opened.Done
+    everything : (t : List ℕ) → t ≡ mix (replicate most_pages true) m.working m.stable → (opening lent t).answer ≡ Ok tt
         → (k : ℕ) → k ≤ last_key → after lent t k ≡ latest (m.past k)
     everything = all_from m.working alike_self x.working (omega (arith, x.number_working))
 
-    everything_in-sync : (t : List ℕ) → t ≡ crash_in_sync_now (replicate most_pages true) m → (opening lent t).answer ≡ Opened.Done
+    everything_in-sync : (t : List ℕ) → t ≡ crash_in_sync_now (replicate most_pages true) m → (opening lent t).answer ≡ Ok tt
         → (k : ℕ) → k ≤ last_key → after lent t k ≡ latest (m.past k)
     everything_in-sync t q = go (leb m.session.c last_number) refl
       where
-        go : (b : Bool) → leb m.session.c last_number ≡ b → (opening lent t).answer ≡ Opened.Done
+        go : (b : Bool) → leb m.session.c last_number ≡ b → (opening lent t).answer ≡ Ok tt
             → (k : ℕ) → k ≤ last_key → after lent t k ≡ latest (m.past k)
         go true h =
             let l = leb-true m.session.c last_number h in

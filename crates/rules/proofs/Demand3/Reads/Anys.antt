@@ -1,6 +1,6 @@
 -- Has-any in a safe store: it meets no damage, says yes exactly where the meter has a certificate, and no call that only reads
 -- changes what it answers later.
-use Rattle.std.proofs.Common.{◌≡◌, ℕ, ◌<◌, ◌≤◌, Bool, true, false, ◌&&◌, ltb, ◌⊎◌, List, [], ◌∷◌, length, sym, refl, ap, ◌∙◌, subst, inl, inr, arith, lt-ltb}
+use Rattle.std.proofs.Common.{◌≡◌, ℕ, ◌<◌, ◌≤◌, Bool, true, false, ◌&&◌, ltb, ◌⊎◌, List, [], ◌∷◌, length, sym, refl, ap, ◌∙◌, subst, inl, inr, arith, lt-ltb, Err}
 use mathlib.Core.Option.{Option, some, none, none-ne-some}
 use Rattle.rules.specs.Layout.{last_key, largest_issue}
 use Rattle.rules.specs.Key.{key_of, issue_of, good_key}
@@ -8,11 +8,12 @@ use Rattle.rules.specs.Test.{all, mem}
 use Rattle.rules.specs.Entry.{Cert, keys, find, rising}
 use Rattle.rules.specs.Tree.{tree_of}
 use Rattle.rules.specs.Walk.{walk_of}
-use Rattle.rules.specs.Call.{Left, any_no}
+use Rattle.rules.specs.Call.{Left, any_no, any_error_no}
 use Rattle.rules.specs.HasAny.{first_of, any_in, any_left, any_meter, has_any}
 use Rattle.rules.specs.Demand.{AnyTells, some_issue, no_issue}
 use Rattle.rules.specs.declared.Asked.{Asked}
-use Rattle.rules.specs.declared.Any.{Any}
+use Rattle.rules.specs.Answer.{Any}
+use Rattle.rules.specs.declared.AnyError.{AnyError}
 use Rattle.rules.specs.declared.Session.{Session}
 use Rattle.rules.proofs.Entries.Tests.{and_of}
 use Rattle.rules.proofs.Entries.Entries.{find_head}
@@ -32,7 +33,7 @@ use Rattle.rules.proofs.Demand3.Reads.Walks.{Walking, sought, walk_of-walking}
 -- what has-any answers of a table as it stands
 pub any_of : ℕ → List ℕ → ℕ → ℕ → Any
 any_of n t model serial =
-    elim (ltb 0 model && ltb 0 serial) [ false ↦ Any.BadKey | true ↦ any_in (sought n t (first_of model serial)) ]
+    elim (ltb 0 model && ltb 0 serial) [ false ↦ Err AnyError.BadKey | true ↦ any_in (sought n t (first_of model serial)) ]
 
 -- it is read off the tree's certificates
 pub any_of_same : (n i : ℕ) (t u : List ℕ) (model serial : ℕ) → (tree_of i u).certs ≡ (tree_of n t).certs
@@ -40,16 +41,16 @@ pub any_of_same : (n i : ℕ) (t u : List ℕ) (model serial : ℕ) → (tree_of
 unfolding any_of
 any_of_same n i t u model serial e =
     ap
-    (λ (xs : List Cert). elim (ltb 0 model && ltb 0 serial) [ false ↦ Any.BadKey | true ↦ any_in (gather (first_of model serial) [] xs) ])
+    (λ (xs : List Cert). elim (ltb 0 model && ltb 0 serial) [ false ↦ Err AnyError.BadKey | true ↦ any_in (gather (first_of model serial) [] xs) ])
     e
 
-any_in_lem : (xs : List Cert) → any_in xs ≡ Any.Damaged → ⊥
-unfolding any_in any_no
+any_in_lem : (xs : List Cert) → any_in xs ≡ Err AnyError.Damaged → ⊥
+unfolding any_in any_error_no
 any_in_lem [] h = omega (arith, ap any_no h)
 any_in_lem (x ∷ xs) h = omega (arith, ap any_no h)
 
-any-of : (n : ℕ) (t : List ℕ) (model serial : ℕ) → any_of n t model serial ≡ Any.Damaged → ⊥
-unfolding any_of any_no
+any-of : (n : ℕ) (t : List ℕ) (model serial : ℕ) → any_of n t model serial ≡ Err AnyError.Damaged → ⊥
+unfolding any_of any_error_no
 any-of n t model serial h = go (ltb 0 model && ltb 0 serial) refl
   where
     go : (b : Bool) → (ltb 0 model && ltb 0 serial) ≡ b → ⊥
@@ -72,7 +73,7 @@ module _ {s : Session} {t u S : List ℕ} {Been : States} (x : Safe s t S Been) 
   any-good model serial g = rw (lengths_for_lem m.safe, has_any) (rw g (rw m.safe.working.fit))
 
   any_bad : (model serial : ℕ) → (ltb 0 model && ltb 0 serial) ≡ false
-      → has_any u S s model serial ≡ any_left s u S Any.BadKey
+      → has_any u S s model serial ≡ any_left s u S (Err AnyError.BadKey)
   unfolding has_any
   any_bad model serial g = rw (lengths_for_lem m.safe, has_any) (rw g)
 
@@ -93,7 +94,7 @@ module _ {s : Session} {t u S : List ℕ} {Been : States} (x : Safe s t S Been) 
           (record { answer = rw (g, any_of); left = m })
 
 module _ {s : Session} {W S : List ℕ} {Been : States} (x : Safe s W S Been) where
-  pub any_undamaged : (model serial : ℕ) → (has_any W S s model serial).answer ≡ Any.Damaged → ⊥
+  pub any_undamaged : (model serial : ℕ) → (has_any W S s model serial).answer ≡ Err AnyError.Damaged → ⊥
   any_undamaged model serial h = any-of s.n W model serial (sym (any_answers x (calm x) model serial).answer ∙ h)
 
   any-finds : (model serial : ℕ) → (ltb 0 model && ltb 0 serial) ≡ true

@@ -1,6 +1,6 @@
 -- Insert answers by the steps of its key's way and by the session. A mend made before brings forward what insert's own walk would
 -- mend, so it changes no answer of insert: not 6, though a mended page is touched, and not 7.
-use Rattle.std.proofs.Common.{◌≡◌, ℕ, Bool, true, false, List, sym, refl, ap, ◌∙◌}
+use Rattle.std.proofs.Common.{◌≡◌, ℕ, Bool, true, false, List, sym, refl, ap, ◌∙◌, Err}
 use mathlib.Core.Option.{Option, some, none}
 use Rattle.rules.specs.Key.{key_of, good_parts}
 use Rattle.rules.specs.Entry.{find}
@@ -9,7 +9,8 @@ use Rattle.rules.specs.Marks.{free_pages}
 use Rattle.rules.specs.Call.{Left}
 use Rattle.rules.specs.Insert.{splitting, too_soon, no_room, insert_refused, insert_done, insert_along, insert}
 use Rattle.rules.specs.declared.Session.{Session}
-use Rattle.rules.specs.declared.Inserted.{Inserted}
+use Rattle.rules.specs.Answer.{Inserted}
+use Rattle.rules.specs.declared.InsertError.{InsertError}
 use Rattle.rules.proofs.Demand3.Ways.Invariant.{States}
 use Rattle.rules.proofs.Demand3.Epochs.Store.{Safe}
 use Rattle.rules.proofs.Demand3.Epochs.Syncs.{lengths_for_lem}
@@ -47,7 +48,7 @@ module _ {s : Session} {t u S : List ℕ} {Been : States} (y : Safe s t S Been) 
       ∙ key_along k x s u S steps (way-passes k y m).given)
       ∙ along_answer k x s steps (way_of s.n s.c k u).table S t
 
-  insert-badkey : good_parts model serial issue ≡ false → (insert u S s model serial issue x).answer ≡ Inserted.BadKey
+  insert-badkey : good_parts model serial issue ≡ false → (insert u S s model serial issue x).answer ≡ Err InsertError.BadKey
   unfolding insert_refused
   insert-badkey g = ap (λ (r : Left Inserted). r.answer) (insert_bad u S s model serial issue x (lengths_for_lem m.safe) g)
 

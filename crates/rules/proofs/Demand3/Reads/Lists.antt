@@ -1,17 +1,18 @@
 -- Newest and list in a safe store: they meet no damage, and answer what the tree holds as it stands; so no call that only reads
 -- changes what they answer later.
-use Rattle.std.proofs.Common.{◌≡◌, ℕ, Bool, true, false, ◌&&◌, ltb, List, [], ◌∷◌, length, sym, refl, ap, ◌∙◌, subst, arith}
+use Rattle.std.proofs.Common.{◌≡◌, ℕ, Bool, true, false, ◌&&◌, ltb, List, [], ◌∷◌, length, sym, refl, ap, ◌∙◌, subst, arith, Ok, Err}
 use Rattle.rules.specs.Entry.{Cert, keys}
 use Rattle.rules.specs.Page.{over}
 use Rattle.rules.specs.Walk.{walk_of}
 use Rattle.rules.specs.Tree.{tree_of}
-use Rattle.rules.specs.Call.{Left, newest_no, listed_no}
+use Rattle.rules.specs.Call.{Left, newest_no, listed_no, find_error_no, list_error_no}
 use Rattle.rules.specs.Newest.{meter, newest_in, newest_left, newest_meter, newest}
 use Rattle.rules.specs.List.{ListLeft, up_from, records_of, list_done, list_from, list}
 use Rattle.rules.specs.Demand.{SameListing}
 use Rattle.rules.specs.declared.Asked.{Asked}
-use Rattle.rules.specs.declared.Newest.{Newest}
-use Rattle.rules.specs.declared.Listed.{Listed}
+use Rattle.rules.specs.Answer.{Newest}
+use Rattle.rules.specs.declared.FindError.{FindError}
+use Rattle.rules.specs.declared.ListError.{ListError}
 use Rattle.rules.specs.declared.Session.{Session}
 use Rattle.rules.proofs.Demand3.Ways.Invariant.{States}
 use Rattle.rules.proofs.Demand3.Epochs.Store.{Safe}
@@ -25,7 +26,7 @@ use Rattle.rules.proofs.Demand3.Reads.Walks.{Walking, sought, walk_of-walking}
 -- what newest answers of a table as it stands
 pub newest_of : ℕ → List ℕ → ℕ → ℕ → Newest
 newest_of n t model serial =
-    elim (ltb 0 model && ltb 0 serial) [ false ↦ Newest.BadKey | true ↦ newest_in (sought n t (meter model serial)) ]
+    elim (ltb 0 model && ltb 0 serial) [ false ↦ Err FindError.BadKey | true ↦ newest_in (sought n t (meter model serial)) ]
 
 -- it is read off the tree's certificates
 pub newest_of_same : (n i : ℕ) (t u : List ℕ) (model serial : ℕ) → (tree_of i u).certs ≡ (tree_of n t).certs
@@ -34,17 +35,17 @@ unfolding newest_of
 newest_of_same n i t u model serial e =
     ap
     (λ (xs : List Cert).
-    elim (ltb 0 model && ltb 0 serial) [ false ↦ Newest.BadKey | true ↦ newest_in (gather (meter model serial) [] xs) ])
+    elim (ltb 0 model && ltb 0 serial) [ false ↦ Err FindError.BadKey | true ↦ newest_in (gather (meter model serial) [] xs) ])
     e
 
-newest_in_lem : (xs : List Cert) → newest_in xs ≡ Newest.Damaged → ⊥
-unfolding newest_in newest_no
+newest_in_lem : (xs : List Cert) → newest_in xs ≡ Err FindError.Damaged → ⊥
+unfolding newest_in find_error_no
 newest_in_lem [] h = omega (arith, ap newest_no h)
 newest_in_lem (x ∷ []) h = omega (arith, ap newest_no h)
 newest_in_lem (x ∷ (y ∷ ys)) h = newest_in_lem (y ∷ ys) h
 
-newest-of : (n : ℕ) (t : List ℕ) (model serial : ℕ) → newest_of n t model serial ≡ Newest.Damaged → ⊥
-unfolding newest_of newest_no
+newest-of : (n : ℕ) (t : List ℕ) (model serial : ℕ) → newest_of n t model serial ≡ Err FindError.Damaged → ⊥
+unfolding newest_of find_error_no
 newest-of n t model serial h = go (ltb 0 model && ltb 0 serial) refl
   where
     go : (b : Bool) → (ltb 0 model && ltb 0 serial) ≡ b → ⊥
@@ -67,7 +68,7 @@ module _ {s : Session} {t u S : List ℕ} {Been : States} (x : Safe s t S Been) 
   newest-good model serial g = rw (lengths_for_lem m.safe, newest) (rw g (rw m.safe.working.fit))
 
   newest_bad : (model serial : ℕ) → (ltb 0 model && ltb 0 serial) ≡ false
-      → newest u S s model serial ≡ newest_left s u S Newest.BadKey
+      → newest u S s model serial ≡ newest_left s u S (Err FindError.BadKey)
   unfolding newest
   newest_bad model serial g = rw (lengths_for_lem m.safe, newest) (rw g)
 
@@ -96,7 +97,7 @@ unfolding list_from
 from-whole s w t start ks xs h = rw (h, list_from)
 
 pub record ListOf (s : Session) (t S : List ℕ) (Been : States) (start : ℕ) (ks xs : List ℕ) (r : ListLeft) : Type 0 where
-  pub answer : r.answer ≡ Listed.Filled (length (sought s.n t (up_from start ks xs)))
+  pub answer : r.answer ≡ Ok (length (sought s.n t (up_from start ks xs)))
   pub keys : r.keys ≡ over (keys (sought s.n t (up_from start ks xs))) ks
   pub records : r.records ≡ over (records_of (sought s.n t (up_from start ks xs))) xs
   pub left : Calm s t S Been r.working
@@ -111,7 +112,7 @@ module _ {s : Session} {t u S : List ℕ} {Been : States} (x : Safe s t S Been) 
   list_answers start ks xs =
       subst (ListOf s t S Been start ks xs) (sym (list-good start ks xs ∙ from-whole s u S start ks xs w.whole))
       (record {
-        answer = ap (λ (ys : List Cert). Listed.Filled (length ys)) w.found;
+        answer = ap (λ (ys : List Cert). Ok (length ys)) w.found;
         keys = ap (λ (ys : List Cert). over (keys ys) ks) w.found;
         records = ap (λ (ys : List Cert). over (records_of ys) xs) w.found;
         left = w.left;
@@ -123,7 +124,7 @@ module _ {s : Session} {t u S : List ℕ} {Been : States} (x : Safe s t S Been) 
 -- ── What demand 3 says of them ──────────────────────────────────────────────────────────────────────────────────
 
 module _ {s : Session} {W S : List ℕ} {Been : States} (x : Safe s W S Been) where
-  pub never-damaged : (model serial : ℕ) → (newest W S s model serial).answer ≡ Newest.Damaged → ⊥
+  pub never-damaged : (model serial : ℕ) → (newest W S s model serial).answer ≡ Err FindError.Damaged → ⊥
   never-damaged model serial h =
       newest-of s.n W model serial (sym (newest_answers x (calm x) model serial).answer ∙ h)
 
@@ -132,8 +133,8 @@ module _ {s : Session} {W S : List ℕ} {Been : States} (x : Safe s W S Been) wh
   unfolding newest_of
   newest-finds model serial g = (newest_answers x (calm x) model serial).answer ∙ rw (g, newest_of)
 
-  pub never-refused : (start : ℕ) (ks xs : List ℕ) → (list W S s start ks xs).answer ≡ Listed.Damaged → ⊥
-  unfolding listed_no
+  pub never-refused : (start : ℕ) (ks xs : List ℕ) → (list W S s start ks xs).answer ≡ Err ListError.Damaged → ⊥
+  unfolding list_error_no
   never-refused start ks xs h =
       omega (arith, ap listed_no (sym (list_answers x (calm x) start ks xs).answer ∙ h))
 

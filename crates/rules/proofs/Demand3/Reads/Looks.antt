@@ -1,14 +1,15 @@
 -- Lookup in a safe store: it answers by what the working table tells of the key, and what its walk mends changes nothing.
-use Rattle.std.proofs.Common.{◌≡◌, ℕ, ◌≤◌, Bool, true, false, List, ◌∷◌, sym, refl, ap, ◌∙◌, subst, arith}
+use Rattle.std.proofs.Common.{◌≡◌, ℕ, ◌≤◌, Bool, true, false, List, ◌∷◌, sym, refl, ap, ◌∙◌, subst, arith, Err}
 use mathlib.Core.Option.{Option, some, none}
 use Rattle.rules.specs.Layout.{last_key}
 use Rattle.rules.specs.Key.{key_of, model_of, serial_of, issue_of, good_parts, good_key}
 use Rattle.rules.specs.Entry.{find}
 use Rattle.rules.specs.Walk.{Step, certs_at, way_of}
-use Rattle.rules.specs.Call.{Left, looked_no}
+use Rattle.rules.specs.Call.{Left, looked_no, find_error_no}
 use Rattle.rules.specs.Lookup.{found_in, lookup_left, lookup_key, lookup}
 use Rattle.rules.specs.History.{record_in, content}
-use Rattle.rules.specs.declared.Looked.{Looked}
+use Rattle.rules.specs.Answer.{Looked}
+use Rattle.rules.specs.declared.FindError.{FindError}
 use Rattle.rules.specs.declared.Session.{Session}
 use Rattle.rules.proofs.Bytes.Keys.{key_of_parts}
 use Rattle.rules.proofs.Entries.Tests.{not_both}
@@ -47,8 +48,8 @@ found_record k x above = go (find k (certs_at (x ∷ above))) refl
     go none o = rw (found_in, o)
     go (some y) o = rw (found_in, o)
 
-found-whole : (k : ℕ) (steps : List Step) → found_in k steps ≡ Looked.Damaged → ⊥
-unfolding found_in looked_no
+found-whole : (k : ℕ) (steps : List Step) → found_in k steps ≡ Err FindError.Damaged → ⊥
+unfolding found_in find_error_no
 found-whole k steps h = go (find k (certs_at steps)) refl
   where
     go : (o : Option ℕ) → find k (certs_at steps) ≡ o → ⊥
@@ -62,7 +63,7 @@ module _ {s : Session} {t u S : List ℕ} {Been : States} (x : Safe s t S Been) 
   lookup-good model serial issue g = rw (lengths_for_lem m.safe, lookup) (rw g (rw m.safe.working.fit))
 
   lookup_bad : (model serial issue : ℕ) → good_parts model serial issue ≡ false
-      → lookup u S s model serial issue ≡ lookup_left s u S Looked.BadKey
+      → lookup u S s model serial issue ≡ lookup_left s u S (Err FindError.BadKey)
   unfolding lookup
   lookup_bad model serial issue g = rw (lengths_for_lem m.safe, lookup) (rw g)
 
@@ -87,8 +88,8 @@ module _ {s : Session} {t u S : List ℕ} {Been : States} (x : Safe s t S Been) 
       go false g =
           subst (Calm s t S Been) (sym (ap (λ (r : Left Looked). r.working) (lookup_bad model serial issue g))) m
 
-  pub never-lost : (model serial issue : ℕ) → (lookup u S s model serial issue).answer ≡ Looked.Damaged → ⊥
-  unfolding lookup_left looked_no
+  pub never-lost : (model serial issue : ℕ) → (lookup u S s model serial issue).answer ≡ Err FindError.Damaged → ⊥
+  unfolding lookup_left find_error_no
   never-lost model serial issue h = go (good_parts model serial issue) refl
     where
       go : (b : Bool) → good_parts model serial issue ≡ b → ⊥

@@ -1,6 +1,6 @@
 -- What is shown of certificates that rise, in a range and while there is room: the first so many of those in the range; and what
 -- newest makes of it, the last one.
-use Rattle.std.proofs.Common.{◌≡◌, ℕ, suc, ◌-◌, ◌<◌, ◌≤◌, true, ◌⊎◌, List, [], ◌∷◌, length, take, drop, sym, refl, ap, ◌∙◌, inl, inr, arith, length-drop, take-append-drop, length-take}
+use Rattle.std.proofs.Common.{◌≡◌, ℕ, suc, ◌-◌, ◌<◌, ◌≤◌, true, ◌⊎◌, List, [], ◌∷◌, length, take, drop, sym, refl, ap, ◌∙◌, inl, inr, arith, length-drop, take-append-drop, length-take, Ok}
 use mathlib.Core.Option.{Option, some, none}
 use Rattle.rules.specs.Layout.{last_key, last_final}
 use Rattle.rules.specs.Test.{between, all, mem}
@@ -9,7 +9,7 @@ use Rattle.rules.specs.Entry.{Cert, keys, find, cut, rises_from, rising}
 use Rattle.rules.specs.Newest.{meter, newest_in}
 use Rattle.rules.specs.Demand.{NewestTells, largest, missing}
 use Rattle.rules.specs.declared.Asked.{Asked}
-use Rattle.rules.specs.declared.Newest.{Newest}
+use Rattle.rules.specs.Answer.{newest_is}
 use Rattle.rules.proofs.Entries.Tests.{all_head, all_tail, all_imp, all-mem, mem-nil, between_wider, between-of, between-low, between-high}
 use Rattle.rules.proofs.Entries.Rises.{rises-head, rises_tail, rises-mem, rising-from, rising_tail, rising-take, rising-before, rising-behind, length-keys, keys-take, keys-drop}
 use Rattle.rules.proofs.Entries.Entries.{find_head, find_tail, find-append-left, find-append_right, mem-find, all-find, find-cut, cut-within, cut-rising}
@@ -39,7 +39,7 @@ length-rising low high (x ∷ xs) r w =
 
 pub record Last (xs : List Cert) : Type 0 where
   pub entry : Cert
-  pub answer : newest_in xs ≡ Newest.Found (issue_of entry.key) entry.value
+  pub answer : newest_in xs ≡ Ok (newest_is (issue_of entry.key) entry.value)
   pub finds : find entry.key xs ≡ some entry.value
   pub none_above : (k : ℕ) → entry.key < k → find k xs ≡ none
 

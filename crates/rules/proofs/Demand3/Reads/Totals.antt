@@ -1,6 +1,6 @@
 -- How many certificates a tree has: few in any table; in good tables as many as there are keys with a record, so the same
 -- where two tables tell the same, one more where a key more has one and one less where a key less has; and a list from key 0 shows them all.
-use Rattle.std.proofs.Common.{◌≡◌, ℕ, suc, ◌+◌, ◌-◌, ◌*◌, ◌≤◌, min, Bool, true, false, eqb, leb, ◌≢◌, ◌⊎◌, List, [], ◌∷◌, length, take, sym, refl, ap, ◌∙◌, subst, inl, inr, mul-le-mul_right, arith, length-append, length-take, eqb-true, leb-false, leb-true}
+use Rattle.std.proofs.Common.{◌≡◌, ℕ, suc, ◌+◌, ◌-◌, ◌*◌, ◌≤◌, min, Bool, true, false, eqb, leb, ◌≢◌, ◌⊎◌, List, [], ◌∷◌, length, take, sym, refl, ap, ◌∙◌, subst, inl, inr, mul-le-mul_right, arith, length-append, length-take, eqb-true, leb-false, leb-true, Ok}
 use mathlib.Core.Option.{Option, some, none}
 use borrow.Author.Tests.{eqb-false}
 use Rattle.rules.specs.Layout.{leaf_room, inner_room, last_key}
@@ -12,7 +12,6 @@ use Rattle.rules.specs.Place.{root_place, high_before, place_of, places_in, kids
 use Rattle.rules.specs.Tree.{Tree, broken, join, here, tree_each, tree, tree_of}
 use Rattle.rules.specs.List.{up_from, list}
 use Rattle.rules.specs.declared.Place.{Place}
-use Rattle.rules.specs.declared.Listed.{Listed}
 use Rattle.rules.specs.declared.Session.{Session}
 use Rattle.rules.proofs.Entries.Tests.{all-mem, between-high, between-above}
 use Rattle.rules.proofs.Entries.Rises.{length_among, length-keys}
@@ -164,14 +163,14 @@ one_less {n} {t} {u} g h k x present own others = one_more_lem h g k x own prese
 -- ── As many as are listed ───────────────────────────────────────────────────────────────────────────────────────
 
 pub list_counts : {s : Session} {W S : List ℕ} {Been : States} → Safe s W S Been → (ks xs : List ℕ)
-    → (list W S s 0 ks xs).answer ≡ Listed.Filled (min (min (length ks) (length xs)) (certs_in s.n W))
+    → (list W S s 0 ks xs).answer ≡ Ok (min (min (length ks) (length xs)) (certs_in s.n W))
 unfolding up_from
 list_counts {s} {W} x ks xs =
     let certs = (tree_of s.n W).certs in
     let room = min (length ks) (length xs) in
     let all : room - 0 ≡ room = omega arith in
     (list_answers x (calm x) 0 ks xs).answer
-    ∙ ap (λ (ys : List Cert). Listed.Filled (length (take (room - 0) ys)))
+    ∙ ap (λ (ys : List Cert). Ok (length (take (room - 0) ys)))
     (cut_all 0 last_key certs (all_ordered (working-good x.inv)).within)
-    ∙ ap (λ (i : ℕ). Listed.Filled (length (take i certs))) all
-    ∙ ap (λ (i : ℕ). Listed.Filled i) (length-take room certs)
+    ∙ ap (λ (i : ℕ). Ok (length (take i certs))) all
+    ∙ ap (λ (i : ℕ). Ok i) (length-take room certs)

@@ -1,6 +1,6 @@
 -- Insert keeps the store safe. It answers present exactly where something is told of the key; refused, it leaves what its walk
 -- has mended; done, the key has had one state more, and the table tells it.
-use Rattle.std.proofs.Common.{◌≡◌, ℕ, ◌+◌, ◌^◌, ◌<◌, ◌≤◌, Bool, true, false, ◌≢◌, List, [], ◌∷◌, length, sym, refl, ◌∙◌, subst, arith}
+use Rattle.std.proofs.Common.{◌≡◌, ℕ, ◌+◌, ◌^◌, ◌<◌, ◌≤◌, Bool, true, false, ◌≢◌, List, [], ◌∷◌, length, sym, refl, ◌∙◌, subst, arith, Ok, Err}
 use mathlib.Core.Option.{Option, some, none}
 use Rattle.rules.specs.Layout.{leaf_kind, leaf_room, last_key}
 use Rattle.rules.specs.Test.{mem}
@@ -13,7 +13,8 @@ use Rattle.rules.specs.Call.{Left, lengths_for}
 use Rattle.rules.specs.Insert.{splitting, too_soon, no_room, put_cert, changed, Making, making, split, insert_refused, insert_done, insert_along, insert_key, insert}
 use Rattle.rules.specs.declared.Place.{Place}
 use Rattle.rules.specs.declared.Session.{Session}
-use Rattle.rules.specs.declared.Inserted.{Inserted}
+use Rattle.rules.specs.Answer.{Inserted}
+use Rattle.rules.specs.declared.InsertError.{InsertError}
 use Rattle.rules.proofs.Entries.Tests.{mem_index}
 use Rattle.rules.proofs.Bytes.Keys.{good_key-key_of, key_of-bound}
 use Rattle.rules.proofs.Bytes.All.{all-at}
@@ -45,7 +46,7 @@ pub record Stays {A : Type 0} (s : Session) (W S : List ℕ) (Been : States) (r 
 
 -- the key, of which nothing was told, is told with its record
 pub record Added (s : Session) (W S : List ℕ) (Been : States) (k x : ℕ) (r : Left Inserted) : Type 0 where
-  pub answer : r.answer ≡ Inserted.Done
+  pub answer : r.answer ≡ Ok tt
   pub stable : r.stable ≡ S
   pub pages : r.session.n ≡ s.n
   pub counter : r.session.c ≡ s.c
@@ -58,25 +59,25 @@ pub record Added (s : Session) (W S : List ℕ) (Been : States) (k x : ℕ) (r :
 
 -- what an insert of a good key can come to
 pub data Inserts (s : Session) (W S : List ℕ) (Been : States) (k x : ℕ) (r : Left Inserted) : Type 0 where
-  present : (y : ℕ) → Tells s.n W k (some y) → r.answer ≡ Inserted.Present → Stays s W S Been r → Inserts s W S Been k x r
-  sync_first : Tells s.n W k none → r.answer ≡ Inserted.SyncFirst → Stays s W S Been r → Inserts s W S Been k x r
-  no_room_lem : Tells s.n W k none → r.answer ≡ Inserted.Full → Stays s W S Been r → Inserts s W S Been k x r
+  present : (y : ℕ) → Tells s.n W k (some y) → r.answer ≡ Err InsertError.Present → Stays s W S Been r → Inserts s W S Been k x r
+  sync_first : Tells s.n W k none → r.answer ≡ Err InsertError.SyncFirst → Stays s W S Been r → Inserts s W S Been k x r
+  no_room_lem : Tells s.n W k none → r.answer ≡ Err InsertError.Full → Stays s W S Been r → Inserts s W S Been k x r
   added : Added s W S Been k x r → Inserts s W S Been k x r
 
 -- ── The rules' cases, each by itself ────────────────────────────────────────────────────────────────────────────
 
 along_present : (k x y : ℕ) (s : Session) (way : List Step) (w t : List ℕ) → find k (certs_at way) ≡ some y
-    → insert_along k x s way w t ≡ insert_refused Inserted.Present s w t
+    → insert_along k x s way w t ≡ insert_refused (Err InsertError.Present) s w t
 unfolding insert_along
 along_present k x y s way w t f = rw (f, insert_along)
 
 along_soon : (k x : ℕ) (s : Session) (way : List Step) (w t : List ℕ) → find k (certs_at way) ≡ none → too_soon s.c (splitting way) ≡ true
-    → insert_along k x s way w t ≡ insert_refused Inserted.SyncFirst s w t
+    → insert_along k x s way w t ≡ insert_refused (Err InsertError.SyncFirst) s w t
 unfolding insert_along
 along_soon k x s way w t f q = rw (f, insert_along) (rw q)
 
 along_full : (k x : ℕ) (s : Session) (way : List Step) (w t : List ℕ) → find k (certs_at way) ≡ none → too_soon s.c (splitting way) ≡ false
-    → no_room way (free_pages s (numbers way)) ≡ true → insert_along k x s way w t ≡ insert_refused Inserted.Full s w t
+    → no_room way (free_pages s (numbers way)) ≡ true → insert_along k x s way w t ≡ insert_refused (Err InsertError.Full) s w t
 unfolding insert_along
 along_full k x s way w t f q r = rw (f, insert_along) (rw q (rw r))
 
@@ -96,7 +97,7 @@ unfolding insert
 insert-good w t s model serial issue x l g f = rw (l, insert) (rw g (rw f))
 
 pub insert_bad : (w t : List ℕ) (s : Session) (model serial issue x : ℕ) → lengths_for s w t ≡ true → good_parts model serial issue ≡ false
-    → insert w t s model serial issue x ≡ insert_refused Inserted.BadKey s w t
+    → insert w t s model serial issue x ≡ insert_refused (Err InsertError.BadKey) s w t
 unfolding insert
 insert_bad w t s model serial issue x l g = rw (l, insert) (rw g)
 
@@ -203,11 +204,11 @@ module _ {s : Session} {W S : List ℕ} {Been : States} (X : Safe s W S Been) (k
       go : (a : Option ℕ) → find k (certs_at steps) ≡ a → (b : Bool) → too_soon s.c (splitting steps) ≡ b
           → (d : Bool) → no_room steps (free_pages s (numbers steps)) ≡ d → Goal (insert_along k x s steps way.table S)
       go (some y) f b p d q =
-          subst Goal (sym (along_present k x y s steps way.table S f)) (present y (leaf-tells (some y) f) refl (refusal Inserted.Present))
+          subst Goal (sym (along_present k x y s steps way.table S f)) (present y (leaf-tells (some y) f) refl (refusal (Err InsertError.Present)))
       go none f true p d q =
-          subst Goal (sym (along_soon k x s steps way.table S f p)) (sync_first (leaf-tells none f) refl (refusal Inserted.SyncFirst))
+          subst Goal (sym (along_soon k x s steps way.table S f p)) (sync_first (leaf-tells none f) refl (refusal (Err InsertError.SyncFirst)))
       go none f false p true q =
-          subst Goal (sym (along_full k x s steps way.table S f p q)) (no_room_lem (leaf-tells none f) refl (refusal Inserted.Full))
+          subst Goal (sym (along_full k x s steps way.table S f p q)) (no_room_lem (leaf-tells none f) refl (refusal (Err InsertError.Full)))
       go none f false p false q = subst Goal (sym (along_done k x s steps way.table S f p q)) (added (done p q f))
 
   pub insert_key_lem : Inserts s W S Been k x (insert_key k x s W S)
@@ -226,5 +227,5 @@ module _ {s : Session} {W S : List ℕ} {Been : States} (X : Safe s W S Been) (m
       (insert_key_lem X (key_of model serial issue) x (omega (arith, key_of-bound model serial issue wide_serial wide_issue wide_model))
       (good_key-key_of model serial issue wide_serial wide_issue ∙ g) wide-record)
 
-  pub insert_bad_key : good_parts model serial issue ≡ false → insert W S s model serial issue x ≡ insert_refused Inserted.BadKey s W S
+  pub insert_bad_key : good_parts model serial issue ≡ false → insert W S s model serial issue x ≡ insert_refused (Err InsertError.BadKey) s W S
   insert_bad_key g = insert_bad W S s model serial issue x (lengths_for_lem X) g

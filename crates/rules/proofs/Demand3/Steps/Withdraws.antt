@@ -1,6 +1,6 @@
 -- Withdraw keeps the store safe. It answers missing exactly where nothing is told of the key; refused, it leaves what its walk
 -- has mended; done, the key has had one state more, absent, and the table tells it.
-use Rattle.std.proofs.Common.{◌≡◌, ℕ, ◌+◌, ◌^◌, ◌<◌, ◌≤◌, true, false, ◌≢◌, List, ◌∷◌, sym, refl, ap, ◌∙◌, subst, arith}
+use Rattle.std.proofs.Common.{◌≡◌, ℕ, ◌+◌, ◌^◌, ◌<◌, ◌≤◌, true, false, ◌≢◌, List, ◌∷◌, sym, refl, ap, ◌∙◌, subst, arith, Ok, Err}
 use mathlib.Core.Option.{Option, some, none}
 use Rattle.rules.specs.Layout.{leaf_kind, last_key}
 use Rattle.rules.specs.Key.{key_of, good_parts}
@@ -12,7 +12,8 @@ use Rattle.rules.specs.Marks.{wraps, uncounted}
 use Rattle.rules.specs.Call.{Left, lengths_for}
 use Rattle.rules.specs.Withdraw.{removed, withdraw_refused, withdraw_done, withdraw_along, withdraw_key, withdraw}
 use Rattle.rules.specs.declared.Session.{Session}
-use Rattle.rules.specs.declared.Withdrawn.{Withdrawn}
+use Rattle.rules.specs.Answer.{Withdrawn}
+use Rattle.rules.specs.declared.FindError.{FindError}
 use Rattle.rules.proofs.Bytes.Keys.{key_of-bound}
 use Rattle.rules.proofs.Demand3.Ways.Ways.{Tells}
 use Rattle.rules.proofs.Demand3.Ways.Invariant.{States}
@@ -29,7 +30,7 @@ use Rattle.rules.proofs.Demand3.Steps.Inserts.{Stays}
 
 -- the key, which was told with a record, is told to be absent
 pub record Removed (s : Session) (W S : List ℕ) (Been : States) (k x : ℕ) (r : Left Withdrawn) : Type 0 where
-  pub answer : r.answer ≡ Withdrawn.Done
+  pub answer : r.answer ≡ Ok tt
   pub stable : r.stable ≡ S
   -- there is one certificate less
   pub session : r.session ≡ uncounted s
@@ -40,13 +41,13 @@ pub record Removed (s : Session) (W S : List ℕ) (Been : States) (k x : ℕ) (r
 
 -- what a withdrawal of a good key can come to
 pub data Withdraws (s : Session) (W S : List ℕ) (Been : States) (k : ℕ) (r : Left Withdrawn) : Type 0 where
-  missing : Tells s.n W k none → r.answer ≡ Withdrawn.Missing → Stays s W S Been r → Withdraws s W S Been k r
+  missing : Tells s.n W k none → r.answer ≡ Err FindError.Missing → Stays s W S Been r → Withdraws s W S Been k r
   taken : (x : ℕ) → Removed s W S Been k x r → Withdraws s W S Been k r
 
 -- ── The rules' cases, each by itself ────────────────────────────────────────────────────────────────────────────
 
 along_missing : (k : ℕ) (s : Session) (way : List Step) (w t : List ℕ) → find k (certs_at way) ≡ none
-    → withdraw_along k s way w t ≡ withdraw_refused Withdrawn.Missing s w t
+    → withdraw_along k s way w t ≡ withdraw_refused (Err FindError.Missing) s w t
 unfolding withdraw_along
 along_missing k s way w t f = rw (f, withdraw_along)
 
@@ -66,7 +67,7 @@ unfolding withdraw
 good_key_lem w t s model serial issue l g f = rw (l, withdraw) (rw g (rw f))
 
 bad_key : (w t : List ℕ) (s : Session) (model serial issue : ℕ) → lengths_for s w t ≡ true → good_parts model serial issue ≡ false
-    → withdraw w t s model serial issue ≡ withdraw_refused Withdrawn.BadKey s w t
+    → withdraw w t s model serial issue ≡ withdraw_refused (Err FindError.BadKey) s w t
 unfolding withdraw
 bad_key w t s model serial issue l g = rw (l, withdraw) (rw g)
 
@@ -133,7 +134,7 @@ module _ {s : Session} {W S : List ℕ} {Been : States} (X : Safe s W S Been) (k
 
       go : (a : Option ℕ) → find k (certs_at steps) ≡ a → Goal (withdraw_along k s steps way.table S)
       go none f =
-          subst Goal (sym (along_missing k s steps way.table S f)) (missing (leaf-tells none f) refl (refusal Withdrawn.Missing))
+          subst Goal (sym (along_missing k s steps way.table S f)) (missing (leaf-tells none f) refl (refusal (Err FindError.Missing)))
       go (some x) f = subst Goal (sym (along_done k x s steps way.table S f)) (taken x (done x f))
 
   withdraw_key_lem : Withdraws s W S Been k (withdraw_key k s W S)
@@ -151,5 +152,5 @@ module _ {s : Session} {W S : List ℕ} {Been : States} (X : Safe s W S Been) (m
       (sym (good_key_lem W S s model serial issue (lengths_for_lem X) g X.working.fit))
       (withdraw_key_lem X (key_of model serial issue) (omega (arith, key_of-bound model serial issue wide_serial wide_issue wide_model)))
 
-  pub withdraw_bad_key : good_parts model serial issue ≡ false → withdraw W S s model serial issue ≡ withdraw_refused Withdrawn.BadKey s W S
+  pub withdraw_bad_key : good_parts model serial issue ≡ false → withdraw W S s model serial issue ≡ withdraw_refused (Err FindError.BadKey) s W S
   withdraw_bad_key g = bad_key W S s model serial issue (lengths_for_lem X) g

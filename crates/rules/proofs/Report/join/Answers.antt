@@ -1,14 +1,10 @@
 -- `rules::Report::join`: the counts add up; the first reason of the two stays.
 -- Assumes nothing.
-use Rattle.std.proofs.Common.{sym, ◌∙◌}
-use Rattle.rules.specs.Report.{first_of}
+use Rattle.std.proofs.Common.{sym}
 use Rattle.rules.specs.Batch.{joins}
+use Rattle.rules.proofs.Entries.Reasons.{first-or}
 use Rattle.rules.proofs.Report.join.Goals as goal
 
-pub returns-then-is_none : goal.returns-then-is_none
-unfolding joins first_of
-returns-then-is_none c = rw (joins, first_of, sym c.is_none.ensures ∙ c.if-is_none.true, c.wrapping_add_u32-mended.ensures.value)
-
 pub returns : goal.returns
-unfolding joins first_of
-returns c = rw (joins, first_of, sym c.is_none.ensures ∙ c.if-is_none.false, c.wrapping_add_u32-mended.ensures.value)
+unfolding joins
+returns c = rw (joins, sym (first-or c.args.self.reason c.args.next.reason), c.or.ensures, c.wrapping_add_u32.ensures.value)
