@@ -1,12 +1,13 @@
--- A leaf's certificates as code tests them: the first one, then each by the one before it. Assumes nothing.
-use Rattle.std.proofs.Common.{◌≡◌, ℕ, ◌+◌, ◌<◌, ◌≤◌, Bool, true, false, not, ◌&&◌, ltb, leb, List, drop, refl, ap, ◌∙◌}
+-- A leaf's certificates as code tests them: the first one, then those behind it. Assumes nothing.
+use Rattle.std.proofs.Common.{◌≡◌, ℕ, ◌-◌, ◌<◌, ◌≤◌, Bool, true, false, not, List, drop, refl, sym, ap, ◌∙◌}
 use Rattle.rules.specs.Layout.{leaf_header, cert_size}
 use Rattle.rules.specs.Key.{good_key}
 use Rattle.rules.specs.Entry.{Cert}
 use Rattle.rules.specs.Page.{read_each, cert_in}
 use Rattle.head.specs.Head.{cert_at}
-use Rattle.sound.specs.Pass.{certs_pass}
-use Rattle.sound.proofs.Turn.{after, no_entries, first-low, first_bad, first_on, turn_stop, turn_on, turns-end}
+use Rattle.sound.specs.Pass.{risen_on, certs_pass}
+use Rattle.sound.proofs.Turn.{no_entries, first-low, first_bad, first_on}
+use Rattle.sound.proofs.Rising.{risen-read}
 
 abbrev good : Cert → Bool
 good x = good_key x.key
@@ -14,10 +15,6 @@ good x = good_key x.key
 module _ (b : List ℕ) (count low high : ℕ) where
   abbrev answer : Bool
   answer = certs_pass low high (read_each cert_in cert_size count (drop leaf_header b))
-
-  -- the answer is what is left to test from j on, behind the key `last`
-  abbrev pub CertsLeft : ℕ → ℕ → Type 0
-  CertsLeft last j = answer ≡ after cert_in leaf_header cert_size good b count low high last j
 
   pub no_cert : count ≡ 0 → true ≡ answer
   unfolding certs_pass
@@ -34,23 +31,9 @@ module _ (b : List ℕ) (count low high : ℕ) where
     unfolding certs_pass cert_at
     cert_bad f n = first_bad cert_in leaf_header cert_size good b count low high 0 h e (f ∙ ap good_key e) refl n
 
-    pub certs-start : {g : Bool} → g ≡ good_key k → low ≤ k → not g ≡ false → CertsLeft k 1
+    pub certs-start : {g r : Bool} → g ≡ good_key k → low ≤ k → not g ≡ false
+        → r ≡ risen_on (λ j. (cert_at b j).key) (λ j. good_key (cert_at b j).key) high k (count - 1) 1 → r ≡ answer
     unfolding certs_pass cert_at
-    certs-start f l y = first_on cert_in leaf_header cert_size good b count low high 0 h e (f ∙ ap good_key e) refl l y
-
-  -- ── Each one behind it ────────────────────────────────────────────────────────────────────────────────────────
-
-  module _ (last j k : ℕ) {f : Bool} (h : j < count) (e : k ≡ (cert_at b j).key) (q : f ≡ (ltb last k && good_key k)) (a : CertsLeft last j) where
-    of_entry : f ≡ (ltb last k && good_key (cert_at b j).key)
-    of_entry = q ∙ ap (λ (y : ℕ). ltb last k && good_key y) e
-
-    pub certs_stop : not f ≡ true → false ≡ answer
-    unfolding cert_at
-    certs_stop n = turn_stop cert_in leaf_header cert_size good b count low high j last h e of_entry a n
-
-    pub certs_on : (next : ℕ) → next ≡ j + 1 → not f ≡ false → CertsLeft k next
-    unfolding cert_at
-    certs_on next s y = rw s (turn_on cert_in leaf_header cert_size good b count low high j last h e of_entry a y)
-
-  pub certs-end : (last j : ℕ) → count ≤ j → CertsLeft last j → leb last high ≡ answer
-  certs-end last j h a = turns-end cert_in leaf_header cert_size good b count low high j last h a
+    certs-start f l y z =
+        z ∙ risen-read cert_in leaf_header cert_size good b high k (count - 1) 1
+        ∙ sym (first_on cert_in leaf_header cert_size good b count low high 0 h e (f ∙ ap good_key e) refl l y)

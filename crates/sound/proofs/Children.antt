@@ -1,5 +1,5 @@
 -- An inner page's entries as code tests them: what one names, and that the first starts at low. Assumes nothing.
-use Rattle.std.proofs.Common.{◌≡◌, ℕ, zero, suc, ◌+◌, ◌-◌, ◌%◌, ◌^◌, ◌<◌, ◌≤◌, Bool, true, false, not, ◌&&◌, eqb, ltb, leb, List, drop, sym, refl, arith, ltb-false, ltb-true, le-ltb, eq-eqb, ne_eqb}
+use Rattle.std.proofs.Common.{◌≡◌, ℕ, zero, suc, ◌+◌, ◌-◌, ◌%◌, ◌^◌, ◌<◌, ◌≤◌, Bool, true, false, not, ◌&&◌, eqb, ltb, List, drop, sym, refl, ◌∙◌, arith, ltb-false, ltb-true, le-ltb, eq-eqb, ne_eqb}
 use mathlib.Core.Bool.{and-false}
 use Rattle.rules.specs.Layout.{inner_header, child_size}
 use Rattle.rules.specs.Test.{between}
@@ -7,10 +7,11 @@ use Rattle.rules.specs.Entry.{Child}
 use Rattle.rules.specs.Page.{read_each, child_in}
 use Rattle.rules.specs.Sound.{starts_at, names_pages}
 use Rattle.rules.proofs.Entries.Tests.{between-of, between-below, between-above}
-use Rattle.sound.specs.Pass.{children_pass}
+use Rattle.sound.specs.Pass.{risen_on, children_pass}
 use Rattle.head.specs.Head.{child_at}
 use Rattle.head.proofs.Left.{left-all, left-more}
-use Rattle.sound.proofs.Turn.{after, first_bad, first_on, turn_stop, turn_on, turns-end}
+use Rattle.sound.proofs.Turn.{first_bad, first_on}
+use Rattle.sound.proofs.Rising.{risen-read}
 
 -- ── What an entry names ─────────────────────────────────────────────────────────────────────────────────────────
 
@@ -38,10 +39,6 @@ module _ (b : List ℕ) (count low high n : ℕ) where
   abbrev answer : Bool
   answer = children_pass n low high (read_each child_in child_size count (drop inner_header b))
 
-  -- the answer is what is left to test from j on, behind the key `last`
-  abbrev pub ChildrenLeft : ℕ → ℕ → Type 0
-  ChildrenLeft last j = answer ≡ after child_in inner_header child_size (names_pages n) b count low high last j
-
   pub no_child : count ≡ 0 → false ≡ answer
   unfolding children_pass starts_at read_each
   no_child h = rw (h, read_each, starts_at)
@@ -59,20 +56,9 @@ module _ (b : List ℕ) (count low high n : ℕ) where
     unfolding children_pass child_at
     starts_bad f y = rw (← first_bad child_in inner_header child_size (names_pages n) b count low high 0 h e f refl y, and-false)
 
-    pub starts_on : {g : Bool} → g ≡ names_pages n (child_at b 0) → k ≡ low → not g ≡ false → ChildrenLeft k 1
+    pub starts_on : {g r : Bool} → g ≡ names_pages n (child_at b 0) → k ≡ low → not g ≡ false
+        → r ≡ risen_on (λ j. (child_at b j).key) (λ j. names_pages n (child_at b j)) high k (count - 1) 1 → r ≡ answer
     unfolding children_pass child_at
-    starts_on f q y = rw (starts, eq-eqb k low q) (first_on child_in inner_header child_size (names_pages n) b count low high 0 h e f refl (omega arith) y)
-
-  -- ── Each one behind it ────────────────────────────────────────────────────────────────────────────────────────
-
-  module _ (last j k : ℕ) {f : Bool} (h : j < count) (e : k ≡ (child_at b j).key) (q : f ≡ (ltb last k && names_pages n (child_at b j))) (a : ChildrenLeft last j) where
-    pub children_stop : not f ≡ true → false ≡ answer
-    unfolding child_at
-    children_stop y = turn_stop child_in inner_header child_size (names_pages n) b count low high j last h e q a y
-
-    pub children_on : (next : ℕ) → next ≡ j + 1 → not f ≡ false → ChildrenLeft k next
-    unfolding child_at
-    children_on next s y = rw s (turn_on child_in inner_header child_size (names_pages n) b count low high j last h e q a y)
-
-  pub children-end : (last j : ℕ) → count ≤ j → ChildrenLeft last j → leb last high ≡ answer
-  children-end last j h a = turns-end child_in inner_header child_size (names_pages n) b count low high j last h a
+    starts_on f q y z =
+        z ∙ risen-read child_in inner_header child_size (names_pages n) b high k (count - 1) 1
+        ∙ sym (rw (starts, eq-eqb k low q) (first_on child_in inner_header child_size (names_pages n) b count low high 0 h e f refl (omega arith) y))

@@ -1,6 +1,7 @@
 -- Laws of the one pass over a page's entries, and of soundness by kind.
 pub mod Scan
 pub mod Turn
+pub mod Rising
 pub mod GoodKey
 pub mod Certs
 pub mod Children

@@ -1,13 +1,13 @@
--- The loop over a page's entries: before each turn the answer is what `risen` says of the entries left. So a turn either
--- knows the answer or leaves one entry less. Assumes nothing.
-use Rattle.std.proofs.Common.{◌≡◌, ℕ, ◌+◌, ◌<◌, ◌≤◌, Bool, true, false, not, ◌&&◌, ltb, leb, List, drop, sym, ◌∙◌, le-leb}
-use mathlib.Core.Bool.{and-false, and_assoc}
+-- The first of a page's entries: it decides, or what is left to test is what `risen` says of the entries behind it.
+-- Assumes nothing.
+use Rattle.std.proofs.Common.{◌≡◌, ℕ, ◌+◌, ◌<◌, ◌≤◌, Bool, true, false, not, ◌&&◌, leb, List, drop, sym, ◌∙◌, le-leb}
+use mathlib.Core.Bool.{and-false}
 use borrow.Author.Tests.{lt-leb, not-true, not-false}
 use Rattle.rules.specs.Test.{all}
 use Rattle.rules.specs.Entry.{Entry, keys, rising}
 use Rattle.rules.specs.Page.{read_each}
 use Rattle.rules.specs.Sound.{in_order}
-use Rattle.head.proofs.Left.{entry, left, left-all, left-more, left-none}
+use Rattle.head.proofs.Left.{entry, left, left-all, left-more}
 use Rattle.sound.proofs.Scan.{risen, one_pass}
 
 module _ {B : Type 0} (read : List ℕ → Entry B) (header size : ℕ) (good : Entry B → Bool) (b : List ℕ) (count low high : ℕ) where
@@ -39,19 +39,3 @@ module _ {B : Type 0} (read : List ℕ → Entry B) (header size : ℕ) (good : 
 
     pub first_on : j ≡ 0 → low ≤ k → not g ≡ false → passes ≡ after k (j + 1)
     first_on z l y = first z ∙ rw (le-leb low k l, not-false g y)
-
-  -- a turn: an entry that follows the one before it, or not
-  module _ (j : ℕ) {k : ℕ} {f : Bool} (last : ℕ) (h : j < count) (e : k ≡ (entry read header size b count j).key) (q : f ≡ (ltb last k && good (entry read header size b count j))) {answer : Bool} (a : answer ≡ after last j) where
-    turn : answer ≡ (f && after k (j + 1))
-    unfolding risen
-    turn = a ∙ rw (q, e, left-more read header size b count j h, risen, and_assoc)
-
-    pub turn_stop : not f ≡ true → false ≡ answer
-    turn_stop n = sym (turn ∙ rw (not-true f n))
-
-    pub turn_on : not f ≡ false → answer ≡ after k (j + 1)
-    turn_on y = turn ∙ rw (not-false f y)
-
-  pub turns-end : (j : ℕ) {answer : Bool} (last : ℕ) → count ≤ j → answer ≡ after last j → leb last high ≡ answer
-  unfolding risen
-  turns-end j last h a = sym (a ∙ rw (left-none read header size b count j h, risen))

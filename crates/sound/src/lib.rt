@@ -9,7 +9,7 @@
 
 #![tactic(auto)]
 
-ghost use Rattle.std.specs.Prelude.{◌≡◌, ◌+◌, ◌*◌, ◌≤◌, ◌&&◌, length, drop, nat_lt};
+ghost use Rattle.std.specs.Prelude.{◌≡◌, ℕ, ◌+◌, ◌-◌, ◌*◌, ◌≤◌, Bool, ◌&&◌, List, length, drop, nat_lt};
 ghost use Rattle.rules.specs.Layout.{page_size, leaf_header, inner_header, cert_size, child_size};
 ghost use Rattle.rules.specs.Key.{good_key};
 ghost use Rattle.rules.specs.Page.{read_each, cert_in, child_in, page_in};
@@ -19,8 +19,8 @@ ghost use Rattle.rules.specs.Table.{read};
 ghost use Rattle.rules.specs.Sound.{names_pages, sound};
 ghost use Rattle.rules.specs.Place.{kind_asked, unfit, fits, mendable};
 ghost use Rattle.rules.specs.Report.{reason_at};
-ghost use Rattle.head.specs.Head.{child_at};
-ghost use Rattle.sound.specs.Pass.{certs_pass, children_pass, names_previous, covers};
+ghost use Rattle.head.specs.Head.{cert_at, child_at};
+ghost use Rattle.sound.specs.Pass.{risen_on, certs_pass, children_pass, names_previous, covers};
 
 use head::{Table, cert_key, child_key, child_number, child_previous, read_head};
 use rules::{INNER_ROOM, LEAF, LEAF_ROOM, MODEL, Place, Reason, SERIAL, TOP};
@@ -42,51 +42,69 @@ fn good_key(key: u64) -> bool
     key % SERIAL != 0
 }
 
-// A leaf's key stands behind the one before it, and no part of it is zero.
-fn cert_follows(last: u64, key: u64) -> bool
-    ensures { result ≡ (nat_lt last key && good_key key) }
-{
-    if key <= last {
-        return false;
-    }
-    good_key(key)
+// What the kind of a page decides of its entries: where the key of one stands, and what is asked of it beside the order.
+trait Kind: Copy {
+    ghost header: { ℕ };
+
+    ghost size: { ℕ };
+
+    ghost key_at: { List ℕ → ℕ → ℕ };
+
+    ghost good_at: { Self → List ℕ → ℕ → Bool };
+
+    fn key(self, page: &[u8], j: usize) -> u64
+        requires { header + size * (j + 1) ≤ length page.now }
+        ensures { result ≡ key_at page.now j };
+
+    fn good(self, page: &[u8], j: usize, key: u64) -> bool
+        requires { (header + size * (j + 1) ≤ length page.now) × (key ≡ key_at page.now j) }
+        ensures { result ≡ good_at self page.now j };
 }
 
-// The leaf's keys rise strictly within low to high, and none has a part that is zero.
-fn certs_pass(page: &[u8], count: usize, low: u64, high: u64) -> bool
-    requires { leaf_header + cert_size * count ≤ length page.now }
-    ensures { result ≡ certs_pass low high (read_each cert_in cert_size count (drop leaf_header page.now)) }
-{
-    if count == 0 {
-        return true;
+// In a leaf no part of a key is zero.
+#[derive(Clone, Copy)]
+struct Leaf;
+
+impl Kind for Leaf {
+    ghost header = { leaf_header };
+
+    ghost size = { cert_size };
+
+    ghost key_at = { λ b j. (cert_at b j).key };
+
+    ghost good_at = { λ s b j. good_key (cert_at b j).key };
+
+    fn key(self, page: &[u8], j: usize) -> u64 {
+        cert_key(page, j)
     }
-    let mut last = cert_key(page, 0);
-    if last < low {
-        return false;
+
+    fn good(self, _page: &[u8], _j: usize, key: u64) -> bool {
+        good_key(key)
     }
-    if !good_key(last) {
-        return false;
+}
+
+// In an inner page an entry names pages of the table, which has so many.
+#[derive(Clone, Copy)]
+struct Inner {
+    pages: usize,
+}
+
+impl Kind for Inner {
+    ghost header = { inner_header };
+
+    ghost size = { child_size };
+
+    ghost key_at = { λ b j. (child_at b j).key };
+
+    ghost good_at = { λ s b j. names_pages s.pages (child_at b j) };
+
+    fn key(self, page: &[u8], j: usize) -> u64 {
+        child_key(page, j)
     }
-    let mut j = 1;
-    while j + 1 < count {
-        let key = cert_key(page, j);
-        if !cert_follows(last, key) {
-            return false;
-        }
-        last = cert_key(page, j + 1);
-        if !cert_follows(key, last) {
-            return false;
-        }
-        j += 2;
+
+    fn good(self, page: &[u8], j: usize, _key: u64) -> bool {
+        names_pages(page, j, self.pages)
     }
-    if j == count {
-        return last <= high;
-    }
-    let key = cert_key(page, j);
-    if !cert_follows(last, key) {
-        return false;
-    }
-    key <= high
 }
 
 // A child is a page other than page 0, and its previous is a page or 0. One less, page 0 is the largest number, so a
@@ -102,15 +120,61 @@ fn names_pages(page: &[u8], j: usize, n: usize) -> bool
     (child_previous(page, j) as usize) < n
 }
 
-// An inner page's key stands behind the one before it, and its entry names pages.
-fn child_follows(page: &[u8], j: usize, last: u64, key: u64, n: usize) -> bool
-    requires { inner_header + child_size * (j + 1) ≤ length page.now }
-    ensures { result ≡ (nat_lt last key && names_pages n (child_at page.now j)) }
+// An entry stands behind the one before it, and is good.
+fn follows<K: Kind>(kind: K, page: &[u8], j: usize, last: u64, key: u64) -> bool
+    requires { (K.header + K.size * (j + 1) ≤ length page.now) × (key ≡ K.key_at page.now j) }
+    ensures { result ≡ (nat_lt last key && K.good_at kind page.now j) }
 {
     if key <= last {
         return false;
     }
-    names_pages(page, j, n)
+    kind.good(page, j, key)
+}
+
+// Behind the first entry keys rise strictly up to high, and every entry is good. Two entries a round: see above.
+fn rises<K: Kind>(kind: K, page: &[u8], count: usize, first: u64, high: u64) -> bool
+    requires { (1 ≤ count) × (K.header + K.size * count ≤ length page.now) }
+    ensures { result ≡ risen_on (K.key_at page.now) (K.good_at kind page.now) high first (count - 1) 1 }
+{
+    let mut last = first;
+    let mut j = 1;
+    while count - j > 1 {
+        let key = kind.key(page, j);
+        if !follows(kind, page, j, last, key) {
+            return false;
+        }
+        last = kind.key(page, j + 1);
+        if !follows(kind, page, j + 1, key, last) {
+            return false;
+        }
+        j += 2;
+    }
+    if j == count {
+        return last <= high;
+    }
+    let key = kind.key(page, j);
+    if !follows(kind, page, j, last, key) {
+        return false;
+    }
+    key <= high
+}
+
+// The leaf's keys rise strictly within low to high, and none has a part that is zero.
+fn certs_pass(page: &[u8], count: usize, low: u64, high: u64) -> bool
+    requires { leaf_header + cert_size * count ≤ length page.now }
+    ensures { result ≡ certs_pass low high (read_each cert_in cert_size count (drop leaf_header page.now)) }
+{
+    if count == 0 {
+        return true;
+    }
+    let first = cert_key(page, 0);
+    if first < low {
+        return false;
+    }
+    if !good_key(first) {
+        return false;
+    }
+    rises(Leaf, page, count, first, high)
 }
 
 // The inner page's first key is its low, its keys rise strictly up to high, and every entry names pages.
@@ -121,33 +185,14 @@ fn children_pass(page: &[u8], count: usize, low: u64, high: u64, n: usize) -> bo
     if count == 0 {
         return false;
     }
-    let mut last = child_key(page, 0);
-    if last != low {
+    let first = child_key(page, 0);
+    if first != low {
         return false;
     }
     if !names_pages(page, 0, n) {
         return false;
     }
-    let mut j = 1;
-    while j + 1 < count {
-        let key = child_key(page, j);
-        if !child_follows(page, j, last, key, n) {
-            return false;
-        }
-        last = child_key(page, j + 1);
-        if !child_follows(page, j + 1, key, last, n) {
-            return false;
-        }
-        j += 2;
-    }
-    if j == count {
-        return last <= high;
-    }
-    let key = child_key(page, j);
-    if !child_follows(page, j, last, key, n) {
-        return false;
-    }
-    key <= high
+    rises(Inner { pages: n }, page, count, first, high)
 }
 
 // The page is sound, whoever asks for it.
@@ -235,12 +280,10 @@ fn has_key(page: &[u8], count: usize, key: u64) -> bool
     requires { inner_header + child_size * count ≤ length page.now }
     ensures { result ≡ mem key (keys (read_each child_in child_size count (drop inner_header page.now))) }
 {
-    let mut j = 0;
-    while j < count {
+    for j in 0..count {
         if child_key(page, j) == key {
             return true;
         }
-        j += 1;
     }
     false
 }
