@@ -18,7 +18,8 @@ ghost use Rattle.enter.specs.Entering.{above_of, entering, told};
 use head::{Head, Table, page_at, read_head};
 use rules::{Place, Reason};
 
-// The pages above on the way from the root, at most two; 0, which is never a child, stands for none.
+// The pages above on the way from the root, at most two; 0, which is never a child, stands for none, as in a page: so
+// the test of a child against them is two comparisons.
 #[derive(Clone, Copy)]
 pub struct Above {
     pub parent: u16,

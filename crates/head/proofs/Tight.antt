@@ -46,12 +46,6 @@ cert_key_at_tight κs a pre z z' l l' p q = (p ∙ sym q, refl)
 pub cert_record_at_tight : Tight this.cert_record_at.Kinds.ps this.cert_record_at.Kinds.r this.cert_record_at.Reads.Pre this.cert_record_at.Reads.Post
 cert_record_at_tight κs a pre z z' l l' p q = (p ∙ sym q, refl)
 
-pub child_key_at_tight : Tight this.child_key_at.Kinds.ps this.child_key_at.Kinds.r this.child_key_at.Reads.Pre this.child_key_at.Reads.Post
-child_key_at_tight κs a pre z z' l l' p q = (p ∙ sym q, refl)
-
-pub kid_at_tight : Tight this.kid_at.Kinds.ps this.kid_at.Kinds.r this.kid_at.Reads.Pre this.kid_at.Reads.Post
-kid_at_tight κs a pre z z' l l' p q = (p ∙ sym q, refl)
-
 pub read_zero_tight : Tight this.read_zero.Kinds.ps this.read_zero.Kinds.r this.read_zero.Reads.Pre this.read_zero.Reads.Post
 read_zero_tight κs a pre z z' l l' p q = (p ∙ sym q, refl)
 

@@ -9,7 +9,7 @@
 #![tactic(auto)]
 
 ghost use Rattle.std.specs.Prelude.{◌≡◌, ◌+◌, ◌*◌, ◌≤◌, ◌<◌, length, drop, get_or};
-ghost use Rattle.rules.specs.Layout.{page_size, common_header, leaf_header, inner_header, cert_size, child_size, leaf_room, inner_room};
+ghost use Rattle.rules.specs.Layout.{page_size, common_header, leaf_header, inner_header, cert_size, child_size, leaf_room};
 ghost use Rattle.rules.specs.Table.{page_at, fit0, number0, set_number, set_root};
 ghost use Rattle.rules.specs.Page.{read_each, child_in};
 ghost use Rattle.rules.specs.Place.{root_place, high_before, places_in};
@@ -210,24 +210,6 @@ pub fn cert_record_at(table: &[u8], i: usize, j: usize) -> u32
     let from = i * PAGE;
     let to = from + PAGE;
     cert_record(&table[from..to], j)
-}
-
-pub fn child_key_at(table: &[u8], i: usize, j: usize) -> u64
-    requires { ((i + 1) * page_size ≤ length table.now) × (j < inner_room) }
-    ensures { result ≡ (child_at (page_at table.now i) j).key }
-{
-    let from = i * PAGE;
-    let to = from + PAGE;
-    child_key(&table[from..to], j)
-}
-
-pub fn kid_at(table: &[u8], i: usize, count: usize, j: usize, want: u16, high: u64) -> Place
-    requires { ((i + 1) * page_size ≤ length table.now) × (j < count) × (count ≤ inner_room) }
-    ensures { result ≡ get_or (places_in want high (read_each child_in child_size count (drop inner_header (page_at table.now i)))) j nowhere }
-{
-    let from = i * PAGE;
-    let to = from + PAGE;
-    kid(&table[from..to], count, j, want, high)
 }
 
 // Page 0 is read and changed where it lies, at the table's start.
