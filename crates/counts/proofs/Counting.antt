@@ -26,7 +26,7 @@ use Rattle.dry.specs.declared.Damaged.{Damaged}
 use Rattle.dry.specs.declared.Cursor.{Cursor}
 use Rattle.dry.specs.declared.LeafAt.{LeafAt}
 use Rattle.dry.proofs.Tallies.{leaf_room_lem}
-use Rattle.dry.proofs.Going.{Going, Taken, leaf_view, root-comes, root-leads, full_sees, end_sees, damage_sees, leaf_less, leaf-inside, leaf_there, leaf-comes, leaf-leads}
+use Rattle.dry.proofs.Going.{Going, Taken, leaf_view, root-comes, root-leads, full_sees, end_sees, damage_sees, leaf_less, leaf-below, leaf-inside, leaf_there, leaf-comes, leaf-leads}
 use Rattle.counts.specs.Tally.{everything, no_tally, counted_all, Few, ahead_by, ahead_of}
 use Rattle.counts.specs.declared.Tally.{Tally}
 use Rattle.counts.proofs.Tallies.{few-none, few-all, certs-all, certs-found, all_append}
@@ -104,6 +104,9 @@ module _ {n : ℕ} {a : Asked} {t : List ℕ} (ea : a ≡ everything) where
       module _ (l : LeafAt) (q : s ≡ Ok (Some l)) where
         pub counting_passes : way_left l.after < way_left c
         counting_passes = leaf_less y l q
+
+        pub counting_below : l.page < n
+        counting_below = leaf-below y l q
 
         pub counting_inside : (l.page + 1) * page_size ≤ length t
         counting_inside = leaf-inside y l q

@@ -45,6 +45,11 @@ module _ (by last key count : ℕ) where
       go true e = rw (one_more, e) (omega arith)
       go false e = rw (one_more, e) (omega arith)
 
+-- all numbers 0
+pub tally_none : {z : Tally} → z.models ≡ 0 → z.meters ≡ 0 → z.certs ≡ 0 → z.last ≡ 0 → z ≡ no_tally
+unfolding no_tally
+tally_none p q r s = λ i. record { models = p i; meters = q i; certs = r i; last = s i }
+
 pub few-none : Few no_tally
 unfolding no_tally
 few-none = record { models = omega arith; meters = omega arith }

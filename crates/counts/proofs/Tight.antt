@@ -6,9 +6,6 @@ use Rattle.counts.proofs as this
 pub everything_tight : Tight this.everything.Kinds.ps this.everything.Kinds.r this.everything.Reads.Pre this.everything.Reads.Post
 everything_tight κs a pre z z' l l' p q = (p ∙ sym q, refl)
 
-pub no_tally_tight : Tight this.no_tally.Kinds.ps this.no_tally.Kinds.r this.no_tally.Reads.Pre this.no_tally.Reads.Post
-no_tally_tight κs a pre z z' l l' p q = (p ∙ sym q, refl)
-
 pub counted_tight : Tight this.counted.Kinds.ps this.counted.Kinds.r this.counted.Reads.Pre this.counted.Reads.Post
 counted_tight κs a pre z z' l l' p q = (p ∙ sym q, refl)
 

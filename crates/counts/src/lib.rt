@@ -9,18 +9,21 @@
 #![tactic(auto)]
 
 ghost use Rattle.std.specs.Prelude.{◌≡◌, true, ◌+◌, ◌*◌, ◌≤◌, ◌<◌, length, drop};
-ghost use Rattle.rules.specs.Layout.{page_size, leaf_header, cert_size, leaf_room};
+ghost use Rattle.rules.specs.Layout.{leaf_header, cert_size, leaf_room};
 ghost use Rattle.rules.specs.Entry.{cut};
 ghost use Rattle.rules.specs.Page.{read_each, cert_in};
-ghost use Rattle.rules.specs.Table.{page_at, fit0};
-ghost use Rattle.counts.specs.Tally.{everything, no_tally, one_more, counted, counted_in, counted_all, Few, ahead_of};
+ghost use Rattle.rules.specs.Table.{fit0};
+ghost use Rattle.counts.specs.Tally.{everything, one_more, counted, counted_in, counted_all, Few, ahead_of};
 
 use dry::Cursor;
-use head::{cert_key_at, head_at};
+use head::{Table, cert_key, read_head};
 use rules::{Asked, LAST_KEY, MOST};
 
-// How many there are so far, and the last key; 0 is no key.
-#[derive(Clone, Copy)]
+// How many there are so far, and the last key; 0 is no key. The default stands before the first certificate.
+//
+// That there are no more models or meters than certificates is asked in clauses, and is no fact of the type: definitions
+// build tallies too, and each would have to carry the proof.
+#[derive(Clone, Copy, Default)]
 pub struct Tally {
     pub models: usize,
     pub meters: usize,
@@ -44,18 +47,6 @@ pub fn everything() -> Asked
         low: 0,
         high: LAST_KEY,
         room: ROOM,
-    }
-}
-
-// Before the first certificate.
-pub fn no_tally() -> Tally
-    ensures { result ≡ no_tally }
-{
-    Tally {
-        models: 0,
-        meters: 0,
-        certs: 0,
-        last: 0,
     }
 }
 
@@ -101,46 +92,36 @@ fn counted_in(low: u64, high: u64, c: Tally, key: u64) -> Tally
 }
 
 // The certificates of a leaf that lie in a range.
-fn count_leaf(table: &[u8], page: usize, entries: usize, low: u64, high: u64, c: Tally) -> Tally
-    requires { ((page + 1) * page_size ≤ length table.now) × (entries ≤ leaf_room) × Few c × (c.certs + leaf_room ≤ 4294967295) }
-    ensures { result ≡ counted_all c (cut low high (read_each cert_in cert_size entries (drop leaf_header (page_at table.now page)))) }
+fn count_leaf(page: &[u8], entries: usize, low: u64, high: u64, c: Tally) -> Tally
+    requires { (leaf_header + cert_size * entries ≤ length page.now) × (entries ≤ leaf_room) × Few c × (c.certs + leaf_room ≤ 4294967295) }
+    ensures { result ≡ counted_all c (cut low high (read_each cert_in cert_size entries (drop leaf_header page.now))) }
 {
-    let mut t = c;
-    let mut j = 0;
-    while j < entries {
-        t = counted_in(low, high, t, cert_key_at(table, page, j));
-        j += 1;
+    let mut tally = c;
+    for j in 0..entries {
+        tally = counted_in(low, high, tally, cert_key(page, j));
     }
-    t
+    tally
 }
 
 // The tally of what a walk over all keys finds; where it meets a damaged place, of what it found before that.
-pub fn count_of(table: &[u8], n: usize) -> Result<Tally, Tally>
-    requires { (length table.now ≡ n * page_size) × (fit0 n table.now ≡ true) }
-    ensures { result ≡ ahead_of n table.now }
+pub fn count_of(table: Table<'_>) -> Result<Tally, Tally>
+    requires { fit0 table.pages table.bytes.now ≡ true }
+    ensures { result ≡ ahead_of table.entry.pages table.entry.bytes.now }
 {
     let a = everything();
     let mut at = Cursor::AtRoot;
-    let mut tally = no_tally();
+    let mut tally = Tally::default();
     let mut mended = [false; MOST];
     while tally.certs < a.room {
-        let Ok(next) = dry::next_leaf(table, n, a, at, &mut mended) else {
+        let Ok(next) = dry::next_leaf(table, a, at, &mut mended) else {
             return Err(tally);
         };
         let Some(leaf) = next else {
             return Ok(tally);
         };
-        let page = leaf.page as usize;
-        let head = head_at(table, page);
-        let place = leaf.place;
-        tally = count_leaf(
-            table,
-            page,
-            head.count as usize,
-            place.low,
-            place.high,
-            tally,
-        );
+        let page = table.page(leaf.page as usize);
+        let entries = read_head(page).count as usize;
+        tally = count_leaf(page, entries, leaf.place.low, leaf.place.high, tally);
         at = leaf.after;
     }
     Ok(tally)

@@ -113,6 +113,9 @@ module _ {n : ℕ} {a : Asked} {t : List ℕ} where
             let x = leaf-shown in
             sourced n t y.long (x.parent ∷ x.top ∷ []) x.before l.place l.page x.source_is
 
+        pub leaf-below : l.page < n
+        leaf-below = leaf_sourced.inside
+
         pub leaf-inside : (l.page + 1) * page_size ≤ length t
         leaf-inside = source-inside n t y.long l.page leaf_sourced
 

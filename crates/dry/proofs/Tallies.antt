@@ -1,13 +1,14 @@
 -- Certificates counted one by one come to what the rules find on a page. Assumes nothing.
-use Prim.Native.Nat.{ℕ, suc, ◌+◌, ◌*◌, ◌-◌, ◌≤◌, ◌<◌}
+use Prim.Native.Nat.{ℕ, suc, min, max, ◌+◌, ◌*◌, ◌-◌, ◌≤◌, ◌<◌}
 use native.Mathlib.Omega.{arith}
+use native.Mathlib.Nat.{le-min, max-le, le-max_left, le-max_right, min-le_left, min-le_right, min-eq_left, min-eq_right, min_comm}
 use mathlib.Core.Path.{◌≡◌, refl, ap, sym, ◌∙◌}
 use mathlib.Core.Bool.{Bool, true, false, ◌&&◌}
 use mathlib.Core.List.{List, [], ◌∷◌}
 use lib.Dec.{leb, ltb}
-use lib.ListN.{length, take, drop}
-use lib.Seq.{take-nil, take_all, length-take-le}
-use borrow.Author.Tests.{leb-true, leb-false, le-leb, lt-leb, lt-ltb, le-ltb, ltb-true, ltb-false}
+use lib.ListN.{length, length-take, take, drop}
+use lib.Seq.{take-nil}
+use borrow.Author.Tests.{leb-true, le-leb, lt-leb, lt-ltb, le-ltb, ltb-true, ltb-false}
 use Rattle.rules.specs.Layout.{leaf_header, cert_size, leaf_kind, leaf_room}
 use Rattle.rules.specs.Test.{between}
 use Rattle.rules.specs.Entry.{Cert, cut}
@@ -23,84 +24,52 @@ use Rattle.head.specs.Head.{cert_at, head_in}
 use Rattle.head.specs.declared.Head.{Head}
 use Rattle.head.proofs.Headers.{head_of, head_in-page, certs-leaf}
 use Rattle.head.proofs.Left.{left, left-all, left-more, left-none}
-use Rattle.dry.specs.Count.{larger, smaller, tallied, tally, tally_all, lies_in, Within, tally_at}
+use Rattle.dry.specs.Count.{tallied, tally, tally_all, lies_in, Within, tally_at}
 
 -- ── The narrower range ──────────────────────────────────────────────────────────────────────────────────────────
 
-module _ (x y : ℕ) where
-  pub larger_right : x ≤ y → y ≡ larger x y
-  unfolding larger
-  larger_right h = rw (larger, le-leb x y h)
-
-  pub larger-left : y < x → x ≡ larger x y
-  unfolding larger
-  larger-left h = rw (larger, lt-leb x y h)
-
-  pub smaller-left : x ≤ y → x ≡ smaller x y
-  unfolding smaller
-  smaller-left h = rw (smaller, le-leb x y h)
-
-  pub smaller_right : y < x → y ≡ smaller x y
-  unfolding smaller
-  smaller_right h = rw (smaller, lt-leb x y h)
-
 -- a key in both ranges is in the narrower one, and no other is
 module _ (l h low high k : ℕ) where
-  in_both : between l h k ≡ true → between low high k ≡ true → between (larger l low) (smaller h high) k ≡ true
-  in_both p q = between-of (larger l low) (smaller h high) k (from (leb l low) refl) (to (leb h high) refl)
-    where
-      from : (b : Bool) → leb l low ≡ b → larger l low ≤ k
-      from true e = omega (arith, larger_right l low (leb-true l low e), between-low low high k q)
-      from false e = omega (arith, larger-left l low (leb-false l low e), between-low l h k p)
+  in_both : between l h k ≡ true → between low high k ≡ true → between (max l low) (min h high) k ≡ true
+  in_both p q =
+      between-of (max l low) (min h high) k (max-le (between-low l h k p) (between-low low high k q))
+      (le-min (between-high l h k p) (between-high low high k q))
 
-      to : (b : Bool) → leb h high ≡ b → k ≤ smaller h high
-      to true e = omega (arith, smaller-left h high (leb-true h high e), between-high l h k p)
-      to false e = omega (arith, smaller_right h high (leb-false h high e), between-high low high k q)
+  module _ (p : between (max l low) (min h high) k ≡ true) where
+    from : max l low ≤ k
+    from = between-low (max l low) (min h high) k p
 
-  in_first : between (larger l low) (smaller h high) k ≡ true → between l h k ≡ true
-  in_first p = between-of l h k (from (leb l low) refl) (to (leb h high) refl)
-    where
-      from : (b : Bool) → leb l low ≡ b → l ≤ k
-      from true e = omega (arith, larger_right l low (leb-true l low e), leb-true l low e, between-low (larger l low) (smaller h high) k p)
-      from false e = omega (arith, larger-left l low (leb-false l low e), between-low (larger l low) (smaller h high) k p)
+    to : k ≤ min h high
+    to = between-high (max l low) (min h high) k p
 
-      to : (b : Bool) → leb h high ≡ b → k ≤ h
-      to true e = omega (arith, smaller-left h high (leb-true h high e), between-high (larger l low) (smaller h high) k p)
-      to false e = omega (arith, smaller_right h high (leb-false h high e), leb-false h high e, between-high (larger l low) (smaller h high) k p)
+    in_first : between l h k ≡ true
+    in_first = between-of l h k (omega (arith, from, le-max_left l low)) (omega (arith, to, min-le_left h high))
 
-  in_second : between (larger l low) (smaller h high) k ≡ true → between low high k ≡ true
-  in_second p = between-of low high k (from (leb l low) refl) (to (leb h high) refl)
-    where
-      from : (b : Bool) → leb l low ≡ b → low ≤ k
-      from true e = omega (arith, larger_right l low (leb-true l low e), between-low (larger l low) (smaller h high) k p)
-      from false e = omega (arith, larger-left l low (leb-false l low e), leb-false l low e, between-low (larger l low) (smaller h high) k p)
+    in_second : between low high k ≡ true
+    in_second = between-of low high k (omega (arith, from, le-max_right l low)) (omega (arith, to, min-le_right h high))
 
-      to : (b : Bool) → leb h high ≡ b → k ≤ high
-      to true e = omega (arith, smaller-left h high (leb-true h high e), leb-true h high e, between-high (larger l low) (smaller h high) k p)
-      to false e = omega (arith, smaller_right h high (leb-false h high e), between-high (larger l low) (smaller h high) k p)
-
-cut-both : (l h low high : ℕ) (xs : List Cert) → cut l h (cut low high xs) ≡ cut (larger l low) (smaller h high) xs
-cut-both l h low high [] = ap (cut l h) (cut-nil low high) ∙ cut-nil l h ∙ sym (cut-nil (larger l low) (smaller h high))
+cut-both : (l h low high : ℕ) (xs : List Cert) → cut l h (cut low high xs) ≡ cut (max l low) (min h high) xs
+cut-both l h low high [] = ap (cut l h) (cut-nil low high) ∙ cut-nil l h ∙ sym (cut-nil (max l low) (min h high))
 cut-both l h low high (x ∷ xs) =
     go (between low high x.key) refl (between l h x.key) refl (cut-both l h low high xs)
   where
     go : (b : Bool) → between low high x.key ≡ b → (d : Bool) → between l h x.key ≡ d
-        → cut l h (cut low high xs) ≡ cut (larger l low) (smaller h high) xs
-        → cut l h (cut low high (x ∷ xs)) ≡ cut (larger l low) (smaller h high) (x ∷ xs)
+        → cut l h (cut low high xs) ≡ cut (max l low) (min h high) xs
+        → cut l h (cut low high (x ∷ xs)) ≡ cut (max l low) (min h high) (x ∷ xs)
     go false p d q ih =
         ap (cut l h) (cut_out low high x xs p)
         ∙ ih
-        ∙ sym (cut_out (larger l low) (smaller h high) x xs (fails _ (λ b. not_both (in_second l h low high x.key b) p)))
+        ∙ sym (cut_out (max l low) (min h high) x xs (fails _ (λ b. not_both (in_second l h low high x.key b) p)))
     go true p false q ih =
         ap (cut l h) (cut_in low high x xs p)
         ∙ cut_out l h x (cut low high xs) q
         ∙ ih
-        ∙ sym (cut_out (larger l low) (smaller h high) x xs (fails _ (λ b. not_both (in_first l h low high x.key b) q)))
+        ∙ sym (cut_out (max l low) (min h high) x xs (fails _ (λ b. not_both (in_first l h low high x.key b) q)))
     go true p true q ih =
         ap (cut l h) (cut_in low high x xs p)
         ∙ cut_in l h x (cut low high xs) q
         ∙ ap (λ (zs : List Cert). x ∷ zs) ih
-        ∙ sym (cut_in (larger l low) (smaller h high) x xs (in_both l h low high x.key q p))
+        ∙ sym (cut_in (max l low) (min h high) x xs (in_both l h low high x.key q p))
 
 -- ── One certificate ─────────────────────────────────────────────────────────────────────────────────────────────
 
@@ -178,33 +147,21 @@ module _ (low high room : ℕ) where
 
 -- ── All of them ─────────────────────────────────────────────────────────────────────────────────────────────────
 
-length-first : (k : ℕ) (xs : List Cert) → length (take k xs) ≡ smaller (length xs) k
-length-first k xs = go (leb (length xs) k) refl
-  where
-    go : (b : Bool) → leb (length xs) k ≡ b → length (take k xs) ≡ smaller (length xs) k
-    go true e =
-        let h = leb-true (length xs) k e in
-        ap length (take_all k xs h) ∙ smaller-left (length xs) k h
-    go false e =
-        let h = leb-false (length xs) k e in
-        length-take-le k xs (omega arith) ∙ smaller_right (length xs) k h
+length-first : (k : ℕ) (xs : List Cert) → length (take k xs) ≡ min (length xs) k
+length-first k xs = length-take k xs ∙ min_comm k (length xs)
 
 module _ (entries room count : ℕ) where
   pub all_none : room ≤ count → count ≡ tally_all entries room count
   unfolding tally_all
-  all_none h = go (leb entries (room - count)) refl
-    where
-      go : (b : Bool) → leb entries (room - count) ≡ b → count ≡ count + smaller entries (room - count)
-      go true e = omega (arith, smaller-left entries (room - count) (leb-true entries (room - count) e), leb-true entries (room - count) e)
-      go false e = omega (arith, smaller_right entries (room - count) (leb-false entries (room - count) e))
+  all_none h = omega (arith, min-le_right entries (room - count))
 
   pub all_fit : entries ≤ room - count → count + entries ≡ tally_all entries room count
   unfolding tally_all
-  all_fit h = ap (λ (j : ℕ). count + j) (smaller-left entries (room - count) h)
+  all_fit h = ap (λ (j : ℕ). count + j) (sym (min-eq_left h))
 
   pub all-full : count < room → room - count < entries → room ≡ tally_all entries room count
   unfolding tally_all
-  all-full r h = omega (arith, smaller_right entries (room - count) h)
+  all-full r h = let k : room - count ≤ entries = omega arith in omega (arith, min-eq_right k)
 
 module _ (h : Head) (low high : ℕ) where
   pub lies-below : h.low < low → false ≡ lies_in h low high
@@ -237,7 +194,7 @@ module _ (t : List ℕ) (page : ℕ) (h : Head) (f : h ≡ head_in (page_at t pa
   head-high = ap (λ (x : Head). x.high) f
 
   module _ (a : Asked) (e : Place) (count : ℕ) where
-    pub tally_leaf_lem : (low high : ℕ) → h.kind ≡ leaf_kind → low ≡ larger a.low e.low → high ≡ smaller a.high e.high
+    pub tally_leaf_lem : (low high : ℕ) → h.kind ≡ leaf_kind → low ≡ max a.low e.low → high ≡ min a.high e.high
         → tally low high a.room (read_each cert_in cert_size h.count (drop leaf_header (page_at t page))) count
         ≡ tally_at t page a e count
     unfolding tally_at cut_view tally
@@ -260,11 +217,11 @@ module _ (t : List ℕ) (page : ℕ) (h : Head) (f : h ≡ head_in (page_at t pa
           let own = cut_all (read t page).low (read t page).high xs w.keys_within in
           ap (cut low high) (sym own) ∙ cut_wider (read t page).low (read t page).high low high xs from_low to_high ∙ own
 
-      pub tally-whole : h.kind ≡ leaf_kind → low ≡ larger a.low e.low → high ≡ smaller a.high e.high
+      pub tally-whole : h.kind ≡ leaf_kind → low ≡ max a.low e.low → high ≡ min a.high e.high
           → tally_all h.count a.room count ≡ tally_at t page a e count
       unfolding tally_all tally
       tally-whole k p q =
-          ap (λ (j : ℕ). count + smaller j (a.room - count)) (sym (length-leaf k))
+          ap (λ (j : ℕ). count + min j (a.room - count)) (sym (length-leaf k))
           ∙ ap (λ (j : ℕ). count + j) (sym (length-first (a.room - count) (read t page).view.certs))
           ∙ ap (λ (xs : List Cert). count + length (take (a.room - count) xs)) (sym cut-none_off)
           ∙ ap (λ (xs : List Cert). tally low high a.room xs count) (certs-leaf t page h as_read k)

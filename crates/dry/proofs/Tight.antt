@@ -12,7 +12,7 @@ dry_of_tight κs a pre z z' l l' p q = (p ∙ sym q, refl)
 pub next_leaf_tight : Tight this.next_leaf.Kinds.ps this.next_leaf.Kinds.r this.next_leaf.Reads.Pre this.next_leaf.Reads.Post
 next_leaf_tight κs a pre z z' l l' p q =
     let e = p ∙ sym q in
-    ((λ i. (e i).leaf), (λ i. (l.0, (l.1.0, (l.1.1.0, (l.1.1.1.0, ((e i).marks, l.1.1.1.1.1)))))))
+    ((λ i. (e i).leaf), (λ i. (l.0, (l.1.0, (l.1.1.0, ((e i).marks, l.1.1.1.1))))))
 
 same-leaf : (x y : Option LeafAt) → ◌≡◌ {A = Result (Option LeafAt) Damaged} (Ok x) (Ok y) → x ≡ y
 same-leaf x y h = cc
@@ -20,7 +20,7 @@ same-leaf x y h = cc
 pub next_known_tight : Tight this.next_known.Kinds.ps this.next_known.Kinds.r this.next_known.Reads.Pre this.next_known.Reads.Post
 next_known_tight κs a pre z z' l l' p q =
     let e = p ∙ sym q in
-    (same-leaf z z' (λ i. (e i).leaf), (λ i. (l.0, (l.1.0, (l.1.1.0, (l.1.1.1.0, ((e i).marks, l.1.1.1.1.1)))))))
+    (same-leaf z z' (λ i. (e i).leaf), (λ i. (l.0, (l.1.0, (l.1.1.0, ((e i).marks, l.1.1.1.1))))))
 
 pub mends_nothing_tight : Tight this.Dry.mends_nothing.Kinds.ps this.Dry.mends_nothing.Kinds.r this.Dry.mends_nothing.Reads.Pre this.Dry.mends_nothing.Reads.Post
 mends_nothing_tight κs a pre z z' l l' p q = (p ∙ sym q, refl)

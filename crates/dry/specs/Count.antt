@@ -1,5 +1,5 @@
 -- How many certificates a dry walk has counted, page by page.
-use Rattle.std.specs.Prelude.{ℕ, ◌+◌, ◌*◌, ◌-◌, ◌≤◌, ◌≡◌, Bool, true, false, ◌&&◌, List, leb, ltb, length, take}
+use Rattle.std.specs.Prelude.{ℕ, min, ◌+◌, ◌*◌, ◌-◌, ◌≤◌, ◌≡◌, Bool, true, false, ◌&&◌, List, leb, ltb, length, take}
 use Rattle.rules.specs.Layout.{page_size, leaf_room, leaf_kind}
 use Rattle.rules.specs.Test.{between, all}
 use Rattle.rules.specs.Entry.{Cert, cut, keys}
@@ -11,12 +11,6 @@ use Rattle.rules.specs.declared.Place.{Place}
 use Rattle.head.specs.Head.{head_in}
 use Rattle.head.specs.declared.Head.{Head}
 
-unfoldable pub larger : ℕ → ℕ → ℕ
-larger x y = elim (leb x y) [ true ↦ y | false ↦ x ]
-
-unfoldable pub smaller : ℕ → ℕ → ℕ
-smaller x y = elim (leb x y) [ true ↦ x | false ↦ y ]
-
 -- one certificate more, if its key is in a range and there is room
 unfoldable pub tallied : ℕ → ℕ → ℕ → ℕ → ℕ → ℕ
 tallied low high room key count = elim (between low high key && ltb count room) [ true ↦ count + 1 | false ↦ count ]
@@ -27,7 +21,7 @@ tally low high room xs count = count + length (take (room - count) (cut low high
 
 -- as many more as there are, while there is room
 unfoldable pub tally_all : ℕ → ℕ → ℕ → ℕ
-tally_all entries room count = count + smaller entries (room - count)
+tally_all entries room count = count + min entries (room - count)
 
 -- a page's range lies in another one, and its certificates, few enough, in its own
 unfoldable pub lies_in : Head → ℕ → ℕ → Bool

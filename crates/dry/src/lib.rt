@@ -17,8 +17,7 @@
 
 mod tally;
 
-ghost use Rattle.std.specs.Prelude.{◌≡◌, true, ◌+◌, ◌*◌, ◌≤◌, ◌<◌, length, [], ◌∷◌, Some, Ok};
-ghost use Rattle.rules.specs.Layout.{page_size};
+ghost use Rattle.std.specs.Prelude.{◌≡◌, true, ◌<◌, [], ◌∷◌, Some, Ok};
 ghost use Rattle.rules.specs.Test.{mem};
 ghost use Rattle.rules.specs.Table.{fit0};
 ghost use Rattle.seen.specs.Run.{Lies};
@@ -26,7 +25,7 @@ ghost use Rattle.dry.specs.Walk.{keeps, helps, none_marked, dry_of};
 ghost use Rattle.dry.specs.Source.{source, marked_by};
 ghost use Rattle.dry.specs.Cursor.{in_reach, meeting, meet_of, under_root, with_lower, due_lower, due_upper, due_root, due_of, under_of, settle_of, stepping, step_of, reaching, leaf_of, Leads, LeadsUnder, Sure};
 
-use head::{Table, head_at, root_place};
+use head::{Table, read_head, root_place};
 use rules::{Asked, LAST_KEY, LEAF, MOST, Place};
 use seen::{Run, mark, marked, place_in, rest_of, run_in};
 use sound::{fits_at, mendable_at};
@@ -105,37 +104,23 @@ pub enum Step {
 }
 
 // Whether the child of a place fits it still.
-fn keeps_child(table: &[u8], n: usize, marks: &[bool], e: Place) -> bool
-    requires { length table.now ≡ n * page_size }
-    ensures { result ≡ keeps n table.now marks.now e }
+fn keeps_child(table: Table<'_>, marks: &[bool], e: Place) -> bool
+    ensures { result ≡ keeps table.entry.pages table.entry.bytes.now marks.now e }
 {
     if marked(marks, e.child as usize) {
         return false;
     }
-    fits_at(
-        Table {
-            bytes: table,
-            pages: n,
-        },
-        e,
-    )
+    fits_at(table, e)
 }
 
 // Whether the previous page of a place can help it still.
-fn helps_child(table: &[u8], n: usize, marks: &[bool], e: Place) -> bool
-    requires { length table.now ≡ n * page_size }
-    ensures { result ≡ helps n table.now marks.now e }
+fn helps_child(table: Table<'_>, marks: &[bool], e: Place) -> bool
+    ensures { result ≡ helps table.entry.pages table.entry.bytes.now marks.now e }
 {
     if marked(marks, e.previous as usize) {
         return false;
     }
-    mendable_at(
-        Table {
-            bytes: table,
-            pages: n,
-        },
-        e,
-    )
+    mendable_at(table, e)
 }
 
 // A child that stands above on the way is damaged; 0, which is never a child, stands for none.
@@ -151,16 +136,14 @@ fn stands_above(parent: u16, top: u16, child: u16) -> bool
 // The page that shows a place in the course of a walk: the child, or the previous page that it would be mended from;
 // none of a damaged place. Where it is known to be the child, nothing is tested.
 fn source_at<const KNOWN: bool>(
-    table: &[u8],
-    n: usize,
+    table: Table<'_>,
     parent: u16,
     top: u16,
     marks: &[bool],
     e: Place,
 ) -> Option<u16>
-    requires { (length table.now ≡ n * page_size)
-        × (KNOWN ≡ true → source n (parent ∷ top ∷ []) table.now marks.now e ≡ Some e.child) }
-    ensures { result ≡ source n (parent ∷ top ∷ []) table.now marks.now e }
+    requires { KNOWN ≡ true → source table.pages (parent ∷ top ∷ []) table.bytes.now marks.now e ≡ Some e.child }
+    ensures { result ≡ source table.entry.pages (parent ∷ top ∷ []) table.entry.bytes.now marks.now e }
 {
     if KNOWN {
         return Some(e.child);
@@ -168,10 +151,10 @@ fn source_at<const KNOWN: bool>(
     if stands_above(parent, top, e.child) {
         return None;
     }
-    if keeps_child(table, n, marks, e) {
+    if keeps_child(table, marks, e) {
         return Some(e.child);
     }
-    if helps_child(table, n, marks, e) {
+    if helps_child(table, marks, e) {
         return Some(e.previous);
     }
     None
@@ -199,31 +182,29 @@ fn mark_by(marks: &mut [bool], page: u16, e: Place)
 
 // One place: it is passed, it shows a leaf or entries, or it is damaged.
 fn meet<const KNOWN: bool>(
-    table: &[u8],
-    n: usize,
+    table: Table<'_>,
     a: Asked,
     parent: u16,
     top: u16,
     e: Place,
     marks: &mut [bool],
 ) -> Result<Met, Damaged>
-    requires { (length table.now ≡ n * page_size)
-        × (KNOWN ≡ true → in_reach a e ≡ true → source n (parent ∷ top ∷ []) table.now marks.old e ≡ Some e.child) }
-    ensures { meeting result marks.new ≡ meet_of n a (parent ∷ top ∷ []) table.now marks.old e }
+    requires { KNOWN ≡ true → in_reach a e ≡ true → source table.pages (parent ∷ top ∷ []) table.bytes.now marks.old e ≡ Some e.child }
+    ensures { meeting result marks.new ≡ meet_of table.entry.pages a (parent ∷ top ∷ []) table.entry.bytes.now marks.old e }
 {
     if !in_reach(a, e) {
         return Ok(Met::Passed);
     }
-    let Some(page) = source_at::<KNOWN>(table, n, parent, top, marks, e) else {
+    let Some(page) = source_at::<KNOWN>(table, parent, top, marks, e) else {
         return Err(Damaged);
     };
     mark_by(marks, page, e);
     let i = page as usize;
-    let head = head_at(table, i);
+    let head = read_head(table.page(i));
     if head.kind == LEAF {
         return Ok(Met::Leaf(page));
     }
-    Ok(Met::Entries(run_in(table, i, e.low, e.high)))
+    Ok(Met::Entries(run_in(table.bytes, i, e.low, e.high)))
 }
 
 // The way to the entries of the root.
@@ -237,15 +218,15 @@ fn under_root(root: u16, run: Run) -> Way
     }
 }
 
-fn due_lower(table: &[u8], n: usize, w: Way) -> Spot
-    requires { (length table.now ≡ n * page_size) × Lies n w.lower × (0 < w.lower.left) }
-    ensures { result ≡ due_lower table.now w }
+fn due_lower(table: Table<'_>, w: Way) -> Spot
+    requires { Lies table.pages w.lower × (0 < w.lower.left) }
+    ensures { result ≡ due_lower table.entry.bytes.now w }
 {
     Spot {
         level: 1,
         parent: w.parent,
         top: w.root,
-        place: place_in(table, w.lower, w.high),
+        place: place_in(table.bytes, w.lower, w.high),
         rest: Way {
             lower: rest_of(w.lower),
             ..w
@@ -253,15 +234,15 @@ fn due_lower(table: &[u8], n: usize, w: Way) -> Spot
     }
 }
 
-fn due_upper(table: &[u8], n: usize, w: Way) -> Spot
-    requires { (length table.now ≡ n * page_size) × Lies n w.upper × (0 < w.upper.left) }
-    ensures { result ≡ due_upper table.now w }
+fn due_upper(table: Table<'_>, w: Way) -> Spot
+    requires { Lies table.pages w.upper × (0 < w.upper.left) }
+    ensures { result ≡ due_upper table.entry.bytes.now w }
 {
     Spot {
         level: 2,
         parent: w.root,
         top: 0,
-        place: place_in(table, w.upper, LAST_KEY),
+        place: place_in(table.bytes, w.upper, LAST_KEY),
         rest: Way {
             upper: rest_of(w.upper),
             ..w
@@ -269,32 +250,32 @@ fn due_upper(table: &[u8], n: usize, w: Way) -> Spot
     }
 }
 
-fn due_root(table: &[u8]) -> Spot
-    requires { page_size ≤ length table.now }
-    ensures { result ≡ due_root table.now }
+fn due_root(table: Table<'_>) -> Spot
+    requires { 0 < table.pages }
+    ensures { result ≡ due_root table.entry.bytes.now }
 {
     Spot {
         level: 3,
         parent: 0,
         top: 0,
-        place: root_place(table),
+        place: root_place(table.bytes),
         rest: Way::default(),
     }
 }
 
 // The place that is next: of the lowest page that has entries left.
-fn next_spot(table: &[u8], n: usize, c: Cursor) -> Option<Spot>
-    requires { (length table.now ≡ n * page_size) × Leads n table.now c }
-    ensures { result ≡ due_of table.now c }
+fn next_spot(table: Table<'_>, c: Cursor) -> Option<Spot>
+    requires { Leads table.pages table.bytes.now c }
+    ensures { result ≡ due_of table.entry.bytes.now c }
 {
     let Cursor::Under(w) = c else {
         return Some(due_root(table));
     };
     if w.lower.left != 0 {
-        return Some(due_lower(table, n, w));
+        return Some(due_lower(table, w));
     }
     if w.upper.left != 0 {
-        return Some(due_upper(table, n, w));
+        return Some(due_upper(table, w));
     }
     None
 }
@@ -335,36 +316,34 @@ fn settle(s: Spot, met: Met) -> Result<Step, Damaged>
 
 // One step: the next place of the way. Where it is known that every place ahead fits, no page is tested again.
 fn next<const KNOWN: bool>(
-    table: &[u8],
-    n: usize,
+    table: Table<'_>,
     a: Asked,
     c: Cursor,
     marks: &mut [bool],
 ) -> Result<Step, Damaged>
-    requires { (length table.now ≡ n * page_size) × Leads n table.now c × (KNOWN ≡ true → Sure n a table.now c marks.old) }
-    ensures { stepping result marks.new ≡ step_of n a table.now c marks.old }
+    requires { Leads table.pages table.bytes.now c × (KNOWN ≡ true → Sure table.pages a table.bytes.now c marks.old) }
+    ensures { stepping result marks.new ≡ step_of table.entry.pages a table.entry.bytes.now c marks.old }
 {
-    let Some(s) = next_spot(table, n, c) else {
+    let Some(s) = next_spot(table, c) else {
         return Ok(Step::End);
     };
-    let met = meet::<KNOWN>(table, n, a, s.parent, s.top, s.place, marks)?;
+    let met = meet::<KNOWN>(table, a, s.parent, s.top, s.place, marks)?;
     settle(s, met)
 }
 
 // The leaf that the walk comes to next; none at its end.
 fn leaf_by<const KNOWN: bool>(
-    table: &[u8],
-    n: usize,
+    table: Table<'_>,
     a: Asked,
     c: Cursor,
     marks: &mut [bool],
 ) -> Result<Option<LeafAt>, Damaged>
-    requires { (length table.now ≡ n * page_size) × Leads n table.now c × (KNOWN ≡ true → Sure n a table.now c marks.old) }
-    ensures { reaching result marks.new ≡ leaf_of n a table.now c marks.old }
+    requires { Leads table.pages table.bytes.now c × (KNOWN ≡ true → Sure table.pages a table.bytes.now c marks.old) }
+    ensures { reaching result marks.new ≡ leaf_of table.entry.pages a table.entry.bytes.now c marks.old }
 {
     let mut at = c;
     loop {
-        match next::<KNOWN>(table, n, a, at, marks)? {
+        match next::<KNOWN>(table, a, at, marks)? {
             Step::On(on) => {
                 at = on;
             }
@@ -379,46 +358,46 @@ fn leaf_by<const KNOWN: bool>(
 }
 
 pub fn next_leaf(
-    table: &[u8],
-    n: usize,
+    table: Table<'_>,
     a: Asked,
     c: Cursor,
     marks: &mut [bool],
 ) -> Result<Option<LeafAt>, Damaged>
-    requires { (length table.now ≡ n * page_size) × Leads n table.now c }
-    ensures { reaching result marks.new ≡ leaf_of n a table.now c marks.old }
+    requires { Leads table.pages table.bytes.now c }
+    ensures { reaching result marks.new ≡ leaf_of table.entry.pages a table.entry.bytes.now c marks.old }
 {
-    leaf_by::<false>(table, n, a, c, marks)
+    leaf_by::<false>(table, a, c, marks)
 }
 
 // The same where it is known that every place ahead fits: no page is tested again, and none is damaged.
-pub fn next_known(table: &[u8], n: usize, a: Asked, c: Cursor, marks: &mut [bool]) -> Option<LeafAt>
-    requires { (length table.now ≡ n * page_size) × Leads n table.now c × Sure n a table.now c marks.old }
-    ensures { reaching (Ok result) marks.new ≡ leaf_of n a table.now c marks.old }
+pub fn next_known(table: Table<'_>, a: Asked, c: Cursor, marks: &mut [bool]) -> Option<LeafAt>
+    requires { Leads table.pages table.bytes.now c × Sure table.pages a table.bytes.now c marks.old }
+    ensures { reaching (Ok result) marks.new ≡ leaf_of table.entry.pages a table.entry.bytes.now c marks.old }
 {
-    let Ok(leaf) = leaf_by::<true>(table, n, a, c, marks) else {
+    let Ok(leaf) = leaf_by::<true>(table, a, c, marks) else {
         return None;
     };
     leaf
 }
 
 // The whole walk, from the root on; where it meets a damaged place, what it found before that.
-pub fn dry_of(table: &[u8], n: usize, a: Asked) -> Result<Dry, Dry>
-    requires { (length table.now ≡ n * page_size) × (fit0 n table.now ≡ true) }
-    ensures { result ≡ dry_of n a table.now }
+pub fn dry_of(table: Table<'_>, a: Asked) -> Result<Dry, Dry>
+    requires { fit0 table.pages table.bytes.now ≡ true }
+    ensures { result ≡ dry_of table.entry.pages a table.entry.bytes.now }
 {
     let mut at = Cursor::AtRoot;
     let mut count = 0;
     let mut mended = [false; MOST];
     while count < a.room {
-        let Ok(next) = next_leaf(table, n, a, at, &mut mended) else {
+        let Ok(next) = next_leaf(table, a, at, &mut mended) else {
             return Err(Dry { count, mended });
         };
         let Some(leaf) = next else {
             return Ok(Dry { count, mended });
         };
-        let i = leaf.page as usize;
-        count = tally_leaf(table, i, head_at(table, i), a, leaf.place, count);
+        let page = leaf.page as usize;
+        let head = read_head(table.page(page));
+        count = tally_leaf(table, page, head, a, leaf.place, count);
         at = leaf.after;
     }
     Ok(Dry { count, mended })

@@ -2,33 +2,13 @@
 //
 // Below stand `head`, which reads headers and entries, and `rules`.
 ghost use Rattle.std.specs.Prelude.{◌≡◌, ◌+◌, ◌*◌, ◌≤◌, length, drop};
-ghost use Rattle.rules.specs.Layout.{page_size, leaf_header, cert_size, leaf_room};
+ghost use Rattle.rules.specs.Layout.{leaf_header, cert_size};
 ghost use Rattle.rules.specs.Page.{read_each, cert_in};
-ghost use Rattle.rules.specs.Table.{page_at};
-ghost use Rattle.dry.specs.Count.{larger, smaller, tallied, tally, tally_all, lies_in, Leaf, tally_at};
+ghost use Rattle.dry.specs.Count.{tallied, tally, tally_all, lies_in, Leaf, tally_at};
 
-use head::{Head, cert_key_at};
+use head::{Head, Table, cert_key};
 use rules::{Asked, Place};
-
-// The narrower one of two ranges has the larger low and the smaller high.
-
-fn larger(x: u64, y: u64) -> u64
-    ensures { result ≡ larger x y }
-{
-    if x <= y {
-        return y;
-    }
-    x
-}
-
-fn smaller(x: u64, y: u64) -> u64
-    ensures { result ≡ smaller x y }
-{
-    if x <= y {
-        return x;
-    }
-    y
-}
+use std::cmp::{max, min};
 
 // One certificate more, if its key is asked for and there is room.
 fn tally_key(low: u64, high: u64, room: usize, key: u64, count: usize) -> usize
@@ -46,23 +26,13 @@ fn tally_key(low: u64, high: u64, room: usize, key: u64, count: usize) -> usize
     count + 1
 }
 
-fn tally_each(
-    table: &[u8],
-    page: usize,
-    entries: usize,
-    low: u64,
-    high: u64,
-    room: usize,
-    count: usize,
-) -> usize
-    requires { ((page + 1) * page_size ≤ length table.now) × (entries ≤ leaf_room) }
-    ensures { result ≡ tally low high room (read_each cert_in cert_size entries (drop leaf_header (page_at table.now page))) count }
+fn tally_each(page: &[u8], entries: usize, low: u64, high: u64, room: usize, count: usize) -> usize
+    requires { leaf_header + cert_size * entries ≤ length page.now }
+    ensures { result ≡ tally low high room (read_each cert_in cert_size entries (drop leaf_header page.now)) count }
 {
     let mut found = count;
-    let mut j = 0;
-    while j < entries {
-        found = tally_key(low, high, room, cert_key_at(table, page, j), found);
-        j += 1;
+    for j in 0..entries {
+        found = tally_key(low, high, room, cert_key(page, j), found);
     }
     found
 }
@@ -91,16 +61,23 @@ fn lies_in(head: Head, low: u64, high: u64) -> bool
 }
 
 // The certificates of a leaf, as a place shows them, that are asked for. A list asks for most leaves whole: those are
-// not looked through.
-pub fn tally_leaf(table: &[u8], page: usize, head: Head, a: Asked, e: Place, count: usize) -> usize
-    requires { Leaf table.now page head }
-    ensures { result ≡ tally_at table.now page a e count }
+// not looked through. The narrower one of the two ranges has the larger low and the smaller high.
+pub fn tally_leaf(
+    table: Table<'_>,
+    page: usize,
+    head: Head,
+    a: Asked,
+    e: Place,
+    count: usize,
+) -> usize
+    requires { Leaf table.bytes.now page head }
+    ensures { result ≡ tally_at table.entry.bytes.now page a e count }
 {
     let entries = head.count as usize;
-    let low = larger(a.low, e.low);
-    let high = smaller(a.high, e.high);
+    let low = max(a.low, e.low);
+    let high = min(a.high, e.high);
     if lies_in(head, low, high) {
         return tally_all(entries, a.room, count);
     }
-    tally_each(table, page, entries, low, high, a.room, count)
+    tally_each(table.page(page), entries, low, high, a.room, count)
 }

@@ -21,7 +21,7 @@ use Rattle.dry.specs.Cursor.{at_root, reaching, leaf_of, way_left, Sure}
 use Rattle.dry.specs.declared.Damaged.{Damaged}
 use Rattle.dry.specs.declared.Cursor.{Cursor}
 use Rattle.dry.specs.declared.LeafAt.{LeafAt}
-use Rattle.dry.proofs.Going.{Going, Taken, leaf_view, root-comes, root-leads, full_sees, end_sees, leaf_less, leaf-inside, leaf-shown, leaf-comes, leaf-leads}
+use Rattle.dry.proofs.Going.{Going, Taken, leaf_view, root-comes, root-leads, full_sees, end_sees, leaf_less, leaf-below, leaf-inside, leaf-shown, leaf-comes, leaf-leads}
 use Rattle.dry.proofs.Sures.{leaf-fits, leaf-view}
 use Rattle.fill.specs.Fills.{listing, lists_of, Roomy, Calm, certs_from, listed, asked, Sorted}
 use Rattle.fill.proofs.Copies.{lists-none, lists-count, lists-more}
@@ -79,6 +79,9 @@ module _ {n : ℕ} {a : Asked} {t ks xs : List ℕ} (calm : Calm n a t) where
       module _ (l : LeafAt) (p : s ≡ Some l) where
         pub filling-passes : way_left l.after < way_left c
         filling-passes = leaf_less y l (ap Ok p)
+
+        pub filling-below : l.page < n
+        filling-below = leaf-below y l (ap Ok p)
 
         pub filling-inside : (l.page + 1) * page_size ≤ length t
         filling-inside = leaf-inside y l (ap Ok p)

@@ -11,7 +11,7 @@ fill_tight κs a pre z z' l l' p q =
 pub fill_known_tight : Tight this.fill_known.Kinds.ps this.fill_known.Kinds.r this.fill_known.Reads.Pre this.fill_known.Reads.Post
 fill_known_tight κs a pre z z' l l' p q =
     let e = p ∙ sym q in
-    ((λ i. (e i).filled), (λ i. (tt, (tt, (tt, ((e i).keys, ((e i).records, tt)))))))
+    ((λ i. (e i).filled), (λ i. (tt, (tt, ((e i).keys, ((e i).records, tt))))))
 
 pub mend_tight : Tight this.mend.Kinds.ps this.mend.Kinds.r this.mend.Reads.Pre this.mend.Reads.Post
 mend_tight κs a pre z z' l l' p q =

@@ -22,6 +22,7 @@ ghost use Rattle.fill.specs.Fills.{listing, lists_of, filling, filled_in, mendin
 
 use dry::Cursor;
 use entries::Entries;
+use head::{Table, read_head};
 use leaves::Stepped;
 use rules::{Asked, MOST, PAGE, Report};
 
@@ -140,21 +141,21 @@ fn fill_leaf_at(
 
 // Where it is known that the walk would mend nothing: the table stays as it lies and every page ahead fits its place, so
 // none is tested again.
-pub fn fill_known(t: &[u8], n: usize, a: Asked, keys: &mut [u64], records: &mut [u32]) -> usize
-    requires { Calm n a t.now × Roomy a keys.old records.old }
+pub fn fill_known(t: Table<'_>, a: Asked, keys: &mut [u64], records: &mut [u32]) -> usize
+    requires { Calm t.pages a t.bytes.now × Roomy a keys.old records.old }
     ensures { listing result keys.new records.new
-        ≡ lists_of keys.old records.old (dry_over n a t.now).found }
+        ≡ lists_of keys.old records.old (dry_over t.entry.pages a t.entry.bytes.now).found }
 {
     let mut at = Cursor::AtRoot;
     let mut filled = 0;
     let mut mended = [false; MOST];
     while filled < a.room {
-        let Some(leaf) = dry::next_known(t, n, a, at, &mut mended) else {
+        let Some(leaf) = dry::next_known(t, a, at, &mut mended) else {
             return filled;
         };
         let page = leaf.page as usize;
-        let head = head::head_at(t, page);
-        filled = fill_leaf_at(t, page, head.count as usize, a, keys, records, filled);
+        let head = read_head(t.page(page));
+        filled = fill_leaf_at(t.bytes, page, head.count as usize, a, keys, records, filled);
         at = leaf.after;
     }
     filled

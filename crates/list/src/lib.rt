@@ -22,6 +22,7 @@ ghost use Rattle.rules.specs.declared.Session.{Session};
 ghost use Rattle.fill.specs.Fills.{Roomy};
 ghost use Rattle.list.specs.Lists.{beside, leaving, telling, told};
 
+use head::Table;
 use rules::{Asked, LAST_KEY, ListError, Listed, Listing, Report, Session};
 use std::cmp::min;
 
@@ -50,7 +51,7 @@ fn look(t: &mut [u8], n: usize, c: u32, a: Asked, keys: &mut [u64], records: &mu
     ensures { telling t.new result keys.new records.new
         ≡ told keys.old records.old (walk_of n c a t.old) }
 {
-    let Ok(ahead) = dry::dry_of(t, n, a) else {
+    let Ok(ahead) = dry::dry_of(Table { bytes: t, pages: n }, a) else {
         let report = fill::mend(t, n, c, a);
         return Sought {
             answer: Err(ListError::Damaged),
@@ -58,7 +59,7 @@ fn look(t: &mut [u8], n: usize, c: u32, a: Asked, keys: &mut [u64], records: &mu
         };
     };
     if ahead.mends_nothing() {
-        let known = fill::fill_known(t, n, a, keys, records);
+        let known = fill::fill_known(Table { bytes: t, pages: n }, a, keys, records);
         return Sought {
             answer: Ok(known),
             report: Report::nothing(),

@@ -9,18 +9,20 @@
 #![tactic(auto)]
 
 ghost use Rattle.std.specs.Prelude.{◌≡◌, ◌+◌, ◌*◌, ◌-◌, ◌≤◌, length, drop};
-ghost use Rattle.rules.specs.Layout.{page_size, leaf_header, cert_size, leaf_room};
+ghost use Rattle.rules.specs.Layout.{leaf_header, cert_size};
 ghost use Rattle.rules.specs.Entry.{cut};
 ghost use Rattle.rules.specs.Page.{read_each, cert_in};
-ghost use Rattle.rules.specs.Table.{page_at};
 ghost use Rattle.counts.specs.Tally.{counted, counted_in, counted_all, Few};
 ghost use Rattle.sections.specs.Puts.{starts_of, put_counts, put_model, put_meter, put_cert, put_next, put_from, putting, put_all, Lies};
 
 use counts::{BY_METER, BY_MODEL, Tally, counted};
 use fields::put32;
-use head::{cert_key_at, cert_record_at};
+use head::{cert_key, cert_record};
 
 // Where the items of the last two sections begin, and where the file ends. The models begin behind the first count.
+//
+// It is handed on beside the tally, and not in one value with it: the tally goes on from certificate to certificate, and
+// this stays.
 #[derive(Clone, Copy)]
 pub struct Starts {
     pub meters: usize,
@@ -143,8 +145,7 @@ fn put_from(
 
 // The certificates of a leaf that lie in a range.
 pub fn put_leaf(
-    table: &[u8],
-    page: usize,
+    page: &[u8],
     entries: usize,
     low: u64,
     high: u64,
@@ -152,18 +153,16 @@ pub fn put_leaf(
     c: Tally,
     out: &mut [u8],
 ) -> Tally
-    requires { ((page + 1) * page_size ≤ length table.now) × (entries ≤ leaf_room) × Few c
-        × Lies s (counted_all c (cut low high (read_each cert_in cert_size entries (drop leaf_header (page_at table.now page))))) (length out.old) }
+    requires { (leaf_header + cert_size * entries ≤ length page.now) × Few c
+        × Lies s (counted_all c (cut low high (read_each cert_in cert_size entries (drop leaf_header page.now)))) (length out.old) }
     ensures { putting result out.new
-        ≡ put_all s c (cut low high (read_each cert_in cert_size entries (drop leaf_header (page_at table.now page)))) out.old }
+        ≡ put_all s c (cut low high (read_each cert_in cert_size entries (drop leaf_header page.now))) out.old }
 {
-    let mut t = c;
-    let mut j = 0;
-    while j < entries {
-        let key = cert_key_at(table, page, j);
-        let record = cert_record_at(table, page, j);
-        t = put_from(out, s, low, high, t, key, record);
-        j += 1;
+    let mut tally = c;
+    for j in 0..entries {
+        let key = cert_key(page, j);
+        let record = cert_record(page, j);
+        tally = put_from(out, s, low, high, tally, key, record);
     }
-    t
+    tally
 }

@@ -26,7 +26,8 @@ ghost use Rattle.write.specs.WriteFile.{write_reported, written_no, written_leng
 ghost use Rattle.sections.specs.Puts.{Lies};
 ghost use Rattle.write.specs.Calls.{beside, leaving, telling, told, wrote, wrote_in};
 
-use counts::{everything, no_tally};
+use counts::{Tally, everything};
+use head::{Table, page_at};
 use leaves::Stepped;
 use rules::{Asked, Report, Session};
 use sections::{Starts, put_counts, put_leaf, starts_of};
@@ -87,7 +88,7 @@ fn fill(t: &mut [u8], n: usize, c: u32, a: Asked, s: Starts, out: &mut [u8]) -> 
 {
     let mut key = a.low;
     let mut cursor = leaves::start();
-    let mut tally = no_tally();
+    let mut tally = Tally::default();
     let mut report = Report::nothing();
     while key <= a.high {
         let Stepped::Leaf(leaf) = leaves::next(t, n, c, key, key, cursor, report) else {
@@ -95,7 +96,15 @@ fn fill(t: &mut [u8], n: usize, c: u32, a: Asked, s: Starts, out: &mut [u8]) -> 
         };
         report = leaf.report;
         let page = leaf.child as usize;
-        tally = put_leaf(t, page, leaf.count as usize, key, a.high, s, tally, out);
+        tally = put_leaf(
+            page_at(t, page),
+            leaf.count as usize,
+            key,
+            a.high,
+            s,
+            tally,
+            out,
+        );
         if leaf.high >= a.high {
             return report;
         }
@@ -110,7 +119,7 @@ fn look(t: &mut [u8], n: usize, c: u32, out: &mut [u8]) -> Sought
     requires { (length t.old ≡ n * page_size) × (n ≤ most_pages) × (fit0 n t.old ≡ true) }
     ensures { telling result t.new out.new ≡ told out.old (walk_of n c everything t.old) }
 {
-    let Ok(tally) = counts::count_of(t, n) else {
+    let Ok(tally) = counts::count_of(Table { bytes: t, pages: n }) else {
         let report = fill::mend(t, n, c, everything());
         return Sought {
             answer: Err(WriteError::Damaged),

@@ -1,7 +1,6 @@
 -- `counts::count_leaf`: at each turn the tally and the certificates left come to what all come to. Assumes nothing.
 use Prim.Native.Nat.{◌+◌, ◌≤◌}
 use mathlib.Core.Path.{refl, sym, subst, ◌∙◌}
-use Rattle.rules.specs.Table.{page_at}
 use Rattle.counts.specs.Tally.{Few}
 use Rattle.counts.specs.declared.Tally.{Tally}
 use Rattle.counts.proofs.Tallies.{in_few, in_most, counts-turn, counts_end, counts_start}
@@ -9,28 +8,29 @@ use native.Mathlib.Omega.{arith}
 use Rattle.counts.proofs.count_leaf.Goals as goal
 
 pub loop-j-init : goal.loop-j-init
-loop-j-init c = (omega arith, c.requires.2, omega arith, refl)
+loop-j-init c = record { few = c.requires.2; most = omega arith; same = refl }
 
-pub cert_key_at-requires : goal.cert_key_at-requires
-cert_key_at-requires c = (c.requires.0, omega (arith, c.loop-j-test.true, c.requires.1))
+pub cert_key-requires : goal.cert_key-requires
+cert_key-requires c = omega (arith, c.loop-j-test.true, c.requires.0)
 
-pub counted_in-t-requires : goal.counted_in-t-requires
-counted_in-t-requires c = (c.loop-j.invariant.1, omega (arith, c.loop-j.invariant.2, c.loop-j-test.true, c.requires.1, c.requires.3))
+pub counted_in-tally-requires : goal.counted_in-tally-requires
+counted_in-tally-requires c = (c.loop-j.invariant.few, omega (arith, c.loop-j.invariant.most, c.loop-j-test.true, c.requires.1, c.requires.3))
 
 pub loop-j-preserved : goal.loop-j-preserved
 loop-j-preserved c =
     let args = c.args in
     let loop = c.loop-j in
-    let counted-in = c.counted_in-t in
-    let cert-key-at = c.cert_key_at in (
-      omega (arith, c.loop-j-test.true),
-      subst Few (sym counted-in.ensures) (in_few args.low args.high loop.t cert-key-at.result loop.invariant.1),
-      subst (λ (d : Tally). d.certs ≤ args.c.certs + (loop.j + 1)) (sym counted-in.ensures) (omega (arith, loop.invariant.2, in_most args.low args.high loop.t cert-key-at.result)),
-      counts-turn args.low args.high (page_at args.table.now args.page) args.entries loop.j cert-key-at.result loop.t counted-in.result c.loop-j-test.true cert-key-at.ensures counted-in.ensures ∙ loop.invariant.3,
-    )
+    let counted-in = c.counted_in-tally in
+    let key = c.cert_key in
+    record {
+      few = subst Few (sym counted-in.ensures) (in_few args.low args.high loop.tally key.result loop.invariant.few);
+      most = subst (λ (d : Tally). d.certs ≤ args.c.certs + (loop.j + 1)) (sym counted-in.ensures) (omega (arith, loop.invariant.most, in_most args.low args.high loop.tally key.result));
+      same = counts-turn args.low args.high args.page.now args.entries loop.j key.result loop.tally counted-in.result c.loop-j-test.true key.ensures counted-in.ensures ∙ loop.invariant.same;
+    }
 
 pub returns : goal.returns
 returns c =
     let args = c.args in
     let loop = c.loop-j in
-    sym (counts_end args.low args.high (page_at args.table.now args.page) args.entries loop.j loop.t c.loop-j-test.false) ∙ (loop.invariant.3 ∙ counts_start args.low args.high (page_at args.table.now args.page) args.entries args.c)
+    sym (counts_end args.low args.high args.page.now args.entries loop.j loop.tally c.loop-j-test.false)
+    ∙ (loop.invariant.same ∙ counts_start args.low args.high args.page.now args.entries args.c)

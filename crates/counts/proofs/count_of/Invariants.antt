@@ -6,7 +6,7 @@ use Rattle.counts.proofs.Counting.{Counting}
 use Rattle.counts.proofs.count_of.Given as goal
 
 abbrev pub invariant-loop-tally : goal.invariant-loop-tally
-invariant-loop-tally l = (length l.mended ≡ 128) × Counting l.n l.a l.table l.at l.tally l.mended
+invariant-loop-tally l = (length l.mended ≡ 128) × Counting l.table.pages l.a l.table.bytes.now l.at l.tally l.mended
 
 abbrev pub decreases-loop-tally : goal.decreases-loop-tally
 decreases-loop-tally l = way_left l.at

@@ -6,7 +6,7 @@ use Rattle.dry.proofs.Going.{Going}
 use Rattle.dry.proofs.dry_of.Given as goal
 
 abbrev pub invariant-loop-count : goal.invariant-loop-count
-invariant-loop-count l = (length l.mended ≡ 128) × Going l.n l.a l.table l.at l.count l.mended
+invariant-loop-count l = (length l.mended ≡ 128) × Going l.table.pages l.a l.table.bytes.now l.at l.count l.mended
 
 abbrev pub decreases-loop-count : goal.decreases-loop-count
 decreases-loop-count l = way_left l.at

@@ -14,4 +14,4 @@ returns c =
     let upper = run_none d.1.0.0 d.1.0.1.0 d.1.0.1.1.0 d.1.0.1.1.1 in
     let lower = run_none d.1.1.1.0.0 d.1.1.1.0.1.0 d.1.1.1.0.1.1.0 d.1.1.1.0.1.1.1 in
     ap (λ (e : Place). spot_at 3 0 0 e c.default.result) c.root_place.ensures
-    ∙ ap (λ (w : Way). spot_at 3 0 0 (root_place c.args.table.now) w) (way_none d.0 upper d.1.1.0 lower d.1.1.1.1)
+    ∙ ap (λ (w : Way). spot_at 3 0 0 (root_place c.args.table.bytes.now) w) (way_none d.0 upper d.1.1.0 lower d.1.1.1.1)

@@ -8,12 +8,12 @@ pub returns-then-marked : goal.returns-then-marked
 unfolding marked
 returns-then-marked c =
     let args = c.args in
-    helps-marked args.n args.table.now args.marks.now args.e
+    helps-marked args.table.pages args.table.bytes.now args.marks.now args.e
     (sym c.marked.ensures ∙ c.if-marked.true)
 
 pub returns : goal.returns
 unfolding marked
 returns c =
     let args = c.args in
-    c.mendable_at.ensures ∙ helps-lies args.n args.table.now args.marks.now args.e
+    c.mendable_at.ensures ∙ helps-lies args.table.pages args.table.bytes.now args.marks.now args.e
     (sym c.marked.ensures ∙ c.if-marked.false)

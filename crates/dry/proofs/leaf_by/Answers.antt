@@ -10,17 +10,17 @@ use Rattle.dry.proofs.Reaches.{on_less, on_leads, on_reaches, on_sure, leaf_reac
 use Rattle.dry.proofs.leaf_by.Goals as goal
 
 pub loop-on-init : goal.loop-on-init
-loop-on-init g c = record { size = refl; leads = c.requires.1; sure = c.requires.2; same = refl }
+loop-on-init g c = record { size = refl; leads = c.requires.0; sure = c.requires.1; same = refl }
 
 pub next-requires : goal.next-requires
-next-requires g c = (c.requires.0, c.loop-on.invariant.leads, c.loop-on.invariant.sure)
+next-requires g c = (c.loop-on.invariant.leads, c.loop-on.invariant.sure)
 
 pub returns-in_err-on : goal.returns-in_err-on
 returns-in_err-on g c =
     let args = c.args in
     let loop = c.loop-on in
     ap (λ (v : Result (Option LeafAt) Damaged). reaching v c.next.new.marks) (err-is c.from_residual.result c.from_residual.ensures.0)
-    ∙ damage_reaches args.n args.a args.table.now c.requires.0 loop.at loop.marks loop.invariant.leads c.next.result c.next.new.marks
+    ∙ damage_reaches args.table.pages args.a args.table.bytes.now args.table.whole loop.at loop.marks loop.invariant.leads c.next.result c.next.new.marks
     c.next.ensures c.in_err-on.field-0.0 c.in_err-on.was
     ∙ loop.invariant.same
 
@@ -28,7 +28,7 @@ pub loop-on-smaller : goal.loop-on-smaller
 loop-on-smaller g c =
     let args = c.args in
     let loop = c.loop-on in
-    on_less args.n args.a args.table.now c.requires.0 loop.at loop.marks loop.invariant.leads c.next.result c.next.new.marks
+    on_less args.table.pages args.a args.table.bytes.now args.table.whole loop.at loop.marks loop.invariant.leads c.next.result c.next.new.marks
     c.next.ensures c.in-On.on (c.in_ok-on.was ∙ ap Ok c.in-On.is)
 
 pub loop-on-preserved : goal.loop-on-preserved
@@ -38,16 +38,16 @@ loop-on-preserved g c =
     let q = c.in_ok-on.was ∙ ap Ok c.in-On.is in
     record {
       size = omega (arith, c.next.auto.marks, loop.invariant.size);
-      leads = on_leads args.n args.a args.table.now c.requires.0 loop.at loop.marks loop.invariant.leads c.next.result c.next.new.marks c.next.ensures c.in-On.on q;
-      sure = λ k. on_sure args.n args.a args.table.now c.requires.0 loop.at loop.marks loop.invariant.leads c.next.result c.next.new.marks c.next.ensures c.in-On.on q (loop.invariant.sure k) (omega (arith, c.next.auto.marks, (loop.invariant.sure k).marks));
-      same = on_reaches args.n args.a args.table.now c.requires.0 loop.at loop.marks loop.invariant.leads c.next.result c.next.new.marks c.next.ensures c.in-On.on q ∙ loop.invariant.same;
+      leads = on_leads args.table.pages args.a args.table.bytes.now args.table.whole loop.at loop.marks loop.invariant.leads c.next.result c.next.new.marks c.next.ensures c.in-On.on q;
+      sure = λ k. on_sure args.table.pages args.a args.table.bytes.now args.table.whole loop.at loop.marks loop.invariant.leads c.next.result c.next.new.marks c.next.ensures c.in-On.on q (loop.invariant.sure k) (omega (arith, c.next.auto.marks, (loop.invariant.sure k).marks));
+      same = on_reaches args.table.pages args.a args.table.bytes.now args.table.whole loop.at loop.marks loop.invariant.leads c.next.result c.next.new.marks c.next.ensures c.in-On.on q ∙ loop.invariant.same;
     }
 
 pub returns-in-Leaf : goal.returns-in-Leaf
 returns-in-Leaf g c =
     let args = c.args in
     let loop = c.loop-on in
-    leaf_reaches args.n args.a args.table.now c.requires.0 loop.at loop.marks loop.invariant.leads c.next.result c.next.new.marks
+    leaf_reaches args.table.pages args.a args.table.bytes.now args.table.whole loop.at loop.marks loop.invariant.leads c.next.result c.next.new.marks
     c.next.ensures c.in-Leaf.leaf (c.in_ok-on.was ∙ ap Ok c.in-Leaf.is)
     ∙ loop.invariant.same
 
@@ -55,6 +55,6 @@ pub returns-in-End : goal.returns-in-End
 returns-in-End g c =
     let args = c.args in
     let loop = c.loop-on in
-    end_reaches args.n args.a args.table.now c.requires.0 loop.at loop.marks loop.invariant.leads c.next.result c.next.new.marks
+    end_reaches args.table.pages args.a args.table.bytes.now args.table.whole loop.at loop.marks loop.invariant.leads c.next.result c.next.new.marks
     c.next.ensures (c.in_ok-on.was ∙ ap Ok c.in-End.is)
     ∙ loop.invariant.same

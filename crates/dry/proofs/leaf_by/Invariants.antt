@@ -9,9 +9,9 @@ use Rattle.dry.proofs.leaf_by.Given as goal
 abbrev pub invariant-loop-on : goal.invariant-loop-on
 invariant-loop-on g l = record {
   size : length l.marks ≡ length l.initial.marks;
-  leads : Leads l.n l.table l.at;
-  sure : not (eqb g.row.KNOWN 0) ≡ true → Sure l.n l.a l.table l.at l.marks;
-  same : leaf_of l.n l.a l.table l.at l.marks ≡ leaf_of l.n l.a l.table l.initial.at l.initial.marks;
+  leads : Leads l.table.pages l.table.bytes.now l.at;
+  sure : not (eqb g.row.KNOWN 0) ≡ true → Sure l.table.pages l.a l.table.bytes.now l.at l.marks;
+  same : leaf_of l.table.pages l.a l.table.bytes.now l.at l.marks ≡ leaf_of l.table.pages l.a l.table.bytes.now l.initial.at l.initial.marks;
 }
 
 abbrev pub decreases-loop-on : goal.decreases-loop-on

@@ -12,14 +12,14 @@ pub returns-in_default : goal.returns-in_default
 returns-in_default g c =
     let args = c.args in
     let next-spot = c.next_spot in
-    step-ends args.n args.a args.table.now args.c args.marks.now next-spot.result next-spot.ensures c.in_default.is
+    step-ends args.table.pages args.a args.table.bytes.now args.c args.marks.now next-spot.result next-spot.ensures c.in_default.is
 
 pub meet-requires : goal.meet-requires
 meet-requires g c =
     let pre = c.requires in
     let args = c.args in
     let next-spot = c.next_spot in
-    (pre.0, λ k h. sure_own args.n args.a args.table.now args.c args.marks.now pre.1 (pre.2 k) c.in-Some.s (sym next-spot.ensures ∙ c.in-Some.is) h)
+    (λ k h. sure_own args.table.pages args.a args.table.bytes.now args.c args.marks.now pre.0 (pre.1 k) c.in-Some.s (sym next-spot.ensures ∙ c.in-Some.is) h)
 
 pub returns-in_err-met : goal.returns-in_err-met
 returns-in_err-met g c =
@@ -27,11 +27,11 @@ returns-in_err-met g c =
     let f = c.from_residual.ensures in
     let y = c.in_err-met.field-0.0 in
     ap (λ (v : Result Step Damaged). stepping v c.meet.new.marks) (err-is c.from_residual.result f.0)
-    ∙ step-breaks args.n args.a args.table.now args.c args.marks.now c.next_spot.result c.next_spot.ensures c.in-Some.s c.in-Some.is
+    ∙ step-breaks args.table.pages args.a args.table.bytes.now args.c args.marks.now c.next_spot.result c.next_spot.ensures c.in-Some.s c.in-Some.is
     c.meet.result c.meet.new.marks c.meet.ensures y c.in_err-met.was
 
 pub returns : goal.returns
 returns g c =
     let args = c.args in
-    step_settles args.n args.a args.table.now args.c args.marks.now c.next_spot.result c.next_spot.ensures c.in-Some.s c.in-Some.is
+    step_settles args.table.pages args.a args.table.bytes.now args.c args.marks.now c.next_spot.result c.next_spot.ensures c.in-Some.s c.in-Some.is
     c.meet.result c.meet.new.marks c.meet.ensures c.in_ok-met.met (c.in_ok-met.was) c.settle.result c.settle.ensures

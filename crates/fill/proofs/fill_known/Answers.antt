@@ -1,8 +1,9 @@
 -- `fill::fill_known`: at each turn, what stands in the lists and what is left of the dry walk come to what it sees.
 -- Assumes nothing.
-use mathlib.Core.Path.{refl}
+use mathlib.Core.Path.{refl, ap, ◌∙◌}
+use Rattle.head.specs.Head.{head_in}
 use Rattle.fill.proofs.Copies.{roomy-kept}
-use Rattle.fill.proofs.Calms.{filling-begins, filling_sure, filling-full, filling-ends, marks-size, filling-passes, filling-inside, filling-count, filling-rises, filling-leaf}
+use Rattle.fill.proofs.Calms.{filling-begins, filling_sure, filling-full, filling-ends, marks-size, filling-passes, filling-below, filling-inside, filling-count, filling-rises, filling-leaf}
 use native.Mathlib.Omega.{arith}
 use Rattle.fill.proofs.fill_known.Goals as goal
 
@@ -13,7 +14,7 @@ pub next_known-requires : goal.next_known-requires
 next_known-requires c =
     let pre = c.requires in
     let loop = c.loop-filled in
-    (pre.0.long, loop.invariant.3.going.leads, filling_sure pre.0 loop.invariant.3 c.loop-filled-test.true)
+    (loop.invariant.3.going.leads, filling_sure pre.0 loop.invariant.3 c.loop-filled-test.true)
 
 pub shape_of-keys-in_default : goal.shape_of-keys-in_default
 shape_of-keys-in_default c = c.loop-filled.invariant.1
@@ -25,9 +26,12 @@ pub returns-in_default : goal.returns-in_default
 returns-in_default c =
     filling-ends c.requires.0 c.loop-filled.invariant.3 c.loop-filled-test.true c.next_known.ensures c.in_default.is
 
-pub head_at-head-requires : goal.head_at-head-requires
-head_at-head-requires c =
-    filling-inside c.requires.0 c.loop-filled.invariant.3 c.loop-filled-test.true c.next_known.ensures c.in-Some.leaf c.in-Some.is
+pub page-requires : goal.page-requires
+page-requires c =
+    filling-below c.requires.0 c.loop-filled.invariant.3 c.loop-filled-test.true c.next_known.ensures c.in-Some.leaf c.in-Some.is
+
+pub read_head-head-requires : goal.read_head-head-requires
+read_head-head-requires c = omega (arith, c.page.ensures.size)
 
 pub fill_leaf_at-filled-requires : goal.fill_leaf_at-filled-requires
 fill_leaf_at-filled-requires c =
@@ -35,9 +39,10 @@ fill_leaf_at-filled-requires c =
     let loop = c.loop-filled in
     let if1 = c.loop-filled-test in
     let next = c.next_known in
-    let head_at = c.head_at-head in
+    let head_at = c.read_head-head in
+    let read = head_at.ensures ∙ ap head_in c.page.ensures.bytes in
     let size = marks-size pre.0 loop.invariant.3 if1.true next.ensures next.auto.marks in
-    (filling-inside pre.0 loop.invariant.3 if1.true next.ensures c.in-Some.leaf c.in-Some.is, filling-count pre.0 loop.invariant.3 if1.true next.ensures c.in-Some.leaf c.in-Some.is size head_at.result head_at.ensures, filling-rises pre.0 loop.invariant.3 if1.true next.ensures c.in-Some.leaf c.in-Some.is size head_at.result head_at.ensures, omega (arith, if1.true), loop.invariant.3.roomy)
+    (filling-inside pre.0 loop.invariant.3 if1.true next.ensures c.in-Some.leaf c.in-Some.is, filling-count pre.0 loop.invariant.3 if1.true next.ensures c.in-Some.leaf c.in-Some.is size head_at.result read, filling-rises pre.0 loop.invariant.3 if1.true next.ensures c.in-Some.leaf c.in-Some.is size head_at.result read, omega (arith, if1.true), loop.invariant.3.roomy)
 
 pub loop-filled-smaller : goal.loop-filled-smaller
 loop-filled-smaller c =
@@ -49,10 +54,11 @@ loop-filled-preserved c =
     let loop = c.loop-filled in
     let if1 = c.loop-filled-test in
     let next = c.next_known in
-    let head_at = c.head_at-head in
+    let head_at = c.read_head-head in
+    let read = head_at.ensures ∙ ap head_in c.page.ensures.bytes in
     let fill-leaf-at = c.fill_leaf_at-filled in
     let size = marks-size pre.0 loop.invariant.3 if1.true next.ensures next.auto.marks in
-    (omega (arith, next.auto.marks, loop.invariant.0), omega (arith, fill-leaf-at.auto.keys, loop.invariant.1), omega (arith, fill-leaf-at.auto.records, loop.invariant.2), filling-leaf pre.0 loop.invariant.3 if1.true next.ensures c.in-Some.leaf c.in-Some.is size head_at.result head_at.ensures fill-leaf-at.result fill-leaf-at.new.keys fill-leaf-at.new.records fill-leaf-at.ensures (roomy-kept loop.invariant.3.roomy fill-leaf-at.auto.keys fill-leaf-at.auto.records) (omega (arith, next.auto.marks, loop.invariant.0)))
+    (omega (arith, next.auto.marks, loop.invariant.0), omega (arith, fill-leaf-at.auto.keys, loop.invariant.1), omega (arith, fill-leaf-at.auto.records, loop.invariant.2), filling-leaf pre.0 loop.invariant.3 if1.true next.ensures c.in-Some.leaf c.in-Some.is size head_at.result read fill-leaf-at.result fill-leaf-at.new.keys fill-leaf-at.new.records fill-leaf-at.ensures (roomy-kept loop.invariant.3.roomy fill-leaf-at.auto.keys fill-leaf-at.auto.records) (omega (arith, next.auto.marks, loop.invariant.0)))
 
 pub shape_of-keys : goal.shape_of-keys
 shape_of-keys c = c.loop-filled.invariant.1

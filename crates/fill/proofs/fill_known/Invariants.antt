@@ -7,7 +7,7 @@ use Rattle.fill.proofs.Calms.{Filling}
 use Rattle.fill.proofs.fill_known.Given as goal
 
 abbrev pub invariant-loop-filled : goal.invariant-loop-filled
-invariant-loop-filled l = (length l.mended ≡ 128) × (length l.keys ≡ length l.initial.keys) × (length l.records ≡ length l.initial.records) × Filling l.n l.a l.t l.initial.keys l.initial.records l.at l.filled l.mended l.keys l.records
+invariant-loop-filled l = (length l.mended ≡ 128) × (length l.keys ≡ length l.initial.keys) × (length l.records ≡ length l.initial.records) × Filling l.t.pages l.a l.t.bytes.now l.initial.keys l.initial.records l.at l.filled l.mended l.keys l.records
 
 abbrev pub decreases-loop-filled : goal.decreases-loop-filled
 decreases-loop-filled l = way_left l.at
