@@ -103,17 +103,13 @@ all-grows c (x ∷ xs) =
 
 module _ (low high : ℕ) where
   module _ (c : Tally) (key : ℕ) where
-    pub in_below : key < low → c ≡ counted_in low high c key
+    pub in_not : between low high key ≡ false → c ≡ counted_in low high c key
     unfolding counted_in
-    in_below h = rw (counted_in, between-below low high key h)
+    in_not h = rw (counted_in, h)
 
-    pub in_above : high < key → c ≡ counted_in low high c key
+    pub in_here : between low high key ≡ true → counted c key ≡ counted_in low high c key
     unfolding counted_in
-    in_above h = rw (counted_in, between-above low high key h)
-
-    pub in_here : low ≤ key → key ≤ high → counted c key ≡ counted_in low high c key
-    unfolding counted_in
-    in_here l h = rw (counted_in, between-of low high key l h)
+    in_here h = rw (counted_in, h)
 
     -- one more at the most
     pub in_few : Few c → Few (counted_in low high c key)

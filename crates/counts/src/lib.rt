@@ -15,7 +15,7 @@ ghost use Rattle.rules.specs.Page.{read_each, cert_in};
 ghost use Rattle.rules.specs.Table.{fit0};
 ghost use Rattle.counts.specs.Tally.{everything, one_more, counted, counted_in, counted_all, Few, ahead_of};
 
-use dry::Cursor;
+use dry::{Cursor, KeyRange};
 use head::{Table, cert_key, read_head};
 use rules::{Asked, LAST_KEY, MOST};
 
@@ -78,27 +78,24 @@ pub fn counted(c: Tally, key: u64) -> Tally
 }
 
 // The same, if its key lies in a range.
-fn counted_in(low: u64, high: u64, c: Tally, key: u64) -> Tally
+fn counted_in(range: KeyRange, c: Tally, key: u64) -> Tally
     requires { Few c × (c.certs ≤ 4294967295) }
-    ensures { result ≡ counted_in low high c key }
+    ensures { result ≡ counted_in range.low range.high c key }
 {
-    if key < low {
-        return c;
-    }
-    if key > high {
+    if !range.holds(key) {
         return c;
     }
     counted(c, key)
 }
 
 // The certificates of a leaf that lie in a range.
-fn count_leaf(page: &[u8], entries: usize, low: u64, high: u64, c: Tally) -> Tally
+fn count_leaf(page: &[u8], entries: usize, range: KeyRange, c: Tally) -> Tally
     requires { (leaf_header + cert_size * entries ≤ length page.now) × (entries ≤ leaf_room) × Few c × (c.certs + leaf_room ≤ 4294967295) }
-    ensures { result ≡ counted_all c (cut low high (read_each cert_in cert_size entries (drop leaf_header page.now))) }
+    ensures { result ≡ counted_all c (cut range.low range.high (read_each cert_in cert_size entries (drop leaf_header page.now))) }
 {
     let mut tally = c;
     for j in 0..entries {
-        tally = counted_in(low, high, tally, cert_key(page, j));
+        tally = counted_in(range, tally, cert_key(page, j));
     }
     tally
 }
@@ -121,7 +118,11 @@ pub fn count_of(table: Table<'_>) -> Result<Tally, Tally>
         };
         let page = table.page(leaf.page as usize);
         let entries = read_head(page).count as usize;
-        tally = count_leaf(page, entries, leaf.place.low, leaf.place.high, tally);
+        let range = KeyRange {
+            low: leaf.place.low,
+            high: leaf.place.high,
+        };
+        tally = count_leaf(page, entries, range, tally);
         at = leaf.after;
     }
     Ok(tally)

@@ -83,14 +83,8 @@ module _ (low high room : ℕ) where
     unfolding tallied
     tallied-here h = rw (tallied, h)
 
-    outside : between low high key ≡ false → count ≡ tallied low high room key count
+    pub outside : between low high key ≡ false → count ≡ tallied low high room key count
     outside h = tallied_not (rw h)
-
-    pub tallied-low : key < low → count ≡ tallied low high room key count
-    tallied-low h = outside (between-below low high key h)
-
-    pub tallied-high : high < key → count ≡ tallied low high room key count
-    tallied-high h = outside (between-above low high key h)
 
     pub tallied-full : room ≤ count → count ≡ tallied low high room key count
     tallied-full h = tallied_not (go (between low high key))
@@ -99,8 +93,8 @@ module _ (low high room : ℕ) where
         go true = le-ltb count room h
         go false = refl
 
-    pub tallied-more : low ≤ key → key ≤ high → count < room → count + 1 ≡ tallied low high room key count
-    tallied-more l h r = tallied-here (rw (between-of low high key l h, lt-ltb count room r))
+    pub tallied-more : between low high key ≡ true → count < room → count + 1 ≡ tallied low high room key count
+    tallied-more h r = tallied-here (rw (h, lt-ltb count room r))
 
   -- ── A list of them ──────────────────────────────────────────────────────────────────────────────────────────────
 

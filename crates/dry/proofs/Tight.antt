@@ -25,5 +25,8 @@ next_known_tight κs a pre z z' l l' p q =
 pub mends_nothing_tight : Tight this.Dry.mends_nothing.Kinds.ps this.Dry.mends_nothing.Kinds.r this.Dry.mends_nothing.Reads.Pre this.Dry.mends_nothing.Reads.Post
 mends_nothing_tight κs a pre z z' l l' p q = (p ∙ sym q, refl)
 
+pub holds_tight : Tight this.KeyRange.holds.Kinds.ps this.KeyRange.holds.Kinds.r this.KeyRange.holds.Reads.Pre this.KeyRange.holds.Reads.Post
+holds_tight κs a pre z z' l l' p q = (p ∙ sym q, refl)
+
 pub tally_leaf_tight : Tight this.tally.tally_leaf.Kinds.ps this.tally.tally_leaf.Kinds.r this.tally.tally_leaf.Reads.Pre this.tally.tally_leaf.Reads.Post
 tally_leaf_tight κs a pre z z' l l' p q = (p ∙ sym q, refl)

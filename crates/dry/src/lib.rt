@@ -18,7 +18,7 @@
 mod tally;
 
 ghost use Rattle.std.specs.Prelude.{◌≡◌, true, ◌<◌, [], ◌∷◌, Some, Ok};
-ghost use Rattle.rules.specs.Test.{mem};
+ghost use Rattle.rules.specs.Test.{mem, between};
 ghost use Rattle.rules.specs.Table.{fit0};
 ghost use Rattle.seen.specs.Run.{Lies};
 ghost use Rattle.dry.specs.Walk.{keeps, helps, none_marked, dry_of};
@@ -44,6 +44,24 @@ impl Dry {
         ensures { result ≡ none_marked self.now.mended }
     {
         !self.mended.contains(&true)
+    }
+}
+
+// The keys from low to high.
+#[derive(Clone, Copy)]
+pub struct KeyRange {
+    pub low: u64,
+    pub high: u64,
+}
+
+impl KeyRange {
+    pub fn holds(self, key: u64) -> bool
+        ensures { result ≡ between self.low self.high key }
+    {
+        if key < self.low {
+            return false;
+        }
+        key <= self.high
     }
 }
 

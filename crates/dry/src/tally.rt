@@ -6,18 +6,16 @@ ghost use Rattle.rules.specs.Layout.{leaf_header, cert_size};
 ghost use Rattle.rules.specs.Page.{read_each, cert_in};
 ghost use Rattle.dry.specs.Count.{tallied, tally, tally_all, lies_in, Leaf, tally_at};
 
+use crate::KeyRange;
 use head::{Head, Table, cert_key};
 use rules::{Asked, Place};
 use std::cmp::{max, min};
 
 // One certificate more, if its key is asked for and there is room.
-fn tally_key(low: u64, high: u64, room: usize, key: u64, count: usize) -> usize
-    ensures { result ≡ tallied low high room key count }
+fn tally_key(range: KeyRange, room: usize, key: u64, count: usize) -> usize
+    ensures { result ≡ tallied range.low range.high room key count }
 {
-    if key < low {
-        return count;
-    }
-    if key > high {
+    if !range.holds(key) {
         return count;
     }
     if count >= room {
@@ -26,13 +24,13 @@ fn tally_key(low: u64, high: u64, room: usize, key: u64, count: usize) -> usize
     count + 1
 }
 
-fn tally_each(page: &[u8], entries: usize, low: u64, high: u64, room: usize, count: usize) -> usize
+fn tally_each(page: &[u8], entries: usize, range: KeyRange, room: usize, count: usize) -> usize
     requires { leaf_header + cert_size * entries ≤ length page.now }
-    ensures { result ≡ tally low high room (read_each cert_in cert_size entries (drop leaf_header page.now)) count }
+    ensures { result ≡ tally range.low range.high room (read_each cert_in cert_size entries (drop leaf_header page.now)) count }
 {
     let mut found = count;
     for j in 0..entries {
-        found = tally_key(low, high, room, cert_key(page, j), found);
+        found = tally_key(range, room, cert_key(page, j), found);
     }
     found
 }
@@ -51,13 +49,13 @@ fn tally_all(entries: usize, room: usize, count: usize) -> usize
 }
 
 // Whether a page's range lies in another one.
-fn lies_in(head: Head, low: u64, high: u64) -> bool
-    ensures { result ≡ lies_in head low high }
+fn lies_in(head: Head, range: KeyRange) -> bool
+    ensures { result ≡ lies_in head range.low range.high }
 {
-    if low > head.low {
+    if range.low > head.low {
         return false;
     }
-    head.high <= high
+    head.high <= range.high
 }
 
 // The certificates of a leaf, as a place shows them, that are asked for. A list asks for most leaves whole: those are
@@ -74,10 +72,12 @@ pub fn tally_leaf(
     ensures { result ≡ tally_at table.entry.bytes.now page a e count }
 {
     let entries = head.count as usize;
-    let low = max(a.low, e.low);
-    let high = min(a.high, e.high);
-    if lies_in(head, low, high) {
+    let range = KeyRange {
+        low: max(a.low, e.low),
+        high: min(a.high, e.high),
+    };
+    if lies_in(head, range) {
         return tally_all(entries, a.room, count);
     }
-    tally_each(table.page(page), entries, low, high, a.room, count)
+    tally_each(table.page(page), entries, range, a.room, count)
 }

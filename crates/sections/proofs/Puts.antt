@@ -101,17 +101,13 @@ next-room {s} {long} c key f l d e = subst (λ (x : Tally). Room c x s long) (sy
 
 module _ (s : Starts) (low high : ℕ) where
   module _ (c : Tally) (e : Cert) (out : List ℕ) where
-    pub from-below : e.key < low → putting c out ≡ put_from s low high c e out
+    pub from_not : between low high e.key ≡ false → putting c out ≡ put_from s low high c e out
     unfolding put_from
-    from-below h = rw (put_from, between-below low high e.key h)
+    from_not h = rw (put_from, h)
 
-    pub from-above : high < e.key → putting c out ≡ put_from s low high c e out
+    pub from-here : between low high e.key ≡ true → putting (counted c e.key) (put_next s c e out) ≡ put_from s low high c e out
     unfolding put_from
-    from-above h = rw (put_from, between-above low high e.key h)
-
-    pub from-here : low ≤ e.key → e.key ≤ high → putting (counted c e.key) (put_next s c e out) ≡ put_from s low high c e out
-    unfolding put_from
-    from-here l h = rw (put_from, between-of low high e.key l h)
+    from-here h = rw (put_from, h)
 
     pub from-tally : (put_from s low high c e out).tally ≡ counted_in low high c e.key
     unfolding put_from counted_in

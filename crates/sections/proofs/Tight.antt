@@ -12,4 +12,4 @@ put_counts_tight κs a pre z z' l l' p q = (refl, λ i. ((p ∙ sym q) i, l.1))
 pub put_leaf_tight : Tight this.put_leaf.Kinds.ps this.put_leaf.Kinds.r this.put_leaf.Reads.Pre this.put_leaf.Reads.Post
 put_leaf_tight κs a pre z z' l l' p q =
     let e = p ∙ sym q in
-    ((λ i. (e i).tally), (λ i. (l.0, (l.1.0, (l.1.1.0, (l.1.1.1.0, (l.1.1.1.1.0, (l.1.1.1.1.1.0, ((e i).out, l.1.1.1.1.1.1.1)))))))))
+    ((λ i. (e i).tally), (λ i. (l.0, (l.1.0, (l.1.1.0, (l.1.1.1.0, (l.1.1.1.1.0, ((e i).out, l.1.1.1.1.1.1))))))))

@@ -16,6 +16,7 @@ ghost use Rattle.counts.specs.Tally.{counted, counted_in, counted_all, Few};
 ghost use Rattle.sections.specs.Puts.{starts_of, put_counts, put_model, put_meter, put_cert, put_next, put_from, putting, put_all, Lies};
 
 use counts::{BY_METER, BY_MODEL, Tally, counted};
+use dry::KeyRange;
 use fields::put32;
 use head::{cert_key, cert_record};
 
@@ -122,22 +123,11 @@ fn put_next(out: &mut [u8], s: Starts, c: Tally, key: u64, record: u32) -> Tally
 }
 
 // The same, if its key lies in a range.
-fn put_from(
-    out: &mut [u8],
-    s: Starts,
-    low: u64,
-    high: u64,
-    c: Tally,
-    key: u64,
-    record: u32,
-) -> Tally
-    requires { Few c × (c.certs ≤ 4294967295) × Lies s (counted_in low high c key) (length out.old) }
-    ensures { putting result out.new ≡ put_from s low high c (record { key = key; value = «record» }) out.old }
+fn put_from(out: &mut [u8], s: Starts, range: KeyRange, c: Tally, key: u64, record: u32) -> Tally
+    requires { Few c × (c.certs ≤ 4294967295) × Lies s (counted_in range.low range.high c key) (length out.old) }
+    ensures { putting result out.new ≡ put_from s range.low range.high c (record { key = key; value = «record» }) out.old }
 {
-    if key < low {
-        return c;
-    }
-    if key > high {
+    if !range.holds(key) {
         return c;
     }
     put_next(out, s, c, key, record)
@@ -147,22 +137,21 @@ fn put_from(
 pub fn put_leaf(
     page: &[u8],
     entries: usize,
-    low: u64,
-    high: u64,
+    range: KeyRange,
     s: Starts,
     c: Tally,
     out: &mut [u8],
 ) -> Tally
     requires { (leaf_header + cert_size * entries ≤ length page.now) × Few c
-        × Lies s (counted_all c (cut low high (read_each cert_in cert_size entries (drop leaf_header page.now)))) (length out.old) }
+        × Lies s (counted_all c (cut range.low range.high (read_each cert_in cert_size entries (drop leaf_header page.now)))) (length out.old) }
     ensures { putting result out.new
-        ≡ put_all s c (cut low high (read_each cert_in cert_size entries (drop leaf_header page.now))) out.old }
+        ≡ put_all s c (cut range.low range.high (read_each cert_in cert_size entries (drop leaf_header page.now))) out.old }
 {
     let mut tally = c;
     for j in 0..entries {
         let key = cert_key(page, j);
         let record = cert_record(page, j);
-        tally = put_from(out, s, low, high, tally, key, record);
+        tally = put_from(out, s, range, tally, key, record);
     }
     tally
 }

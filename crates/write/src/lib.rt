@@ -27,6 +27,7 @@ ghost use Rattle.sections.specs.Puts.{Lies};
 ghost use Rattle.write.specs.Calls.{beside, leaving, telling, told, wrote, wrote_in};
 
 use counts::{Tally, everything};
+use dry::KeyRange;
 use head::{Table, page_at};
 use leaves::Stepped;
 use rules::{Asked, Report, Session};
@@ -95,16 +96,12 @@ fn fill(t: &mut [u8], n: usize, c: u32, a: Asked, s: Starts, out: &mut [u8]) -> 
             return report;
         };
         report = leaf.report;
-        let page = leaf.child as usize;
-        tally = put_leaf(
-            page_at(t, page),
-            leaf.count as usize,
-            key,
-            a.high,
-            s,
-            tally,
-            out,
-        );
+        let page = page_at(t, leaf.child as usize);
+        let range = KeyRange {
+            low: key,
+            high: a.high,
+        };
+        tally = put_leaf(page, leaf.count as usize, range, s, tally, out);
         if leaf.high >= a.high {
             return report;
         }

@@ -23,14 +23,14 @@ loop-j-preserved c =
     let counted-in = c.counted_in-tally in
     let key = c.cert_key in
     record {
-      few = subst Few (sym counted-in.ensures) (in_few args.low args.high loop.tally key.result loop.invariant.few);
-      most = subst (λ (d : Tally). d.certs ≤ args.c.certs + (loop.j + 1)) (sym counted-in.ensures) (omega (arith, loop.invariant.most, in_most args.low args.high loop.tally key.result));
-      same = counts-turn args.low args.high args.page.now args.entries loop.j key.result loop.tally counted-in.result c.loop-j-test.true key.ensures counted-in.ensures ∙ loop.invariant.same;
+      few = subst Few (sym counted-in.ensures) (in_few args.range.low args.range.high loop.tally key.result loop.invariant.few);
+      most = subst (λ (d : Tally). d.certs ≤ args.c.certs + (loop.j + 1)) (sym counted-in.ensures) (omega (arith, loop.invariant.most, in_most args.range.low args.range.high loop.tally key.result));
+      same = counts-turn args.range.low args.range.high args.page.now args.entries loop.j key.result loop.tally counted-in.result c.loop-j-test.true key.ensures counted-in.ensures ∙ loop.invariant.same;
     }
 
 pub returns : goal.returns
 returns c =
     let args = c.args in
     let loop = c.loop-j in
-    sym (counts_end args.low args.high args.page.now args.entries loop.j loop.tally c.loop-j-test.false)
-    ∙ (loop.invariant.same ∙ counts_start args.low args.high args.page.now args.entries args.c)
+    sym (counts_end args.range.low args.range.high args.page.now args.entries loop.j loop.tally c.loop-j-test.false)
+    ∙ (loop.invariant.same ∙ counts_start args.range.low args.range.high args.page.now args.entries args.c)

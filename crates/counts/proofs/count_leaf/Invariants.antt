@@ -9,5 +9,5 @@ abbrev pub invariant-loop-j : goal.invariant-loop-j
 invariant-loop-j l = record {
   few : Few l.tally;
   most : l.tally.certs ≤ l.initial.tally.certs + l.j;
-  same : counts l.low l.high l.page l.entries l.j l.tally ≡ counts l.low l.high l.page l.entries 0 l.initial.tally;
+  same : counts l.range.low l.range.high l.page l.entries l.j l.tally ≡ counts l.range.low l.range.high l.page l.entries 0 l.initial.tally;
 }

@@ -4,18 +4,16 @@ use lib.ListN.{length}
 use Rattle.counts.specs.declared.Tally.{Tally}
 use Rattle.counts.proofs.Tallies.{in_here}
 use Rattle.sections.specs.Puts.{Lies}
-use Rattle.sections.proofs.Puts.{from-below, from-above, from-here}
-use native.Mathlib.Omega.{arith}
+use Rattle.sections.proofs.Puts.{from_not, from-here}
 use Rattle.sections.proofs.put_from.Goals as goal
 
-pub returns-then-key-low : goal.returns-then-key-low
-returns-then-key-low c = from-below c.args.s c.args.low c.args.high c.args.c (record { key = c.args.key; value = c.args.«record» }) c.args.out.now c.if-key-low.true
-
-pub returns-then-key-high : goal.returns-then-key-high
-returns-then-key-high c = from-above c.args.s c.args.low c.args.high c.args.c (record { key = c.args.key; value = c.args.«record» }) c.args.out.now c.if-key-high.true
+pub returns-then-not-holds : goal.returns-then-not-holds
+returns-then-not-holds c = from_not c.args.s c.args.range.low c.args.range.high c.args.c (record { key = c.args.key; value = c.args.«record» }) c.args.out.now (sym c.holds.ensures ∙ c.if-not-holds.true)
 
 pub put_next-requires : goal.put_next-requires
-put_next-requires c = (c.requires.0, c.requires.1, subst (λ (d : Tally). Lies c.args.s d (length c.args.out.now)) (sym (in_here c.args.low c.args.high c.args.c c.args.key (omega (arith, c.if-key-low.false)) (omega (arith, c.if-key-high.false)))) c.requires.2)
+put_next-requires c =
+    let there = in_here c.args.range.low c.args.range.high c.args.c c.args.key (sym c.holds.ensures ∙ c.if-not-holds.false) in
+    (c.requires.0, c.requires.1, subst (λ (d : Tally). Lies c.args.s d (length c.args.out.now)) (sym there) c.requires.2)
 
 pub returns : goal.returns
-returns c = c.put_next.ensures ∙ from-here c.args.s c.args.low c.args.high c.args.c (record { key = c.args.key; value = c.args.«record» }) c.args.out.now (omega (arith, c.if-key-low.false)) (omega (arith, c.if-key-high.false))
+returns c = c.put_next.ensures ∙ from-here c.args.s c.args.range.low c.args.range.high c.args.c (record { key = c.args.key; value = c.args.«record» }) c.args.out.now (sym c.holds.ensures ∙ c.if-not-holds.false)

@@ -13,7 +13,7 @@ pub loop-j-init : goal.loop-j-init
 loop-j-init c = record {
   long = refl;
   few = c.requires.1;
-  lies = subst (λ (d : Tally). Lies c.args.s d (length c.args.out.now)) (sym (counts_start c.args.low c.args.high c.args.page.now c.args.entries c.args.c)) c.requires.2;
+  lies = subst (λ (d : Tally). Lies c.args.s d (length c.args.out.now)) (sym (counts_start c.args.range.low c.args.range.high c.args.page.now c.args.entries c.args.c)) c.requires.2;
   same = refl;
 }
 
@@ -29,8 +29,8 @@ put_from-tally-requires c =
     let loop = c.loop-j in
     let b = args.page.now in (
       loop.invariant.few,
-      (left-lies args.s args.low args.high b args.entries loop.j loop.tally loop.invariant.lies).counts,
-      subst (Lies args.s _) (sym loop.invariant.long) (turn-lies args.s args.low args.high b args.entries loop.j c.cert_key-key.result loop.tally (length args.out.now) c.loop-j-test.true c.cert_key-key.ensures loop.invariant.lies),
+      (left-lies args.s args.range.low args.range.high b args.entries loop.j loop.tally loop.invariant.lies).counts,
+      subst (Lies args.s _) (sym loop.invariant.long) (turn-lies args.s args.range.low args.range.high b args.entries loop.j c.cert_key-key.result loop.tally (length args.out.now) c.loop-j-test.true c.cert_key-key.ensures loop.invariant.lies),
     )
 
 pub loop-j-preserved : goal.loop-j-preserved
@@ -41,12 +41,12 @@ loop-j-preserved c =
     let put-from = c.put_from-tally in
     let key = c.cert_key-key in
     let value = c.cert_record-record in
-    let tally = turn-tally args.s args.low args.high loop.tally put-from.result (record { key = key.result; value = value.result }) loop.out put-from.new.out put-from.ensures in
+    let tally = turn-tally args.s args.range.low args.range.high loop.tally put-from.result (record { key = key.result; value = value.result }) loop.out put-from.new.out put-from.ensures in
     record {
       long = omega (arith, put-from.auto.out, loop.invariant.long);
-      few = subst Few (sym tally) (in_few args.low args.high loop.tally key.result loop.invariant.few);
-      lies = subst (λ (d : Tally). Lies args.s d (length args.out.now)) (sym (counts-turn args.low args.high b args.entries loop.j key.result loop.tally put-from.result c.loop-j-test.true key.ensures tally)) loop.invariant.lies;
-      same = puts-turn args.s args.low args.high b args.entries loop.j key.result value.result loop.tally put-from.result loop.out put-from.new.out c.loop-j-test.true key.ensures value.ensures put-from.ensures ∙ loop.invariant.same;
+      few = subst Few (sym tally) (in_few args.range.low args.range.high loop.tally key.result loop.invariant.few);
+      lies = subst (λ (d : Tally). Lies args.s d (length args.out.now)) (sym (counts-turn args.range.low args.range.high b args.entries loop.j key.result loop.tally put-from.result c.loop-j-test.true key.ensures tally)) loop.invariant.lies;
+      same = puts-turn args.s args.range.low args.range.high b args.entries loop.j key.result value.result loop.tally put-from.result loop.out put-from.new.out c.loop-j-test.true key.ensures value.ensures put-from.ensures ∙ loop.invariant.same;
     }
 
 pub shape_of-out : goal.shape_of-out
@@ -56,5 +56,5 @@ pub returns : goal.returns
 returns c =
     let args = c.args in
     let loop = c.loop-j in
-    sym (puts-end args.s args.low args.high args.page.now args.entries loop.j loop.tally loop.out c.loop-j-test.false)
-    ∙ (loop.invariant.same ∙ puts-start args.s args.low args.high args.page.now args.entries args.c args.out.now)
+    sym (puts-end args.s args.range.low args.range.high args.page.now args.entries loop.j loop.tally loop.out c.loop-j-test.false)
+    ∙ (loop.invariant.same ∙ puts-start args.s args.range.low args.range.high args.page.now args.entries args.c args.out.now)

@@ -11,6 +11,6 @@ abbrev pub invariant-loop-j : goal.invariant-loop-j
 invariant-loop-j l = record {
   long : length l.out ≡ length l.initial.out;
   few : Few l.tally;
-  lies : Lies l.s (counts l.low l.high l.page l.entries l.j l.tally) (length l.initial.out);
-  same : puts l.s l.low l.high l.page l.entries l.j l.tally l.out ≡ puts l.s l.low l.high l.page l.entries 0 l.initial.tally l.initial.out;
+  lies : Lies l.s (counts l.range.low l.range.high l.page l.entries l.j l.tally) (length l.initial.out);
+  same : puts l.s l.range.low l.range.high l.page l.entries l.j l.tally l.out ≡ puts l.s l.range.low l.range.high l.page l.entries 0 l.initial.tally l.initial.out;
 }

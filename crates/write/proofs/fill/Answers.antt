@@ -22,14 +22,14 @@ shape_of-out-in_default c = c.loop-key.invariant.1
 pub returns-in_default : goal.returns-in_default
 returns-in_default c = absurd (filling-damaged c.loop-key.invariant.2 c.requires.5 c.requires.4 c.loop-key.key c.next.new.t c.in_default.field-0 (ap (nexting c.next.new.t) (sym c.in_default.is) ∙ c.next.ensures))
 
-pub page_at-requires : goal.page_at-requires
-page_at-requires c =
+pub page_at-page-requires : goal.page_at-page-requires
+page_at-page-requires c =
     reached-inside (filling-reached c.loop-key.invariant.2 c.requires.5 c.requires.4 c.loop-key.key c.next.new.t c.in-Leaf.leaf (ap (nexting c.next.new.t) (sym c.in-Leaf.is) ∙ c.next.ensures))
 
 pub put_leaf-tally-requires : goal.put_leaf-tally-requires
 put_leaf-tally-requires c =
     let r = filling-reached c.loop-key.invariant.2 c.requires.5 c.requires.4 c.loop-key.key c.next.new.t c.in-Leaf.leaf (ap (nexting c.next.new.t) (sym c.in-Leaf.is) ∙ c.next.ensures) in
-    (omega (arith, reached-count r, c.page_at.ensures.size), filling-few c.loop-key.invariant.2, rw (c.loop-key.invariant.1, c.page_at.ensures.bytes) (filling-lies c.loop-key.invariant.2 c.requires.5 c.requires.4 c.loop-key.key c.next.new.t c.in-Leaf.leaf (ap (nexting c.next.new.t) (sym c.in-Leaf.is) ∙ c.next.ensures) c.requires.6))
+    (omega (arith, reached-count r, c.page_at-page.ensures.size), filling-few c.loop-key.invariant.2, rw (c.loop-key.invariant.1, c.page_at-page.ensures.bytes) (filling-lies c.loop-key.invariant.2 c.requires.5 c.requires.4 c.loop-key.key c.next.new.t c.in-Leaf.leaf (ap (nexting c.next.new.t) (sym c.in-Leaf.is) ∙ c.next.ensures) c.requires.6))
 
 pub shape_of-t-then-leaf-a : goal.shape_of-t-then-leaf-a
 shape_of-t-then-leaf-a c = omega (arith, c.next.auto.t, c.loop-key.invariant.0)
@@ -38,13 +38,13 @@ pub shape_of-out-then-leaf-a : goal.shape_of-out-then-leaf-a
 shape_of-out-then-leaf-a c = omega (arith, c.put_leaf-tally.auto.out, c.loop-key.invariant.1)
 
 pub returns-then-leaf-a : goal.returns-then-leaf-a
-returns-then-leaf-a c = filling-ends c.loop-key.invariant.2 c.requires.5 c.requires.4 c.loop-key.key c.next.new.t c.in-Leaf.leaf (ap (nexting c.next.new.t) (sym c.in-Leaf.is) ∙ c.next.ensures) c.put_leaf-tally.result c.put_leaf-tally.new.out (rw c.page_at.ensures.bytes at c.put_leaf-tally.ensures) (omega (arith, c.if-leaf-a.true))
+returns-then-leaf-a c = filling-ends c.loop-key.invariant.2 c.requires.5 c.requires.4 c.loop-key.key c.next.new.t c.in-Leaf.leaf (ap (nexting c.next.new.t) (sym c.in-Leaf.is) ∙ c.next.ensures) c.put_leaf-tally.result c.put_leaf-tally.new.out (rw c.page_at-page.ensures.bytes at c.put_leaf-tally.ensures) (omega (arith, c.if-leaf-a.true))
 
 pub loop-key-smaller : goal.loop-key-smaller
 loop-key-smaller c = filling_less c.loop-key.invariant.2 c.requires.5 c.requires.4 c.loop-key.key c.next.new.t c.in-Leaf.leaf (ap (nexting c.next.new.t) (sym c.in-Leaf.is) ∙ c.next.ensures) (omega (arith, c.if-leaf-a.false))
 
 pub loop-key-preserved : goal.loop-key-preserved
-loop-key-preserved c = (omega (arith, c.next.auto.t, c.loop-key.invariant.0), omega (arith, c.put_leaf-tally.auto.out, c.loop-key.invariant.1), filling_on c.loop-key.invariant.2 c.requires.5 c.requires.4 c.loop-key.key c.next.new.t c.in-Leaf.leaf (ap (nexting c.next.new.t) (sym c.in-Leaf.is) ∙ c.next.ensures) c.put_leaf-tally.result c.put_leaf-tally.new.out (rw c.page_at.ensures.bytes at c.put_leaf-tally.ensures) (omega (arith, c.if-leaf-a.false)))
+loop-key-preserved c = (omega (arith, c.next.auto.t, c.loop-key.invariant.0), omega (arith, c.put_leaf-tally.auto.out, c.loop-key.invariant.1), filling_on c.loop-key.invariant.2 c.requires.5 c.requires.4 c.loop-key.key c.next.new.t c.in-Leaf.leaf (ap (nexting c.next.new.t) (sym c.in-Leaf.is) ∙ c.next.ensures) c.put_leaf-tally.result c.put_leaf-tally.new.out (rw c.page_at-page.ensures.bytes at c.put_leaf-tally.ensures) (omega (arith, c.if-leaf-a.false)))
 
 pub shape_of-t : goal.shape_of-t
 shape_of-t c = c.loop-key.invariant.0

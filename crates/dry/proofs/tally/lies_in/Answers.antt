@@ -3,12 +3,12 @@ use Rattle.dry.proofs.Tallies.{lies-below, lies-up_to}
 use native.Mathlib.Omega.{arith}
 use Rattle.dry.proofs.tally.lies_in.Goals as goal
 
-pub returns-then-low-head : goal.returns-then-low-head
-returns-then-low-head c =
+pub returns-then-range-head : goal.returns-then-range-head
+returns-then-range-head c =
     let args = c.args in
-    lies-below args.head args.low args.high (omega (arith, c.if-low-head.true))
+    lies-below args.head args.range.low args.range.high (omega (arith, c.if-range-head.true))
 
 pub returns : goal.returns
 returns c =
     let args = c.args in
-    lies-up_to args.head args.low args.high (omega (arith, c.if-low-head.false))
+    lies-up_to args.head args.range.low args.range.high (omega (arith, c.if-range-head.false))

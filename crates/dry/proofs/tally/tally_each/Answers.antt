@@ -14,7 +14,7 @@ pub loop-j-preserved : goal.loop-j-preserved
 loop-j-preserved c =
     let args = c.args in
     let loop = c.loop-j in
-    tally-turn args.low args.high args.room args.page.now args.entries loop.j c.cert_key.result loop.found c.tally_key-found.result
+    tally-turn args.range.low args.range.high args.room args.page.now args.entries loop.j c.cert_key.result loop.found c.tally_key-found.result
     c.loop-j-test.true c.cert_key.ensures c.tally_key-found.ensures
     ∙ loop.invariant
 
@@ -22,5 +22,5 @@ pub returns : goal.returns
 returns c =
     let args = c.args in
     let loop = c.loop-j in
-    sym (tally-end args.low args.high args.room args.page.now args.entries loop.j loop.found c.loop-j-test.false)
-    ∙ (loop.invariant ∙ tally-start args.low args.high args.room args.page.now args.entries args.count)
+    sym (tally-end args.range.low args.range.high args.room args.page.now args.entries loop.j loop.found c.loop-j-test.false)
+    ∙ (loop.invariant ∙ tally-start args.range.low args.range.high args.room args.page.now args.entries args.count)

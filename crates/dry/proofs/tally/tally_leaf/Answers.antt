@@ -10,10 +10,10 @@ pub returns-then-lies_in : goal.returns-then-lies_in
 returns-then-lies_in c =
     let args = c.args in
     let pre = c.requires in
-    let low : c.max-low.result ≡ max args.a.low args.e.low = search rules in
-    let high : c.min-high.result ≡ min args.a.high args.e.high = search rules in
+    let low : c.max.result ≡ max args.a.low args.e.low = search rules in
+    let high : c.min.result ≡ min args.a.high args.e.high = search rules in
     c.tally_all.ensures ∙ tally-whole args.table.bytes.now args.page args.head pre.read_head args.a
-    args.e args.count c.max-low.result c.min-high.result pre.within
+    args.e args.count c.max.result c.min.result pre.within
     (sym c.lies_in.ensures ∙ c.if-lies_in.true) pre.kind low high
 
 pub page-requires : goal.page-requires
@@ -29,8 +29,8 @@ pub returns : goal.returns
 returns c =
     let args = c.args in
     let pre = c.requires in
-    let low : c.max-low.result ≡ max args.a.low args.e.low = search rules in
-    let high : c.min-high.result ≡ min args.a.high args.e.high = search rules in
+    let low : c.max.result ≡ max args.a.low args.e.low = search rules in
+    let high : c.min.result ≡ min args.a.high args.e.high = search rules in
     rw (c.tally_each.ensures, c.page.ensures.bytes)
     (tally_leaf_lem args.table.bytes.now args.page args.head pre.read_head args.a
-    args.e args.count c.max-low.result c.min-high.result pre.kind low high)
+    args.e args.count c.max.result c.min.result pre.kind low high)
