@@ -17,7 +17,7 @@ use Rattle.rules.specs.Table.{page_at, read}
 use Rattle.rules.specs.Place.{cut_view}
 use Rattle.rules.specs.declared.Asked.{Asked}
 use Rattle.rules.specs.declared.Place.{Place}
-use Rattle.rules.proofs.Entries.Tests.{fails, not_both, and_left, and_right, between-of, between-low, between-high, between-below, between-above}
+use Rattle.rules.proofs.Entries.Tests.{fails, not_both, and_left, and_right, between-of, between-low, between-high}
 use Rattle.rules.proofs.Bytes.Each.{length-read_each}
 use Rattle.rules.proofs.Entries.Entries.{cut-nil, cut_in, cut_out, cut_all, cut_wider}
 use Rattle.head.specs.Head.{cert_at, head_in}

@@ -141,32 +141,28 @@ fn helps_child(table: Table<'_>, marks: &[bool], e: Place) -> bool
     mendable_at(table, e)
 }
 
-// A child that stands above on the way is damaged; 0, which is never a child, stands for none.
-fn stands_above(parent: u16, top: u16, child: u16) -> bool
-    ensures { result ≡ mem child (parent ∷ top ∷ []) }
+// A child that stands above on the way is damaged; 0, which is never a child, stands for none. `enter`, on which this
+// crate does not stand, asks the same of its own two numbers.
+fn stands_above(s: Spot) -> bool
+    ensures { result ≡ mem s.place.child (s.parent ∷ s.top ∷ []) }
 {
-    if child == parent {
+    if s.place.child == s.parent {
         return true;
     }
-    child == top
+    s.place.child == s.top
 }
 
 // The page that shows a place in the course of a walk: the child, or the previous page that it would be mended from;
 // none of a damaged place. Where it is known to be the child, nothing is tested.
-fn source_at<const KNOWN: bool>(
-    table: Table<'_>,
-    parent: u16,
-    top: u16,
-    marks: &[bool],
-    e: Place,
-) -> Option<u16>
-    requires { KNOWN ≡ true → source table.pages (parent ∷ top ∷ []) table.bytes.now marks.now e ≡ Some e.child }
-    ensures { result ≡ source table.entry.pages (parent ∷ top ∷ []) table.entry.bytes.now marks.now e }
+fn source_at<const KNOWN: bool>(table: Table<'_>, s: Spot, marks: &[bool]) -> Option<u16>
+    requires { KNOWN ≡ true → source table.pages (s.parent ∷ s.top ∷ []) table.bytes.now marks.now s.place ≡ Some s.place.child }
+    ensures { result ≡ source table.entry.pages (s.parent ∷ s.top ∷ []) table.entry.bytes.now marks.now s.place }
 {
+    let e = s.place;
     if KNOWN {
         return Some(e.child);
     }
-    if stands_above(parent, top, e.child) {
+    if stands_above(s) {
         return None;
     }
     if keeps_child(table, marks, e) {
@@ -202,18 +198,17 @@ fn mark_by(marks: &mut [bool], page: u16, e: Place)
 fn meet<const KNOWN: bool>(
     table: Table<'_>,
     a: Asked,
-    parent: u16,
-    top: u16,
-    e: Place,
+    s: Spot,
     marks: &mut [bool],
 ) -> Result<Met, Damaged>
-    requires { KNOWN ≡ true → in_reach a e ≡ true → source table.pages (parent ∷ top ∷ []) table.bytes.now marks.old e ≡ Some e.child }
-    ensures { meeting result marks.new ≡ meet_of table.entry.pages a (parent ∷ top ∷ []) table.entry.bytes.now marks.old e }
+    requires { KNOWN ≡ true → in_reach a s.place ≡ true → source table.pages (s.parent ∷ s.top ∷ []) table.bytes.now marks.old s.place ≡ Some s.place.child }
+    ensures { meeting result marks.new ≡ meet_of table.entry.pages a (s.parent ∷ s.top ∷ []) table.entry.bytes.now marks.old s.place }
 {
+    let e = s.place;
     if !in_reach(a, e) {
         return Ok(Met::Passed);
     }
-    let Some(page) = source_at::<KNOWN>(table, parent, top, marks, e) else {
+    let Some(page) = source_at::<KNOWN>(table, s, marks) else {
         return Err(Damaged);
     };
     mark_by(marks, page, e);
@@ -345,7 +340,7 @@ fn next<const KNOWN: bool>(
     let Some(s) = next_spot(table, c) else {
         return Ok(Step::End);
     };
-    let met = meet::<KNOWN>(table, a, s.parent, s.top, s.place, marks)?;
+    let met = meet::<KNOWN>(table, a, s, marks)?;
     settle(s, met)
 }
 

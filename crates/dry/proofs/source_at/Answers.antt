@@ -11,23 +11,23 @@ returns-then-this-ne0 g c = sym (c.requires (ap not (ne_eqb g.row.KNOWN 0 c.if-t
 pub returns-then-stands_above : goal.returns-then-stands_above
 returns-then-stands_above g c =
     let args = c.args in
-    source-above args.table.pages _ args.table.bytes.now args.marks.now args.e (sym c.stands_above.ensures ∙ c.if-stands_above.true)
+    source-above args.table.pages _ args.table.bytes.now args.marks.now args.s.place (sym c.stands_above.ensures ∙ c.if-stands_above.true)
 
 pub returns-then-keeps_child : goal.returns-then-keeps_child
 returns-then-keeps_child g c =
     let args = c.args in
-    source-child args.table.pages _ args.table.bytes.now args.marks.now args.e (sym c.stands_above.ensures ∙ c.if-stands_above.false) (sym c.keeps_child.ensures ∙ c.if-keeps_child.true)
+    source-child args.table.pages _ args.table.bytes.now args.marks.now args.s.place (sym c.stands_above.ensures ∙ c.if-stands_above.false) (sym c.keeps_child.ensures ∙ c.if-keeps_child.true)
 
 pub returns-then-helps_child : goal.returns-then-helps_child
 returns-then-helps_child g c =
     let args = c.args in
     let stands-above = c.stands_above in
     let if2 = c.if-stands_above in
-    source-previous args.table.pages _ args.table.bytes.now args.marks.now args.e (sym stands-above.ensures ∙ if2.false) (sym c.keeps_child.ensures ∙ c.if-keeps_child.false) (sym c.helps_child.ensures ∙ c.if-helps_child.true)
+    source-previous args.table.pages _ args.table.bytes.now args.marks.now args.s.place (sym stands-above.ensures ∙ if2.false) (sym c.keeps_child.ensures ∙ c.if-keeps_child.false) (sym c.helps_child.ensures ∙ c.if-helps_child.true)
 
 pub returns : goal.returns
 returns g c =
     let args = c.args in
     let stands-above = c.stands_above in
     let if2 = c.if-stands_above in
-    source-none args.table.pages _ args.table.bytes.now args.marks.now args.e (sym stands-above.ensures ∙ if2.false) (sym c.keeps_child.ensures ∙ c.if-keeps_child.false) (sym c.helps_child.ensures ∙ c.if-helps_child.false)
+    source-none args.table.pages _ args.table.bytes.now args.marks.now args.s.place (sym stands-above.ensures ∙ if2.false) (sym c.keeps_child.ensures ∙ c.if-keeps_child.false) (sym c.helps_child.ensures ∙ c.if-helps_child.false)

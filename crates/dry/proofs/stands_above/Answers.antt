@@ -2,8 +2,8 @@
 use Rattle.dry.proofs.Sources.{above_parent, above-top}
 use Rattle.dry.proofs.stands_above.Goals as goal
 
-pub returns-then-child-parent : goal.returns-then-child-parent
-returns-then-child-parent c = above_parent c.args.child c.args.parent c.args.top c.if-child-parent.true
+pub returns-then-s : goal.returns-then-s
+returns-then-s c = above_parent c.args.s.place.child c.args.s.parent c.args.s.top c.if-s.true
 
 pub returns : goal.returns
-returns c = above-top c.args.child c.args.parent c.args.top c.if-child-parent.false
+returns c = above-top c.args.s.place.child c.args.s.parent c.args.s.top c.if-s.false
