@@ -34,7 +34,7 @@ fn holds(t: &[u8], i: u16, spot: usize, low: u64) -> bool
     if spot == 0 {
         return false;
     }
-    low <= head::cert_key_at(t, i as usize, spot - 1)
+    low <= head::cert_key(head::page_at(t, i as usize), spot - 1)
 }
 
 // What a walk up to the first certificate comes to: the answer, and what was mended.

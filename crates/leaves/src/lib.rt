@@ -25,7 +25,7 @@ ghost use Rattle.leaves.specs.Cursors.{no_cursor, holding_in, levels_in, place_i
 
 use enter::Above;
 use entries::Entries;
-use head::Head;
+use head::{Head, page_at, read_head};
 use rules::{LEAF, LEVELS, PAGE, Place, Report};
 
 // A leaf that was stepped to: its number and count, where its range ends, how many of its keys are not above the last
@@ -72,7 +72,8 @@ fn holding(t: &[u8], cursor: Above, key: u64) -> Above
     if cursor.parent == 0 {
         return cursor;
     }
-    if holds(head::head_at(t, cursor.parent as usize), key) {
+    let head = read_head(page_at(t, cursor.parent as usize));
+    if holds(head, key) {
         return cursor;
     }
     Above {
@@ -102,7 +103,7 @@ fn place(t: &[u8], cursor: Above, key: u64) -> Place
     if cursor.parent == 0 {
         return head::root_place(t);
     }
-    let head = head::head_at(t, cursor.parent as usize);
+    let head = read_head(page_at(t, cursor.parent as usize));
     let guess = way::look_ahead(t, cursor.parent, key, key);
     way::place_below(t, cursor.parent, head, key, guess)
 }

@@ -5,6 +5,7 @@ use mathlib.Core.Option.{some}
 use borrow.Author.Tests.{eq-eqb, ne_eqb}
 use Rattle.rules.specs.Table.{read}
 use Rattle.rules.specs.Place.{pick}
+use Rattle.head.specs.Head.{head_in}
 use Rattle.head.specs.declared.Head.{Head}
 use Rattle.way.specs.Ways.{places_below, Leads}
 use Rattle.leaves.specs.Cursors.{place_in}
@@ -17,8 +18,8 @@ returns-then-cursor-eq0 c =
     let args = c.args in
     rw (eq-eqb args.cursor.parent 0 c.if-cursor-eq0.true, place_in) (ap some (sym c.root_place.ensures))
 
-pub head_at-head-requires : goal.head_at-head-requires
-head_at-head-requires c =
+pub page_at-requires : goal.page_at-requires
+page_at-requires c =
     let pre = c.requires in
     pre.1 c.if-cursor-eq0.false
 
@@ -33,7 +34,7 @@ place_below-requires c =
     let pre = c.requires in
     let args = c.args in
     let if1 = c.if-cursor-eq0 in
-    let q = head_read args.t.now args.cursor.parent c.head_at-head.result c.head_at-head.ensures in (
+    let q = head_read args.t.now args.cursor.parent c.read_head-head.result (c.read_head-head.ensures ∙ ap head_in c.page_at.ensures.bytes) in (
       pre.1 if1.false,
       subst (λ (h : Head). Leads args.key h (read args.t.now args.cursor.parent).view) (sym q)
           (pre.2 if1.false),
@@ -44,8 +45,7 @@ unfolding place_in
 returns c =
     let args = c.args in
     let if1 = c.if-cursor-eq0 in
-    let head_at = c.head_at-head in
-    let q = head_read args.t.now args.cursor.parent head_at.result head_at.ensures in
+    let q = head_read args.t.now args.cursor.parent c.read_head-head.result (c.read_head-head.ensures ∙ ap head_in c.page_at.ensures.bytes) in
     rw (ne_eqb args.cursor.parent 0 if1.false, place_in)
     (ap (λ (h : Head). pick args.key (places_below h (read args.t.now args.cursor.parent).view)) (sym q)
     ∙ c.place_below.ensures)
