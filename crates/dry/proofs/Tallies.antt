@@ -144,19 +144,6 @@ module _ (low high room : ℕ) where
 length-first : (k : ℕ) (xs : List Cert) → length (take k xs) ≡ min (length xs) k
 length-first k xs = length-take k xs ∙ min_comm k (length xs)
 
-module _ (entries room count : ℕ) where
-  pub all_none : room ≤ count → count ≡ tally_all entries room count
-  unfolding tally_all
-  all_none h = omega (arith, min-le_right entries (room - count))
-
-  pub all_fit : entries ≤ room - count → count + entries ≡ tally_all entries room count
-  unfolding tally_all
-  all_fit h = ap (λ (j : ℕ). count + j) (sym (min-eq_left h))
-
-  pub all-full : count < room → room - count < entries → room ≡ tally_all entries room count
-  unfolding tally_all
-  all-full r h = let k : room - count ≤ entries = omega arith in omega (arith, min-eq_right k)
-
 module _ (h : Head) (low high : ℕ) where
   pub lies-below : h.low < low → false ≡ lies_in h low high
   unfolding lies_in

@@ -103,7 +103,7 @@ pub struct LeafAt {
     pub after: Cursor,
 }
 
-// A place that is next: its level, the pages above it, and the way behind it.
+// A place that is next: its level, counted as kinds are, the root's 3; the pages above it; and the way behind it.
 #[derive(Clone, Copy)]
 pub struct Spot {
     pub level: usize,
@@ -344,7 +344,7 @@ fn next<const KNOWN: bool>(
     settle(s, met)
 }
 
-// The leaf that the walk comes to next; none at its end.
+// Steps up to the next leaf.
 fn leaf_by<const KNOWN: bool>(
     table: Table<'_>,
     a: Asked,
@@ -370,6 +370,7 @@ fn leaf_by<const KNOWN: bool>(
     }
 }
 
+// The leaf that the walk comes to next; none at its end.
 pub fn next_leaf(
     table: Table<'_>,
     a: Asked,

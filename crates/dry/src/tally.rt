@@ -39,13 +39,7 @@ fn tally_each(page: &[u8], entries: usize, range: KeyRange, room: usize, count: 
 fn tally_all(entries: usize, room: usize, count: usize) -> usize
     ensures { result ≡ tally_all entries room count }
 {
-    if count >= room {
-        return count;
-    }
-    if entries <= room - count {
-        return count + entries;
-    }
-    room
+    count + min(entries, room.saturating_sub(count))
 }
 
 // Whether a page's range lies in another one.

@@ -10,7 +10,6 @@ use Rattle.rules.specs.Layout.{leaf_header, cert_size}
 use Rattle.rules.specs.Test.{between}
 use Rattle.rules.specs.Entry.{Cert, cut}
 use Rattle.rules.specs.Page.{read_each, cert_in}
-use Rattle.rules.proofs.Entries.Tests.{between-of, between-below, between-above}
 use Rattle.rules.proofs.Entries.Entries.{cut-nil, cut_in, cut_out}
 use Rattle.head.specs.Head.{cert_at}
 use Rattle.head.proofs.Left.{left, left-all, left-more, left-none}

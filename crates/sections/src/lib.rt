@@ -66,16 +66,6 @@ pub fn put_counts(out: &mut [u8], s: Starts, c: Tally)
     put32(out, s.certs - COUNT, c.certs as u32);
 }
 
-// The place of the last one of so many.
-fn last_of(many: usize) -> usize
-    ensures { result ≡ many - 1 }
-{
-    if many == 0 {
-        return 0;
-    }
-    many - 1
-}
-
 // The model of a certificate that is its first.
 fn put_model(out: &mut [u8], c: Tally, d: Tally, key: u64)
     requires { (c.models ≤ d.models) × (4 + 2 * d.models ≤ length out.old) }
@@ -95,7 +85,7 @@ fn put_meter(out: &mut [u8], s: Starts, c: Tally, d: Tally, key: u64)
     if d.meters == c.meters {
         return;
     }
-    let place = last_of(d.models) as u16;
+    let place = d.models.saturating_sub(1) as u16;
     let serial = (key / BY_METER % 4_294_967_296) as u32;
     exchange::put_meter(out, s.meters + METER * c.meters, place, serial);
 }
@@ -105,7 +95,7 @@ fn put_cert(out: &mut [u8], s: Starts, c: Tally, d: Tally, key: u64, record: u32
     requires { (c.certs + 1 ≤ d.certs) × (d.meters ≤ 4294967295) × (s.certs + 10 * d.certs ≤ length out.old) }
     ensures { out.new ≡ put_cert s c d (record { key = key; value = «record» }) out.old }
 {
-    let place = last_of(d.meters) as u32;
+    let place = d.meters.saturating_sub(1) as u32;
     let issue = (key % BY_METER) as u16;
     exchange::put_cert(out, s.certs + CERT * c.certs, place, issue, record);
 }

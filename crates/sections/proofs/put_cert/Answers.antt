@@ -4,4 +4,4 @@ use Rattle.sections.proofs.put_cert.Goals as goal
 
 pub returns : goal.returns
 unfolding put_cert
-returns c = rw (c.put_cert.ensures, c.last_of-place.ensures)
+returns c = rw (c.put_cert.ensures, c.saturating_sub-place.ensures)

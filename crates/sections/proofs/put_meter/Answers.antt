@@ -10,4 +10,4 @@ pub returns-then-d-c : goal.returns-then-d-c
 returns-then-d-c c = sym (meter-same c.args.c c.args.d c.args.key c.args.out.now c.args.s c.if-d-c.true)
 
 pub returns : goal.returns
-returns c = c.put_meter.ensures ∙ ap (λ (p : ℕ). put_item Section.Meters c.args.out.now (c.args.s.meters + 6 * c.args.c.meters) (item_for p (c.args.key / 65536 % 4294967296) 0)) c.last_of-place.ensures ∙ sym (meter-new c.args.c c.args.d c.args.key c.args.out.now c.args.s c.if-d-c.false)
+returns c = c.put_meter.ensures ∙ ap (λ (p : ℕ). put_item Section.Meters c.args.out.now (c.args.s.meters + 6 * c.args.c.meters) (item_for p (c.args.key / 65536 % 4294967296) 0)) c.saturating_sub-place.ensures ∙ sym (meter-new c.args.c c.args.d c.args.key c.args.out.now c.args.s c.if-d-c.false)
