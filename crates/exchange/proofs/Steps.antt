@@ -6,7 +6,7 @@ use mathlib.Core.Bool.{Bool, true, false, ◌&&◌}
 use mathlib.Core.List.{List, [], ◌∷◌}
 use Prim.Native.Nat.{ℕ, zero, suc, ◌+◌, ◌-◌, ◌*◌, ◌≤◌, ◌<◌}
 use native.Mathlib.Omega.{arith}
-use borrow.Author.Tests.{ltb-true, lt-ltb, le-ltb, leb-true, leb-false, le-leb, lt-leb, eqb-true, eq-eqb, ne_eqb}
+use borrow.Author.Tests.{ltb-true, lt-ltb, leb-true, le-leb, lt-leb, eqb-true, eq-eqb, ne_eqb}
 use lib.Dec.{leb, ltb, eqb}
 use lib.ListN.{length}
 use Rattle.fields.specs.Field.{le_at}
@@ -19,37 +19,9 @@ use Rattle.exchange.specs.declared.Section.{Section}
 -- ── One item ────────────────────────────────────────────────────────────────────────────────────────────────────
 
 module _ (over used last place number : ℕ) where
-  pub follows-zero : number ≡ 0 → follows over used last place number ≡ false
-  unfolding follows every
-  follows-zero e = rw (le-ltb 0 number (omega arith))
-
-  pub follows_beyond : 0 < number → over ≤ place → follows over used last place number ≡ false
-  unfolding follows every
-  follows_beyond a b = rw (lt-ltb 0 number a, le-ltb place over b)
-
-  pub follows-outside : (number ≡ 0) ⊎ ((number ≡ 0 → ⊥) × (over ≤ place)) → follows over used last place number ≡ false
-  follows-outside (inl e) = follows-zero e
-  follows-outside (inr h) = follows_beyond (omega (arith, h.0)) h.1
-
-  pub follows-passes : 0 < number → place < over → used < place → follows over used last place number ≡ false
-  unfolding follows every is_above
-  follows-passes a b c = rw (lt-ltb 0 number a, lt-ltb place over b, le-leb used place (omega arith), lt-leb place used c)
-
   pub follows_next : 0 < number → place < over → place ≡ used → follows over used last place number ≡ true
   unfolding follows every is_above
   follows_next a b c = rw (lt-ltb 0 number a, lt-ltb place over b, le-leb used place (omega arith), le-leb place used (omega arith))
-
-  pub follows-below : 0 < number → place < over → place + 1 < used → follows over used last place number ≡ false
-  unfolding follows every is_above
-  follows-below a b c = rw (lt-ltb 0 number a, lt-ltb place over b, lt-leb used place (omega arith), ne_eqb used (place + 1) (λ e. omega arith))
-
-  -- its place is neither the one before's nor the next
-  pub follows-apart : 0 < number → place < over → (place ≡ used → ⊥) → (place + 1 ≡ used → ⊥) → follows over used last place number ≡ false
-  follows-apart a b c d = go (leb used place) refl
-    where
-      go : (t : Bool) → leb used place ≡ t → follows over used last place number ≡ false
-      go true e = follows-passes a b (omega (arith, leb-true used place e))
-      go false e = follows-below a b (omega (arith, leb-false used place e))
 
   pub follows_same : 0 < number → place < over → place + 1 ≡ used → follows over used last place number ≡ ltb last number
   unfolding follows every is_above

@@ -54,13 +54,13 @@ pub struct Reading {
 }
 
 // A section's count, and an item of each section, in bytes.
-const COUNT: usize = 4;
+pub const COUNT: usize = 4;
 
-const MODEL: usize = 2;
+pub const MODEL: usize = 2;
 
-const METER: usize = 6;
+pub const METER: usize = 6;
 
-const CERT: usize = 10;
+pub const CERT: usize = 10;
 
 // What puts an item in order: the place it names, and its model, serial or issue under that.
 #[derive(Clone, Copy)]
@@ -72,6 +72,7 @@ struct Rank {
 impl Rank {
     // An item that is not cut off is not bad, by the one before it: `used` is one more than that one's place, `last` its
     // number. Its own place is the next, or the one before's, with a larger number.
+    #[tactic(auto, unfolding(crate::specs::Judged::follows, crate::specs::Judged::is_above, rules::specs::Test::every))]
     fn follows(self, over: u32, used: u32, last: u32) -> bool
         ensures { result ≡ follows over used last self.place self.number }
     {
@@ -92,6 +93,7 @@ pub enum Section {
 
 impl Section {
     // An item's bytes.
+    #[tactic(auto, unfolding(crate::specs::Item::size, crate::specs::Item::place_width, crate::specs::Item::number_width, crate::specs::Item::value_width))]
     fn size(self) -> usize
         ensures { result ≡ size self }
     {
@@ -103,6 +105,7 @@ impl Section {
     }
 
     // The rank of the item that begins at a byte. All models stand under one roof, at place 0.
+    #[tactic(auto, unfolding(crate::specs::Item::size, crate::specs::Item::place_width, crate::specs::Item::number_width, crate::specs::Item::value_width, crate::specs::Item::item_at))]
     fn rank_at(self, f: &[u8], at: usize) -> Rank
         requires { at + size self ≤ length f.now }
         ensures place { result.place ≡ (item_at self f.now at).place }
@@ -215,7 +218,8 @@ pub fn cert_at(f: &[u8], place: u32) -> Certificate
     }
 }
 
-// An item written into the lent output; every other byte stays.
+// An item written into the lent output; every other byte stays. Each kind has a function of its own, since its parts have
+// widths of their own: one function for all kinds would be lent numbers that may not fit.
 
 pub fn put_model(out: &mut [u8], at: usize, model: u16)
     requires { at + 2 ≤ length out.old }

@@ -11,16 +11,6 @@ returns-then-f-at-lt-COUNT c =
     sym
     (section_cut a.s a.f.now a.over a.used a.at (omega (arith, c.if-f-at-lt-COUNT.true, c.requires)))
 
-pub get32-requires : goal.get32-requires
-get32-requires c = omega (arith, c.if-f-at-lt-COUNT.false, c.requires)
-
-pub overflow_add-at : goal.overflow_add-at
-overflow_add-at c =
-    omega (arith, c.if-f-at-lt-COUNT.false, c.requires, c.well_formed.0.0)
-
-pub items_judged-requires : goal.items_judged-requires
-items_judged-requires c = omega (arith, c.if-f-at-lt-COUNT.false, c.requires)
-
 pub returns : goal.returns
 returns c =
     let a = c.args in
