@@ -1,5 +1,6 @@
 -- The turns over a file's certificates, one after another, make the rule `read_file`. Assumes nothing.
-use Rattle.std.specs.Prelude.{Ok, Err}
+use mir.Val.{bool_byte}
+use Rattle.std.specs.Prelude.{Ok, Err, is_ok}
 use Prim.Native.Nat.{ℕ, suc, ◌+◌, ◌≤◌, ◌<◌}
 use native.Mathlib.Omega.{arith}
 use mathlib.Core.Path.{◌≡◌, refl, sym, ap, ◌∙◌}
@@ -10,12 +11,14 @@ use lib.ListN.{length, drop}
 use lib.Seq.{drop-length}
 use Rattle.fields.specs.Field.{le_at}
 use Rattle.rules.specs.Report.{Reported, nothing}
-use Rattle.rules.specs.Call.{Left, lengths_for, inserted_no}
+use Rattle.rules.specs.Answer.{Inserted}
+use Rattle.rules.specs.Call.{Left, lengths_for, insert_error_no, inserted_no}
 use Rattle.rules.specs.Reports.{insert_reported}
 use Rattle.rules.specs.Batch.{Between, between, insert_item, joins, item_no, answered, after_item, after_items, items_answered}
 use Rattle.rules.specs.declared.Session.{Session}
 use Rattle.rules.specs.declared.Item.{Item}
 use Rattle.rules.specs.declared.Report.{Report}
+use Rattle.rules.specs.declared.InsertError.{InsertError}
 use Rattle.rules.specs.declared.Inserting.{Inserting}
 use Rattle.insert.specs.Inserts.{leaving as inserted}
 use Rattle.exchange.specs.Item.{count_width}
@@ -44,6 +47,17 @@ more-is w t m c r l k q e f g =
   where
     made : ℕ → Report → Session → List ℕ → Running
     made j y s v = running (record { done = j; report = y; session = s }) v
+
+-- only an insert that is done is counted, since each refusal has a number of its own
+pub done-more : (done : ℕ) (a : Inserted) → done + bool_byte (is_ok a) ≡ one_done done (inserted_no a)
+unfolding one_done insert_error_no
+done-more done (Ok x) = refl
+done-more done (Err InsertError.Length) = omega arith
+done-more done (Err InsertError.BadKey) = omega arith
+done-more done (Err InsertError.Damaged) = omega arith
+done-more done (Err InsertError.Present) = omega arith
+done-more done (Err InsertError.SyncFirst) = omega arith
+done-more done (Err InsertError.Full) = omega arith
 
 -- a turn counts one at most
 pub one_at_most : (t : List ℕ) (m : Running) (x : Item) → (one_more t m x).done ≤ m.done + 1

@@ -15,7 +15,7 @@ ghost use Rattle.std.specs.Prelude.{◌≡◌, ◌+◌, ◌<◌, Ok};
 ghost use Rattle.exchange.specs.Judged.{checked};
 ghost use Rattle.exchange.specs.Told.{certs_in};
 ghost use Rattle.exchange.specs.ReadFile.{as_item, as_items, read_file, read_no, read_count, read_place};
-ghost use Rattle.read.specs.Readings.{leaving, running, beginning, one_done, one_more, goes};
+ghost use Rattle.read.specs.Readings.{leaving, running, beginning, one_more, goes};
 
 use exchange::{Certificate, Read, ReadError, Reading};
 use rules::{Report, Session};
@@ -28,18 +28,7 @@ pub struct Made {
     pub session: Session,
 }
 
-// One more is done, if it answered 0.
-fn counted(done: u32, answer: u32) -> u32
-    requires { done + 1 < 4294967296 }
-    ensures { result ≡ one_done done answer }
-{
-    if answer == 0 {
-        return done + 1;
-    }
-    done
-}
-
-// A certificate is inserted.
+// A certificate is inserted, and counted if it is done.
 fn enter(working: &mut [u8], stable: &[u8], made: Made, certificate: Certificate) -> Made
     requires { made.done + 1 < 4294967296 }
     ensures { running result working.new
@@ -55,7 +44,7 @@ fn enter(working: &mut [u8], stable: &[u8], made: Made, certificate: Certificate
         certificate.record,
     );
     Made {
-        done: counted(made.done, numbers::number(inserted.answer)),
+        done: made.done + u32::from(inserted.answer.is_ok()),
         report: made.report.join(inserted.report),
         session: inserted.session,
     }

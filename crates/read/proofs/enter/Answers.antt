@@ -1,11 +1,15 @@
 -- `read::enter`: what the insert leaves, one more if it was done, its report behind those before. Assumes nothing.
-use Rattle.read.proofs.Turns.{more-is}
+use Prim.Native.Nat.{◌+◌}
 use mathlib.Core.Path.{ap, ◌∙◌}
-use Rattle.read.specs.Readings.{one_done}
+use mir.Val.{bool_byte}
+use Rattle.read.proofs.Turns.{more-is, done-more}
 use Rattle.read.proofs.enter.Goals as goal
 
 pub returns : goal.returns
 returns c =
-    more-is c.args.working.now c.args.stable.now c.args.made c.args.certificate c.insert-inserted.result c.insert-inserted.new.working
-    c.counted.result c.join.result c.insert-inserted.ensures
-    (c.counted.ensures ∙ ap (one_done c.args.made.done) c.number.ensures) c.join.ensures
+    let a = c.args in
+    let i = c.insert-inserted in
+    more-is a.working.now a.stable.now a.made a.certificate i.result i.new.working (a.made.done + c.from.result) c.join.result
+    i.ensures
+    (ap (λ n. a.made.done + n) (c.from.ensures ∙ ap bool_byte c.is_ok.ensures.value) ∙ done-more a.made.done i.result.answer)
+    c.join.ensures

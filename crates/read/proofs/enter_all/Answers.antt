@@ -1,6 +1,6 @@
 -- `read::enter_all`: at each turn the certificates left make, of what stands, what all of them make. Assumes nothing.
 use Prim.Native.Nat.{◌+◌}
-use mathlib.Core.Path.{refl, sym, ap, ◌∙◌}
+use mathlib.Core.Path.{sym, ap, ◌∙◌}
 use lib.ListN.{drop}
 use Rattle.rules.specs.declared.Report.{Report}
 use Rattle.exchange.specs.Told.{certs_in}
@@ -11,14 +11,8 @@ use Rattle.read.proofs.Turns.{there, one_at_most, turn_at, turns-end}
 use native.Mathlib.Omega.{arith}
 use Rattle.read.proofs.enter_all.Goals as goal
 
-pub loop-place-init : goal.loop-place-init
-loop-place-init c = (omega arith, refl, refl)
-
 pub cert_at-requires : goal.cert_at-requires
 cert_at-requires c = there c.args.file.now c.args.count c.requires c.loop-place.place c.loop-place-test.true
-
-pub enter-made-requires : goal.enter-made-requires
-enter-made-requires c = omega (arith, c.loop-place.invariant.0, c.loop-place-test.true, c.ranges.count)
 
 pub loop-place-preserved : goal.loop-place-preserved
 loop-place-preserved c =
@@ -28,9 +22,6 @@ loop-place-preserved c =
       ap (λ (x : Running). goes c.args.stable.now x (drop (c.loop-place.place + 1) (as_items (certs_in c.args.file.now)))) e
           ∙ (sym (turn_at c.args.file.now c.args.count c.requires c.args.stable.now c.loop-place.place c.loop-place-test.true (running c.loop-place.made c.loop-place.working)) ∙ c.loop-place.invariant.2),
     )
-
-pub shape_of-working : goal.shape_of-working
-shape_of-working c = omega (arith, c.loop-place.invariant.1)
 
 pub returns : goal.returns
 returns c =

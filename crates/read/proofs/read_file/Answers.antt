@@ -8,9 +8,6 @@ returns-then-not-lengths_for c =
     refused-length c.args.working.now c.args.stable.now c.args.session c.args.file.now c.nothing.result c.nothing.ensures
     (sym (c.lengths_for.ensures c.args.session refl) ∙ c.if-not-lengths_for.true)
 
-pub enter_all-made-requires : goal.enter_all-made-requires
-enter_all-made-requires c = sym c.check.ensures ∙ c.in-Ok.is
-
 pub returns-in-Err : goal.returns-in-Err
 returns-in-Err c =
     refused-file c.args.working.now c.args.stable.now c.args.session c.args.file.now c.in-Err.place c.nothing-in-Err.result c.nothing-in-Err.ensures
