@@ -3,7 +3,7 @@
 use mathlib.Core.Path.{◌≡◌, refl, sym, ap, ◌∙◌}
 use mathlib.Core.Bool.{Bool, true, false}
 use mathlib.Core.List.{List, [], ◌∷◌, append_assoc}
-use Prim.Native.Nat.{ℕ, suc, ◌+◌, ◌≤◌, ◌<◌}
+use Prim.Native.Nat.{ℕ, suc, ◌+◌, ◌-◌, ◌≤◌, ◌<◌}
 use native.Mathlib.Nat.{zero-add}
 use native.Mathlib.Numerals.{add-one}
 use native.Mathlib.Omega.{arith}
@@ -11,6 +11,7 @@ use borrow.Author.Tests.{ltb-true, ltb-false}
 use lib.Dec.{ltb}
 use lib.ListN.{length, take, drop, get_or, set, length-drop, take-append-drop}
 use lib.Seq.{sets, sets-eq, set_comm, take-suc, get_or-set_other, get_or-drop, drop-drop, paste, length-take-le}
+use Rattle.std.specs.List.{copy_within}
 use Rattle.fields.specs.Field.{Bytes, le_at, put_at}
 use Rattle.fields.proofs.Field.{le-le_at}
 use Rattle.fields.proofs.Run.{sets_append, length_part}
@@ -65,6 +66,13 @@ over_sets xs b h = sym (sets-eq xs b 0 (rw zero-add h) ∙ rw zero-add)
 -- what is pasted over bytes is a run
 pub paste-sets : (b xs : List ℕ) (to n : ℕ) → to + n ≤ length b → n ≤ length xs → paste b to xs n ≡ sets b to (take n xs)
 paste-sets b xs to n h m = rw (sets-eq (take n xs) b to (rw (length-take-le n xs m) h), length-take-le n xs m)
+
+-- what the library's `copy_within` leaves is a run
+pub copied_within : (b : List ℕ) (to from len : ℕ) → to + len ≤ length b → from + len ≤ length b
+    → copy_within b from (from + len) to ≡ sets b to (take len (drop from b))
+copied_within b to from len h m =
+    let e : from + len - from ≡ len = omega arith in
+    rw e (paste-sets b (drop from b) to len h (rw length-drop (omega arith)))
 
 -- what a run leaves alone at a place that it has passed, and before it
 copied-from : (b : List ℕ) (to from k : ℕ) → from + k < length b → (from < to → from + k < to)

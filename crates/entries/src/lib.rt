@@ -18,11 +18,12 @@ ghost use Rattle.entries.specs.Spot.{new_cert};
 
 mod layout;
 
-pub use layout::Entries;
 use head::ChildEntry;
+pub use layout::Entries;
 use rules::{AT_CHILD, AT_CHILD_BIRTH, AT_CHILD_PREVIOUS, AT_RECORD};
 
 // Bytes from `from` on, put over as many at `to`, as they were before: the two runs may share bytes.
+#[tactic(auto, using(crate::proofs::Sets::copied_within))]
 pub fn copy(bytes: &mut [u8], to: usize, from: usize, len: usize)
     requires to_in_bounds { to + len ≤ length bytes.old }
     requires from_in_bounds { from + len ≤ length bytes.old }

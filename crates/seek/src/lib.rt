@@ -29,7 +29,7 @@ pub fn guess(page: &[u8], entries: Entries, key: u64) -> usize
 {
     let mut low = 0;
     let mut left = entries.count;
-    // no loop over indices, nor the library's search, whose order is a jump on each key
+    // the keys stand apart, among other bytes, so there is no slice that the library could search
     while 0 < left {
         let step = left - left / 2;
         let passed = entries.key(page, low + step - 1) <= key;
