@@ -39,10 +39,9 @@ impl fmt::Display for Trouble {
 // Writes a line; nothing for a byte inside one.
 fn print(rt: HostRuntime, reply: Reply) -> Result<(), Trouble> {
     let text = words::spell(reply);
-    match rt.stdout().write_all(text.as_slice()) {
-        Ok(()) => Ok(()),
-        Err(_) => Err(Trouble::Write),
-    }
+    rt.stdout()
+        .write_all(text.as_slice())
+        .map_err(|_| Trouble::Write)
 }
 
 // The bytes of a chunk, one after the other, up to one whose line can't be written.
@@ -73,15 +72,13 @@ fn read_some(
     bench: Bench,
 ) -> Result<Option<Bench>, Trouble> {
     let mut chunk = [0u8; CHUNK];
-    match rt.stdin().read(&mut chunk) {
-        Ok(0) => {
-            let step = bench.finish(working, stable);
-            print(rt, step.reply)?;
-            Ok(None)
-        }
-        Ok(n) => Ok(Some(feed(rt, &chunk[..n], working, stable, bench)?)),
-        Err(_) => Err(Trouble::Read),
+    let n = rt.stdin().read(&mut chunk).map_err(|_| Trouble::Read)?;
+    if n == 0 {
+        let step = bench.finish(working, stable);
+        print(rt, step.reply)?;
+        return Ok(None);
     }
+    feed(rt, &chunk[..n], working, stable, bench).map(Some)
 }
 
 // A proved loop must end, and nothing says that the input does: no run takes so many turns.

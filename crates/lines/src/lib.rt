@@ -25,7 +25,7 @@ const MOST_32: u32 = u32::MAX;
 const LAST_PAGE: u32 = 4;
 
 // A line asks for an insert, a find, a sync, or a crash with some of the five pages written; one of any other shape
-// asks for nothing.
+// asks for nothing, and has an answer of its own.
 #[derive(Clone, Copy)]
 pub enum Line {
     Insert(u16, u32, u16, u32),

@@ -1,40 +1,24 @@
--- The digits of a number: how many there are, and the last one. Assumes nothing.
-use Prim.Native.Nat.{ℕ, zero, suc, ◌-◌, ◌/◌, ◌%◌, ◌≤◌, ◌<◌}
-use native.Mathlib.Omega.{arith}
-use mathlib.Core.Path.{◌≡◌, refl, ap}
-use mathlib.Core.Bool.{Bool, true, false}
-use mathlib.Core.List.{[], ◌∷◌, ◌++◌}
-use lib.Dec.{ltb}
-use lib.ListN.{length, length-append}
-use borrow.Author.Tests.{lt-ltb, le-ltb}
-use Rattle.words.specs.Words.{digit, digits_of}
+-- The digits that the library writes of a number are document 01's. Assumes nothing.
+use Rattle.std.proofs.Common.{◌≡◌, refl, ap, ◌∙◌, ℕ, zero, suc, ◌/◌, ◌%◌, ◌^◌, ◌<◌, ◌≤◌, Bool, true, false, ltb, List, [], ◌∷◌, ◌++◌, arith}
+use borrow.Author.Tests.{lt-ltb, ltb-true, ltb-false}
+use Rattle.std.specs.Fmt as std
+use Rattle.std.proofs.lemmas.Fmt.{decimal_digit, decimal_step}
+use Rattle.words.specs.Words.{digit, digits_of, decimal}
 
-pub few-digits : (places n : ℕ) → length (digits_of places n) ≤ places
+-- as many digits as there are places for, or fewer
+places-enough : (places n : ℕ) → n < 2 ^ 64 → n < 10 ^ suc places → std.decimal n ≡ digits_of (suc places) n
 unfolding digits_of
-few-digits zero n = omega arith
-few-digits (suc places) n = go (ltb n 10) (few-digits places (n / 10))
+places-enough zero n w h = rw (lt-ltb n 10 h, digits_of) (decimal_digit n h)
+places-enough (suc places) n w h = go (ltb n 10) refl (places-enough places (n / 10))
   where
-    go : (b : Bool) → length (digits_of places (n / 10)) ≤ places
-        → length {A = ℕ} (elim b [ true ↦ digit n ∷ [] | false ↦ digits_of places (n / 10) ++ (digit (n % 10) ∷ []) ]) ≤ suc places
-    go true h = omega arith
-    go false h = rw (length-append (digits_of places (n / 10)) (digit (n % 10) ∷ [])) (omega arith)
+    go : (b : Bool) → ltb n 10 ≡ b
+        → (n / 10 < 2 ^ 64 → n / 10 < 10 ^ suc places → std.decimal (n / 10) ≡ digits_of (suc places) (n / 10))
+        → std.decimal n ≡ elim b [ true ↦ digit n ∷ [] | false ↦ digits_of (suc places) (n / 10) ++ (digit (n % 10) ∷ []) ]
+    go true e ih = decimal_digit n (ltb-true n 10 e)
+    go false e ih =
+        let l : 10 ≤ n = ltb-false n 10 e in
+        decimal_step n l w ∙ ap (λ (ds : List ℕ). ds ++ (digit (n % 10) ∷ [])) (ih (omega arith) (omega arith))
 
-pub no_places : (places n : ℕ) → places ≡ 0 → digits_of places n ≡ []
-unfolding digits_of
-no_places zero n e = refl
-no_places (suc places) n e = absurd (omega arith)
-
-pub one-digit : (places n : ℕ) → 0 < places → n < 10 → digits_of places n ≡ digit (n % 10) ∷ []
-unfolding digits_of
-one-digit zero n p h = absurd (omega arith)
-one-digit (suc places) n p h =
-    let small : n % 10 ≡ n = omega arith in
-    rw (lt-ltb n 10 h, digits_of, small)
-
-pub more-digits : (places n : ℕ) → 0 < places → 10 ≤ n → digits_of places n ≡ digits_of (places - 1) (n / 10) ++ (digit (n % 10) ∷ [])
-unfolding digits_of
-more-digits zero n p h = absurd (omega arith)
-more-digits (suc places) n p h = rw (le-ltb n 10 h, digits_of) (ap (λ (k : ℕ). digits_of k (n / 10) ++ (digit (n % 10) ∷ [])) (less places))
-  where
-    less : (k : ℕ) → k ≡ suc k - 1
-    less k = omega arith
+-- a record has ten digits at most
+pub record_digits : (x : ℕ) → x < 2 ^ 32 → std.decimal x ≡ decimal x
+record_digits x h = places-enough 9 x (omega arith) (omega arith)

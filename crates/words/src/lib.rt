@@ -3,26 +3,23 @@
 // `spell` turns a reply into bytes. Its contract is one equation with `answer_line` of specs/Words.antt, which spells the
 // words of document 01 letter by letter.
 //
-// Below stands `few`, a list in a value of its own.
+// Below stand `few`, a list in a value of its own, and the kit's `itoa`, for a record's digits.
 
 #![tactic(auto)]
 
-ghost use Rattle.std.specs.Prelude.{◌≡◌, ◌+◌, ◌≤◌, ◌++◌, length};
-ghost use Rattle.words.specs.Words.{text_size, word_of, answer_line, digits_of};
+ghost use Rattle.std.specs.Prelude.{◌≡◌};
+ghost use Rattle.words.specs.Words.{word_of, answer_line};
 
 use few::Few;
 
 // The longest line is `done 4294967295` with its newline.
 const TEXT_SIZE: usize = 16;
 
-// The decimal digits of a 32-bit number are ten at most.
-const PLACES: usize = 10;
-
 // A line, newline and all.
 pub type Text = Few<u8, TEXT_SIZE>;
 
-// What is to be printed: nothing, the word of an answer's number, `done` with a record, or `line`. The nine words go by
-// the answers' numbers, as document 01 numbers them.
+// What is to be printed: nothing, the word of an answer, `done` with a record, or `line`. An answer stands here as its
+// number, since document 01 chooses the nine words by it; nothing is a reply too, which `spell` has a text for.
 #[derive(Clone, Copy)]
 pub enum Reply {
     Silent,
@@ -48,20 +45,7 @@ fn word(number: u32) -> &'static [u8]
     }
 }
 
-// The digits of a number behind a text, in so many places at most.
-fn put_digits(text: &mut Text, places: usize, n: u32)
-    requires { length text.old + places ≤ text_size }
-    ensures { text.new ≡ text.old ++ digits_of places n }
-{
-    if places == 0 {
-        return;
-    }
-    if n >= 10 {
-        put_digits(text, places - 1, n / 10);
-    }
-    text.push(b'0' + (n % 10) as u8);
-}
-
+#[tactic(auto, using(crate::proofs::Digits::record_digits))]
 pub fn spell(reply: Reply) -> Text
     ensures { result ≡ answer_line reply }
 {
@@ -71,7 +55,7 @@ pub fn spell(reply: Reply) -> Text
         Reply::Answer(number) => text.extend_from_slice(word(number)),
         Reply::Record(x) => {
             text.extend_from_slice(b"done ");
-            put_digits(&mut text, PLACES, x);
+            text.extend_from_slice(itoa::Buffer::new().format(x).as_bytes());
         }
         Reply::Line => text.extend_from_slice(b"line"),
     }
