@@ -9,7 +9,7 @@ use Rattle.driver.proofs.act.Goals as goal
 
 pub returns-in-Insert : goal.returns-in-Insert
 unfolding insert_reported
-returns-in-Insert c = rw (c.in-Insert.is, c.inserted.ensures) (ap (λ (y : Reported (Left Inserted)). told inserted_reply y.left) c.insert-left.ensures)
+returns-in-Insert c = rw (c.in-Insert.is, c.number.ensures) (ap (λ (y : Reported (Left Inserted)). told inserted_reply y.left) c.insert-left.ensures)
 
 pub returns-in-Find : goal.returns-in-Find
 unfolding lookup_reported
