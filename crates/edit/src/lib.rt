@@ -137,6 +137,9 @@ fn put_twins_in(page: &mut [u8], lower: Half, upper: Half, previous: u16, c: u32
     put_child_in(page, upper.entry(previous, c), c);
 }
 
+// The functions above change a page's own bytes, so that what is proved of them has no table around it; those below cut the
+// page out of a table.
+
 // A certificate is put into a leaf in key order.
 pub fn put_cert(table: &mut [u8], i: usize, key: u64, value: u32, c: u32)
     requires page_size_in_bounds { (i + 1) * page_size ≤ length table.old }
