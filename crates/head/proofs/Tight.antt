@@ -13,9 +13,6 @@ page_at_tight κs a pre z z' l l' p q = (p.0 ∙ sym q.0, refl)
 pub read_head_tight : Tight this.read_head.Kinds.ps this.read_head.Kinds.r this.read_head.Reads.Pre this.read_head.Reads.Post
 read_head_tight κs a pre z z' l l' p q = (p ∙ sym q, refl)
 
-pub head_at_tight : Tight this.head_at.Kinds.ps this.head_at.Kinds.r this.head_at.Reads.Pre this.head_at.Reads.Post
-head_at_tight κs a pre z z' l l' p q = (p ∙ sym q, refl)
-
 pub cert_key_tight : Tight this.cert_key.Kinds.ps this.cert_key.Kinds.r this.cert_key.Reads.Pre this.cert_key.Reads.Post
 cert_key_tight κs a pre z z' l l' p q = (p ∙ sym q, refl)
 
@@ -39,12 +36,6 @@ child_entry_tight κs a pre z z' l l' p q = (p ∙ sym q, refl)
 
 pub kid_tight : Tight this.kid.Kinds.ps this.kid.Kinds.r this.kid.Reads.Pre this.kid.Reads.Post
 kid_tight κs a pre z z' l l' p q = (p ∙ sym q, refl)
-
-pub cert_key_at_tight : Tight this.cert_key_at.Kinds.ps this.cert_key_at.Kinds.r this.cert_key_at.Reads.Pre this.cert_key_at.Reads.Post
-cert_key_at_tight κs a pre z z' l l' p q = (p ∙ sym q, refl)
-
-pub cert_record_at_tight : Tight this.cert_record_at.Kinds.ps this.cert_record_at.Kinds.r this.cert_record_at.Reads.Pre this.cert_record_at.Reads.Post
-cert_record_at_tight κs a pre z z' l l' p q = (p ∙ sym q, refl)
 
 pub read_zero_tight : Tight this.read_zero.Kinds.ps this.read_zero.Kinds.r this.read_zero.Reads.Pre this.read_zero.Reads.Post
 read_zero_tight κs a pre z z' l l' p q = (p ∙ sym q, refl)

@@ -1,15 +1,15 @@
 // Reading a page: its header, its entries one by one, and page 0.
 //
 // Every function answers, or leaves, exactly what the rules read in, or write to, the same bytes. A function on a page
-// takes the page's own bytes; the one of the same name with `_at` takes the table and a page number, so that nobody
-// above has to cut a table. Numbers and sizes are document 01's.
+// takes the page's own bytes; who has a table and a number lends the page out of it, so that nobody above has to cut a
+// table. Numbers and sizes are document 01's.
 //
 // Below stand `fields`, numbers in bytes, and `rules`, the definitions.
 
 #![tactic(auto)]
 
 ghost use Rattle.std.specs.Prelude.{◌≡◌, ◌+◌, ◌*◌, ◌≤◌, ◌<◌, length, drop, get_or};
-ghost use Rattle.rules.specs.Layout.{page_size, common_header, leaf_header, inner_header, cert_size, child_size, leaf_room};
+ghost use Rattle.rules.specs.Layout.{page_size, common_header, leaf_header, inner_header, cert_size, child_size};
 ghost use Rattle.rules.specs.Table.{page_at, fit0, number0, set_number, set_root};
 ghost use Rattle.rules.specs.Page.{read_each, child_in};
 ghost use Rattle.rules.specs.Place.{root_place, high_before, places_in};
@@ -34,7 +34,7 @@ pub struct Head {
     pub high: u64,
 }
 
-// An entry of an inner page: the child's low, and what the page says of the child.
+// An entry of an inner page: the child's low, and what the page says of the child. As in the page, a previous of 0 is none.
 #[derive(Clone, Copy)]
 pub struct ChildEntry {
     pub key: u64,
@@ -43,7 +43,7 @@ pub struct ChildEntry {
     pub birth: u32,
 }
 
-// The fields of page 0.
+// The fields of page 0, as they lie there: a previous of 0 is none.
 #[derive(Clone, Copy)]
 pub struct Zero {
     pub kind: u16,
@@ -63,6 +63,7 @@ pub struct Table<'a> {
 }
 
 impl<'a> Table<'a> {
+    // Page i, as it lies there.
     pub fn page(self, i: usize) -> &'a [u8]
         requires { i < self.pages }
         ensures bytes { result.now ≡ page_at self.entry.bytes.now i }
@@ -72,7 +73,7 @@ impl<'a> Table<'a> {
     }
 }
 
-// Page i of a table, lent as it lies there.
+// The same of a table that is written beside, where it is lent for one reading.
 pub fn page_at(table: &[u8], i: usize) -> &[u8]
     requires { (i + 1) * page_size ≤ length table.now }
     ensures bytes { result.now ≡ page_at table.now i }
@@ -97,14 +98,8 @@ pub fn read_head(page: &[u8]) -> Head
     }
 }
 
-pub fn head_at(table: &[u8], i: usize) -> Head
-    requires { (i + 1) * page_size ≤ length table.now }
-    ensures { result ≡ head_in (page_at table.now i) }
-{
-    let from = i * PAGE;
-    let to = from + PAGE;
-    read_head(&table[from..to])
-}
+// Entries are read by their index. Each function asks that this one lies in the page, and no more: a page is looked at
+// before its count is tested, so there is no count yet to hold the index to.
 
 pub fn cert_key(page: &[u8], j: usize) -> u64
     requires { leaf_header + cert_size * (j + 1) ≤ length page.now }
@@ -190,26 +185,6 @@ pub fn kid(page: &[u8], count: usize, j: usize, want: u16, high: u64) -> Place
         high: child_high(page, count, j, high),
         want: want,
     }
-}
-
-// The same entries of page i of a table. A full page ends before its 512 bytes do, so j below the room is enough.
-
-pub fn cert_key_at(table: &[u8], i: usize, j: usize) -> u64
-    requires { ((i + 1) * page_size ≤ length table.now) × (j < leaf_room) }
-    ensures { result ≡ (cert_at (page_at table.now i) j).key }
-{
-    let from = i * PAGE;
-    let to = from + PAGE;
-    cert_key(&table[from..to], j)
-}
-
-pub fn cert_record_at(table: &[u8], i: usize, j: usize) -> u32
-    requires { ((i + 1) * page_size ≤ length table.now) × (j < leaf_room) }
-    ensures { result ≡ (cert_at (page_at table.now i) j).value }
-{
-    let from = i * PAGE;
-    let to = from + PAGE;
-    cert_record(&table[from..to], j)
 }
 
 // Page 0 is read and changed where it lies, at the table's start.
