@@ -128,17 +128,16 @@ pub fn build_lower(table: &mut [u8], to: usize, from: usize, c: u32)
     requires divides { Divides (read table.old from).view }
     ensures { table.new ≡ build table.old to (lower_page c (read table.old from)) }
 {
-    let half = half_of(fields::get16(table, from * PAGE + AT_KIND));
-    let low = fields::get64(table, from * PAGE + AT_LOW);
+    let head = head::head_at(table, from);
     let high = middle_at(table, from) - 1;
     let run = Run {
         first: 0,
-        past: half,
+        past: half_of(head.kind),
     };
     let page = Fresh {
         birth: c,
         c,
-        low,
+        low: head.low,
         high,
     };
     build_range(table, to, from, run, page);
@@ -150,19 +149,17 @@ pub fn build_upper(table: &mut [u8], to: usize, from: usize, c: u32)
     requires divides { Divides (read table.old from).view }
     ensures { table.new ≡ build table.old to (upper_page c (read table.old from)) }
 {
-    let half = half_of(fields::get16(table, from * PAGE + AT_KIND));
-    let count = fields::get16(table, from * PAGE + AT_COUNT) as usize;
+    let head = head::head_at(table, from);
     let low = middle_at(table, from);
-    let high = fields::get64(table, from * PAGE + AT_HIGH);
     let run = Run {
-        first: half,
-        past: count,
+        first: half_of(head.kind),
+        past: head.count as usize,
     };
     let page = Fresh {
         birth: c,
         c,
         low,
-        high,
+        high: head.high,
     };
     build_range(table, to, from, run, page);
 }

@@ -4,34 +4,25 @@ use Rattle.rules.specs.Page.{page_in}
 use Rattle.rules.specs.Table.{page_at, read}
 use Rattle.rules.specs.Insert.{upper_page}
 use Rattle.rules.proofs.Bytes.Pages.{count-view_in}
-use Rattle.entries.proofs.Part.{le_at-page}
+use Rattle.head.specs.Head.{head_in}
 use Rattle.build.proofs.Halves.{upper_half_lem, half_below}
 use native.Mathlib.Omega.{arith}
 use Rattle.build.proofs.build_upper.Goals as goal
 
 pub build_range-requires : goal.build_range-requires
-unfolding read page_in
+unfolding read page_in head_in
 build_range-requires c =
-    let a = c.args in
     let pre = c.requires in
-    let half_of_lem = c.half_of-half in
-    let get16 = c.get16 in
-    let get162 = c.get16-count in
-    let b = page_at a.table.now a.from in
-    let on = le_at-page a.table.now a.from in
-    record { page_size_in_bounds = pre.page_size_in_bounds; roomy = pre.divides.roomy; first_bound = (rw (half_of_lem.ensures, get16.ensures, ← on 0 2 (omega arith), count-view_in b) (omega (arith, half_below b pre.divides)), rw (get162.ensures, ← on 2 2 (omega arith), count-view_in b) (omega arith)) }
+    let b = page_at c.args.table.now c.args.from in
+    let half = half_below b pre.divides in
+    record {
+      page_size_in_bounds = pre.page_size_in_bounds;
+      roomy = pre.divides.roomy;
+      first_bound = (rw (c.half_of.ensures, c.head_at-head.ensures, count-view_in b) (omega arith), rw (c.head_at-head.ensures, count-view_in b) (omega arith));
+    }
 
 pub returns : goal.returns
-unfolding upper_page read page_in
+unfolding upper_page read page_in head_in
 returns c =
-    let a = c.args in
-    let build-range = c.build_range in
-    let get64 = c.get64-high in
-    let middle-at = c.middle_at-low in
-    let half_of_lem = c.half_of-half in
-    let get162 = c.get16-count in
-    let get16 = c.get16 in
-    let pre = c.requires in
-    let b = page_at a.table.now a.from in
-    let on = le_at-page a.table.now a.from in
-    rw (build-range.ensures, get64.ensures, middle-at.ensures, half_of_lem.ensures, get162.ensures, get16.ensures, ← on 0 2 (omega arith), ← on 2 2 (omega arith), ← on 24 8 (omega arith), upper_half_lem b (half_below b pre.divides))
+    let b = page_at c.args.table.now c.args.from in
+    rw (c.build_range.ensures, c.middle_at-low.ensures, c.half_of.ensures, c.head_at-head.ensures, upper_half_lem b (half_below b c.requires.divides))
