@@ -23,7 +23,7 @@ ghost use Rattle.rules.specs.Reports.{has_any_reported};
 ghost use Rattle.rules.specs.declared.Session.{Session};
 ghost use Rattle.any.specs.Anys.{beside, leaving, first, holds_in, seeing, seen};
 
-use leaves::Stepped;
+use leaves::Leaves;
 use rules::{Any, AnyError, AnyOf, LARGEST_ISSUE, Report, Session};
 
 // Whether the last certificate before a spot of leaf i is not below a key.
@@ -49,39 +49,24 @@ fn look(t: &mut [u8], n: usize, c: u32, low: u64, high: u64) -> Sought
     requires { (length t.old ≡ n * page_size) × (fit0 n t.old ≡ true) × (low ≤ high) }
     ensures { seeing t.new result ≡ seen (walk_of n c (first low high) t.old) }
 {
-    let mut cursor = leaves::start();
-    let mut key = low;
-    let mut report = Report::nothing();
-    while key <= high {
-        match leaves::next(t, n, c, key, high, cursor, report) {
-            Stepped::Damaged(last) => {
-                return Sought {
-                    answer: Err(AnyError::Damaged),
-                    report: last,
-                };
-            }
-            Stepped::Leaf(leaf) => {
-                report = leaf.report;
-                if holds(t, leaf.child, leaf.spot, key) {
-                    return Sought {
-                        answer: Ok(true),
-                        report,
-                    };
-                }
-                if leaf.high >= high {
-                    return Sought {
-                        answer: Ok(false),
-                        report,
-                    };
-                }
-                cursor = leaf.behind;
-                key = leaf.high + 1;
-            }
+    let mut walk = Leaves::over(low, high);
+    while let Some(step) = walk.next(t, n, c) {
+        let Ok(leaf) = step else {
+            return Sought {
+                answer: Err(AnyError::Damaged),
+                report: walk.report,
+            };
+        };
+        if holds(t, leaf.child, leaf.spot, leaf.from) {
+            return Sought {
+                answer: Ok(true),
+                report: walk.report,
+            };
         }
     }
     Sought {
         answer: Ok(false),
-        report,
+        report: walk.report,
     }
 }
 

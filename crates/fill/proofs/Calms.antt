@@ -5,12 +5,11 @@ use mathlib.Core.Path.{◌≡◌, refl, sym, ap, ◌∙◌}
 use mathlib.Core.Bool.{Bool, true, false}
 use mathlib.Core.List.{List, [], ◌++◌}
 use lib.ListN.{length, take, replicate}
-use Rattle.std.specs.Prelude.{Option, Some, None, Result, Ok, Err}
+use Rattle.std.specs.Prelude.{Option, Some, None, Ok}
 use Rattle.rules.specs.Layout.{page_size, leaf_header, cert_size, leaf_kind, leaf_room, most_pages}
 use Rattle.rules.specs.Entry.{Cert, cut, rising}
 use Rattle.rules.specs.Table.{page_at, read}
 use Rattle.rules.specs.declared.Asked.{Asked}
-use Rattle.rules.proofs.Entries.Tests.{not_both}
 use Rattle.head.specs.Head.{head_in}
 use Rattle.head.specs.declared.Head.{Head}
 use Rattle.head.proofs.Headers.{head_of, head_in-page}
@@ -18,7 +17,6 @@ use Rattle.entries.specs.Spot.{keys_in}
 use Rattle.seen.proofs.Looks.{head-kind}
 use Rattle.dry.specs.Walk.{marked, Sighted, asks, dry_over}
 use Rattle.dry.specs.Cursor.{at_root, reaching, leaf_of, way_left, Sure}
-use Rattle.dry.specs.declared.Damaged.{Damaged}
 use Rattle.dry.specs.declared.Cursor.{Cursor}
 use Rattle.dry.specs.declared.LeafAt.{LeafAt}
 use Rattle.dry.proofs.Going.{Going, Taken, leaf_view, root-comes, root-leads, full_sees, end_sees, leaf_less, leaf-below, leaf-inside, leaf-shown, leaf-comes, leaf-leads}

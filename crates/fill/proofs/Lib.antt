@@ -2,6 +2,5 @@ pub mod Spots
 pub mod Copies
 pub mod Leaves
 pub mod Calms
-pub mod Climbing
 pub mod Fills
 pub mod Tight

@@ -11,7 +11,7 @@
 
 #![tactic(auto)]
 
-ghost use Rattle.std.specs.Prelude.{◌≡◌, true, min, ◌+◌, ◌-◌, ◌*◌, ◌≤◌, length};
+ghost use Rattle.std.specs.Prelude.{◌≡◌, true, ◌+◌, ◌*◌, ◌≤◌, length};
 ghost use Rattle.rules.specs.Layout.{page_size, leaf_header, cert_size, leaf_room, last_key};
 ghost use Rattle.rules.specs.Entry.{rising};
 ghost use Rattle.rules.specs.Table.{page_at, fit0};
@@ -23,8 +23,8 @@ ghost use Rattle.fill.specs.Fills.{listing, lists_of, filling, filled_in, mendin
 use dry::Cursor;
 use entries::Entries;
 use head::{Table, read_head};
-use leaves::Stepped;
-use rules::{Asked, MOST, PAGE, Report};
+use leaves::Leaves;
+use rules::{Asked, MOST, Report};
 
 // How many certificates were written, and what was mended on the way.
 #[derive(Clone, Copy)]
@@ -63,19 +63,6 @@ fn start(page: &[u8], count: usize, low: u64) -> usize
     spot(page, count, low - 1)
 }
 
-// How many entries there are from one up to another, while there is room.
-fn span(first: usize, past: usize, room: usize) -> usize
-    ensures { result ≡ min room (past - first) }
-{
-    if past <= first {
-        return 0;
-    }
-    if past - first < room {
-        return past - first;
-    }
-    room
-}
-
 // So many certificates of a leaf, from one on, into the lists behind those found.
 fn copy(
     page: &[u8],
@@ -90,36 +77,14 @@ fn copy(
     ensures { listing result keys.new records.new
         ≡ listed (certs_from page.now first many) filled keys.old records.old }
 {
-    let mut j = 0;
-    while j < many {
+    for j in 0..many {
         keys[filled + j] = head::cert_key(page, first + j);
         records[filled + j] = head::cert_record(page, first + j);
-        j += 1;
     }
     filled + many
 }
 
 // The certificates of a leaf that are asked for.
-fn fill_leaf(
-    page: &[u8],
-    count: usize,
-    a: Asked,
-    keys: &mut [u64],
-    records: &mut [u32],
-    filled: usize,
-) -> usize
-    requires { (leaf_header + cert_size * count ≤ length page.now) × (length page.now ≤ page_size)
-        × (rising (keys_in leaf_header cert_size count page.now) ≡ true) × (filled ≤ a.room) × Roomy a keys.old records.old }
-    ensures { listing result keys.new records.new
-        ≡ listed (asked a filled (certs_from page.now 0 count)) filled keys.old records.old }
-{
-    let first = start(page, count, a.low);
-    let past = spot(page, count, a.high);
-    let many = span(first, past, a.room - filled);
-    copy(page, first, many, keys, records, filled)
-}
-
-// The same of a leaf in the table.
 fn fill_leaf_at(
     t: &[u8],
     page: usize,
@@ -134,9 +99,11 @@ fn fill_leaf_at(
     ensures { listing result keys.new records.new
         ≡ listed (asked a filled (certs_from (page_at t.now page) 0 count)) filled keys.old records.old }
 {
-    let from = page * PAGE;
-    let to = from + PAGE;
-    fill_leaf(&t[from..to], count, a, keys, records, filled)
+    let leaf = head::page_at(t, page);
+    let first = start(leaf, count, a.low);
+    let past = spot(leaf, count, a.high);
+    let many = past.saturating_sub(first).min(a.room - filled);
+    copy(leaf, first, many, keys, records, filled)
 }
 
 // Where it is known that the walk would mend nothing: the table stays as it lies and every page ahead fits its place, so
@@ -175,37 +142,23 @@ pub fn fill(
     ensures { filling t.new result keys.new records.new
         ≡ filled_in keys.old records.old (walk_of n c a t.old) }
 {
-    let mut key = a.low;
-    let mut cursor = leaves::start();
+    let mut walk = Leaves::over(a.low, a.high);
     let mut filled = 0;
-    let mut report = Report::nothing();
     while filled < a.room {
-        let Stepped::Leaf(leaf) = leaves::next(t, n, c, key, key, cursor, report) else {
-            return Filled {
-                count: filled,
-                report,
-            };
+        let Some(Ok(leaf)) = walk.next(t, n, c) else {
+            break;
         };
-        report = leaf.report;
         let page = leaf.child as usize;
         let asked = Asked {
-            low: key,
+            low: leaf.from,
             high: a.high,
             room: a.room,
         };
         filled = fill_leaf_at(t, page, leaf.count as usize, asked, keys, records, filled);
-        if leaf.high >= a.high {
-            return Filled {
-                count: filled,
-                report,
-            };
-        }
-        key = leaf.high + 1;
-        cursor = leaf.behind;
     }
     Filled {
         count: filled,
-        report,
+        report: walk.report,
     }
 }
 
@@ -216,23 +169,7 @@ pub fn mend(t: &mut [u8], n: usize, c: u32, a: Asked) -> Report
         × HasRoom a (walk_of n c a t.old) }
     ensures { mending t.new result ≡ mended_in (walk_of n c a t.old) }
 {
-    let mut key = a.low;
-    let mut cursor = leaves::start();
-    let mut report = Report::nothing();
-    while key <= a.high {
-        match leaves::next(t, n, c, key, key, cursor, report) {
-            Stepped::Damaged(told) => {
-                return told;
-            }
-            Stepped::Leaf(leaf) => {
-                report = leaf.report;
-                if leaf.high >= a.high {
-                    return report;
-                }
-                key = leaf.high + 1;
-                cursor = leaf.behind;
-            }
-        }
-    }
-    report
+    let mut walk = Leaves::over(a.low, a.high);
+    while let Some(Ok(_)) = walk.next(t, n, c) {}
+    walk.report
 }

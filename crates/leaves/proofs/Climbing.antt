@@ -8,6 +8,7 @@ use mathlib.Core.List.{List, [], ◌∷◌}
 use mathlib.Core.Option.{some, some-injective}
 use lib.ListN.{length}
 use borrow.Author.Tests.{ne_eqb}
+use Rattle.std.specs.Prelude.{Result, Ok, Err}
 use Rattle.rules.specs.Layout.{top_kind, leaf_kind, leaf_header, cert_size, leaf_room, last_key}
 use Rattle.rules.specs.Entry.{keys, rising}
 use Rattle.rules.specs.Page.{Page, page_in, count}
@@ -35,7 +36,7 @@ use Rattle.climbs.specs.Ground.{Ground}
 use Rattle.climbs.proofs.Ground.{root-ready}
 use Rattle.leaves.specs.Kept.{KeptSteps, holding, way_reported, descend_reported, resume}
 use Rattle.leaves.specs.Cursors.{no_cursor, cursor_of, holding_in, levels_in, place_in, Lies, LeadsOn, Kept, nexting, next_or, next_of}
-use Rattle.leaves.specs.declared.Stepped.{Stepped}
+use Rattle.leaves.specs.declared.Leaf.{Leaf}
 use Rattle.leaves.proofs.Resume.{enter-kept, resumed}
 use Rattle.leaves.proofs.Begins.{First, held, named, lies-kept, held_cursor, ready-kept, leads_on}
 
@@ -138,18 +139,18 @@ module _ {n c k : ℕ} {t : List ℕ} (A : Ground n c t) (B : k ≤ last_key) wh
 -- ── One turn of the loop ────────────────────────────────────────────────────────────────────────────────────────
 
 -- what the code hands back is what the rules do
-abbrev Handed : ℕ → ℕ → ℕ → ℕ → List ℕ → Report → List ℕ → Stepped → Type 0
-Handed upto n c k t₀ y₀ u r = nexting u r ≡ next_of upto (rules.way_of n c k t₀) (rules.way_report n c k t₀ y₀)
+abbrev Handed : ℕ → ℕ → ℕ → ℕ → List ℕ → Report → List ℕ → Result Leaf Report → Type 0
+Handed upto n c k t₀ y₀ u r = nexting u r ≡ next_of k upto (rules.way_of n c k t₀) (rules.way_report n c k t₀ y₀)
 
 module _ {n c k : ℕ} {t₀ t : List ℕ} {x : Above} {e : Place} {level : ℕ} {y₀ y : Report} (m : Seeking n c k t₀ t x e level y₀ y) where
-  pub runs_out : (upto : ℕ) → level ≡ 0 → Handed upto n c k t₀ y₀ t (Stepped.Damaged y)
+  pub runs_out : (upto : ℕ) → level ≡ 0 → Handed upto n c k t₀ y₀ t (Err y)
   unfolding next_of next_or
   runs_out upto z = rw (way.out-way m.descent z, way.out-report m.descent z)
 
   module _ (o : 0 < level) where
     pub damaged : (upto : ℕ) (u : List ℕ)
         → enters.entering u enters.damaged ≡ enters.told (reason_at n t e) (entry.enter n c (enters.above_of x) t e)
-        → Handed upto n c k t₀ y₀ u (Stepped.Damaged y)
+        → Handed upto n c k t₀ y₀ u (Err y)
     unfolding next_of next_or
     damaged upto u h =
         rw (way.damaged-way m.descent o x m.above u h, way.damaged-report m.descent o x m.above u h)
@@ -184,7 +185,7 @@ module _ {n c k : ℕ} {t₀ t : List ℕ} {x : Above} {e : Place} {level : ℕ}
         behind-is = m.above ∙ ap above_in m.descent.way
 
         pub ends : (z : Report) → z ≡ adds why y → (upto i : ℕ) → i ≡ spot_of upto (keys_in leaf_header cert_size h.count (page_at u e.child))
-            → Handed upto n c k t₀ y₀ u (Stepped.Leaf (record { child = e.child; count = h.count; high = e.high; spot = i; behind = x; report = z }))
+            → Handed upto n c k t₀ y₀ u (Ok (record { child = e.child; count = h.count; from = k; high = e.high; spot = i; behind = x; report = z }))
         unfolding next_of next_or
         ends z v upto i r =
             let w = way.leaf-way m.descent o x m.above u h why f q in

@@ -4,4 +4,6 @@ pub mod Begins
 pub mod Climbing
 pub mod Keeps
 pub mod Loops
+pub mod Steps
+pub mod Walks
 pub mod Tight

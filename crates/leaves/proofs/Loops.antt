@@ -5,6 +5,7 @@ use mathlib.Core.Path.{◌≡◌, refl, sym, ap, ◌∙◌, subst}
 use mathlib.Core.Bool.{true}
 use mathlib.Core.List.{List, [], ◌∷◌}
 use mathlib.Core.Option.{Option, some, none}
+use Rattle.std.specs.Prelude.{Result, Ok, Err}
 use Rattle.rules.specs.Layout.{last_key}
 use Rattle.rules.specs.Test.{mem}
 use Rattle.rules.specs.Entry.{keys}
@@ -23,7 +24,6 @@ use Rattle.climbs.proofs.Ground.{way-ground, no_way-empty, leaf-stood, leaf-ends
 use Rattle.leaves.specs.Kept.{KeptSteps}
 use Rattle.leaves.specs.Cursors.{no_cursor, Kept, Nexting, nexting, leaf_of, next_or, next_of}
 use Rattle.leaves.specs.declared.Leaf.{Leaf}
-use Rattle.leaves.specs.declared.Stepped.{Stepped}
 use Rattle.leaves.proofs.Keeps.{way-keeps, kept_same}
 
 -- ── The cursor ──────────────────────────────────────────────────────────────────────────────────────────────────
@@ -50,6 +50,7 @@ pub record Reached (n c k upto : ℕ) (x : Report) (t u : List ℕ) (l : Leaf) :
   pub above : List rules.Step
   pub way : rules.way_of n c k t ≡ record { table = u; steps = some (leaf ∷ above) }
   pub child : l.child ≡ leaf.place.child
+  pub from : l.from ≡ k
   pub count : l.count ≡ count leaf.page.view
   pub high : l.high ≡ leaf.place.high
   pub spot : l.spot ≡ spot_of upto (keys leaf.page.view.certs)
@@ -70,45 +71,45 @@ record Told (n c k upto : ℕ) (x : Report) (t : List ℕ) (l : Leaf) : Type 0 w
   leaf : rules.Step
   above : List rules.Step
   steps : (rules.way_of n c k t).steps ≡ some (leaf ∷ above)
-  are : l ≡ leaf_of upto leaf above (rules.way_report n c k t x)
+  are : l ≡ leaf_of k upto leaf above (rules.way_report n c k t x)
 
 way_same : {t u : List ℕ} {o p : Option (List rules.Step)} → t ≡ u → o ≡ p
     → ◌≡◌ {A = rules.Way} (record { table = t; steps = o }) (record { table = u; steps = p })
 way_same f g = cc
 
 module _ {n c k : ℕ} {t u : List ℕ} (g : Ground n c t) (h : k ≤ last_key) (upto : ℕ) (x : Report) where
-  table_is : (r : Stepped) → nexting u r ≡ next_of upto (rules.way_of n c k t) (rules.way_report n c k t x) → u ≡ (rules.way_of n c k t).table
+  table_is : (r : Result Leaf Report) → nexting u r ≡ next_of k upto (rules.way_of n c k t) (rules.way_report n c k t x) → u ≡ (rules.way_of n c k t).table
   unfolding next_of
   table_is r f = ap (λ (y : Nexting). y.table) f
 
-  pub next-damaged : (y : Report) → nexting u (Stepped.Damaged y) ≡ next_of upto (rules.way_of n c k t) (rules.way_report n c k t x)
+  pub next-damaged : (y : Report) → nexting u (Err y) ≡ next_of k upto (rules.way_of n c k t) (rules.way_report n c k t x)
       → (rules.way_of n c k t ≡ rules.no_way u) × (y ≡ rules.way_report n c k t x)
   unfolding next_of next_or
   next-damaged y f =
       let s = go (rules.way_of n c k t).steps refl (ap (λ (z : Nexting). z.next) f) in
-      (way_same (sym (table_is (Stepped.Damaged y) f)) s.0, s.1)
+      (way_same (sym (table_is (Err y) f)) s.0, s.1)
     where
-      go : (o : Option (List rules.Step)) → (rules.way_of n c k t).steps ≡ o → Stepped.Damaged y ≡ next_or upto o (rules.way_report n c k t x)
+      go : (o : Option (List rules.Step)) → (rules.way_of n c k t).steps ≡ o → Err y ≡ next_or k upto o (rules.way_report n c k t x)
           → ((rules.way_of n c k t).steps ≡ none) × (y ≡ rules.way_report n c k t x)
       go none q e = (q, cc)
       go (some []) q e = absurd (no_way-empty g k h q)
       go (some (s ∷ above)) q e = absurd (let z : ◌≡◌ {A = ℕ} 0 1 = cc in omega arith)
 
-  told : (l : Leaf) → nexting u (Stepped.Leaf l) ≡ next_of upto (rules.way_of n c k t) (rules.way_report n c k t x) → Told n c k upto x t l
+  told : (l : Leaf) → nexting u (Ok l) ≡ next_of k upto (rules.way_of n c k t) (rules.way_report n c k t x) → Told n c k upto x t l
   unfolding next_of next_or
   told l f = go (rules.way_of n c k t).steps refl (ap (λ (y : Nexting). y.next) f)
     where
-      go : (o : Option (List rules.Step)) → (rules.way_of n c k t).steps ≡ o → Stepped.Leaf l ≡ next_or upto o (rules.way_report n c k t x) → Told n c k upto x t l
+      go : (o : Option (List rules.Step)) → (rules.way_of n c k t).steps ≡ o → Ok l ≡ next_or k upto o (rules.way_report n c k t x) → Told n c k upto x t l
       go none q e = absurd (let z : ◌≡◌ {A = ℕ} 0 1 = cc in omega arith)
       go (some []) q e = absurd (no_way-empty g k h q)
       go (some (s ∷ above)) q e = record { leaf = s; above = above; steps = q; are = cc }
 
-  module _ (l : Leaf) (f : nexting u (Stepped.Leaf l) ≡ next_of upto (rules.way_of n c k t) (rules.way_report n c k t x)) where
+  module _ (l : Leaf) (f : nexting u (Ok l) ≡ next_of k upto (rules.way_of n c k t) (rules.way_report n c k t x)) where
     told_here : Told n c k upto x t l
     told_here = told l f
 
     left : (rules.way_of n c k t).table ≡ u
-    left = sym (table_is (Stepped.Leaf l) f)
+    left = sym (table_is (Ok l) f)
 
     way-is : rules.way_of n c k t ≡ record { table = u; steps = some (told_here.leaf ∷ told_here.above) }
     way-is = way_same left told_here.steps
@@ -150,6 +151,7 @@ module _ {n c k : ℕ} {t u : List ℕ} (g : Ground n c t) (h : k ≤ last_key) 
           above = told_here.above;
           way = way-is;
           child = i;
+          from = ap (λ (y : Leaf). y.from) a;
           count = ap (λ (y : Leaf). y.count) a;
           high = ap (λ (y : Leaf). y.high) a;
           spot = ap (λ (y : Leaf). y.spot) a;

@@ -1,5 +1,5 @@
 -- A cursor as the code hands it on, and what a step to a leaf leaves and answers.
-use Rattle.std.specs.Prelude.{ℕ, ◌+◌, ◌*◌, ◌≤◌, ◌≡◌, true, false, List, [], ◌∷◌, eqb, length}
+use Rattle.std.specs.Prelude.{ℕ, ◌+◌, ◌*◌, ◌≤◌, ◌≡◌, true, false, List, [], ◌∷◌, eqb, length, Result, Ok, Err}
 use Rattle.std.proofs.Math.Option.{Option, some, none}
 use Rattle.rules.specs.Layout.{page_size}
 use Rattle.rules.specs.Test.{between}
@@ -16,7 +16,6 @@ use Rattle.enter.specs.declared.Above.{Above}
 use Rattle.way.specs.Ways.{way_for, above_in, places_below, Leads}
 use Rattle.leaves.specs.Kept.{KeptSteps}
 use Rattle.leaves.specs.declared.Leaf.{Leaf}
-use Rattle.leaves.specs.declared.Stepped.{Stepped}
 
 -- ── The pages that a cursor keeps ───────────────────────────────────────────────────────────────────────────────
 
@@ -38,30 +37,31 @@ pub record Kept (n : ℕ) (t : List ℕ) (x : Above) : Type 0 where
 
 pub record Nexting : Type 0 where
   pub table : List ℕ
-  pub next : Stepped
+  pub next : Result Leaf Report
 
-abbrev pub nexting : List ℕ → Stepped → Nexting
+abbrev pub nexting : List ℕ → Result Leaf Report → Nexting
 nexting t x = record { table = t; next = x }
 
--- a leaf with how many of its keys are not above one, the pages above it, and what was reported down to it
-abbrev pub leaf_of : ℕ → rules.Step → List rules.Step → Report → Leaf
-leaf_of upto s above x = record {
+-- a leaf with the key that led to it, how many of its keys are not above one, the pages above it, and what was reported down to it
+abbrev pub leaf_of : ℕ → ℕ → rules.Step → List rules.Step → Report → Leaf
+leaf_of key upto s above x = record {
   child = s.place.child;
   count = count s.page.view;
+  from = key;
   high = s.place.high;
   spot = spot_of upto (keys s.page.view.certs);
   behind = cursor_of above;
   report = x;
 }
 
-unfoldable pub next_or : ℕ → Option (List rules.Step) → Report → Stepped
-next_or upto none x = Stepped.Damaged x
-next_or upto (some []) x = Stepped.Damaged x
-next_or upto (some (s ∷ above)) x = Stepped.Leaf (leaf_of upto s above x)
+unfoldable pub next_or : ℕ → ℕ → Option (List rules.Step) → Report → Result Leaf Report
+next_or key upto none x = Err x
+next_or key upto (some []) x = Err x
+next_or key upto (some (s ∷ above)) x = Ok (leaf_of key upto s above x)
 
 -- the end of a way, and what is kept of it; the report is handed back with damage too
-unfoldable pub next_of : ℕ → rules.Way → Report → Nexting
-next_of upto w x = nexting w.table (next_or upto w.steps x)
+unfoldable pub next_of : ℕ → ℕ → rules.Way → Report → Nexting
+next_of key upto w x = nexting w.table (next_or key upto w.steps x)
 
 -- ── Where a step begins ─────────────────────────────────────────────────────────────────────────────────────────
 

@@ -6,44 +6,38 @@
 // the key. Those pages stand in the table as they were entered, so to enter them again would change and report nothing:
 // the theorem `resumed` says so of the rules, for every table.
 //
-// A leaf says where its range ends; the leaf of the key behind that is the next one. `spot` serves whoever walks: how
-// many of the leaf's keys are not above a last one, guessed while the leaf is tested, as `way` guesses.
+// A leaf says where its range ends; the leaf of the key behind that is the next one. So `Leaves` goes over the leaves of a
+// range, one step after the other. `spot` serves whoever walks: how many of the leaf's keys are not above a last one,
+// guessed while the leaf is tested, as `way` guesses.
 //
 // Below stand `way`, which goes one page down, and `enter`, which enters one place.
 
 #![tactic(auto)]
 
-ghost use Rattle.std.specs.Prelude.{◌≡◌, true, ◌+◌, ◌*◌, ◌≤◌, length};
+ghost use Rattle.std.specs.Prelude.{◌≡◌, true, ◌*◌, ◌≤◌, length};
 ghost use Rattle.std.proofs.Math.Option.{some};
-ghost use Rattle.rules.specs.Layout.{page_size, leaf_header, cert_size, leaf_room};
+ghost use Rattle.rules.specs.Layout.{page_size};
 ghost use Rattle.rules.specs.Test.{between};
-ghost use Rattle.rules.specs.Entry.{rising};
-ghost use Rattle.rules.specs.Table.{page_at, fit0};
+ghost use Rattle.rules.specs.Table.{fit0};
 ghost use Rattle.rules.specs.Walk.{way_of, way_report};
-ghost use Rattle.entries.specs.Spot.{keys_in, spot_of};
 ghost use Rattle.leaves.specs.Cursors.{no_cursor, holding_in, levels_in, place_in, Lies, LeadsOn, Kept, nexting, next_of};
+ghost use Rattle.leaves.specs.Walks.{walk_over, stepping, key_behind, step_of};
 
 use enter::Above;
-use entries::Entries;
 use head::{Head, page_at, read_head};
-use rules::{LEAF, LEVELS, PAGE, Place, Report};
+use rules::{LEAF, LEVELS, Place, Report};
 
-// A leaf that was stepped to: its number and count, where its range ends, how many of its keys are not above the last
-// one wanted, the cursor behind it, and the report so far.
+// A leaf that was stepped to: its number and count, the key that led to it, where its range ends, how many of its keys are
+// not above the last one wanted, the cursor behind it, and the report so far.
 #[derive(Clone, Copy)]
 pub struct Leaf {
     pub child: u16,
     pub count: u16,
+    pub from: u64,
     pub high: u64,
     pub spot: usize,
     pub behind: Above,
     pub report: Report,
-}
-
-#[derive(Clone, Copy)]
-pub enum Stepped {
-    Leaf(Leaf),
-    Damaged(Report),
 }
 
 // The cursor of a first step: nothing is kept.
@@ -57,10 +51,7 @@ pub fn start() -> Above
 fn holds(head: Head, key: u64) -> bool
     ensures { result ≡ between head.low head.high key }
 {
-    if key < head.low {
-        return false;
-    }
-    key <= head.high
+    head.low <= key && key <= head.high
 }
 
 // The pages that the way of a key shares with the last one. Above a page that is passed over stands the root, which
@@ -86,13 +77,11 @@ fn holding(t: &[u8], cursor: Above, key: u64) -> Above
 fn levels(cursor: Above) -> usize
     ensures { result ≡ levels_in cursor }
 {
-    if cursor.parent == 0 {
-        return LEVELS;
+    match (cursor.parent, cursor.top) {
+        (0, _) => LEVELS,
+        (_, 0) => LEVELS - 1,
+        _ => LEVELS - 2,
     }
-    if cursor.top == 0 {
-        return LEVELS - 1;
-    }
-    LEVELS - 2
 }
 
 // The place that a key leads to below the deepest page, or the root's.
@@ -108,17 +97,6 @@ fn place(t: &[u8], cursor: Above, key: u64) -> Place
     way::place_below(t, cursor.parent, head, key, guess)
 }
 
-// How many of a leaf's keys are not above one.
-fn spot_at(t: &[u8], child: u16, count: u16, upto: u64, guess: usize) -> usize
-    requires { ((child + 1) * page_size ≤ length t.now) × (count ≤ leaf_room)
-        × (rising (keys_in leaf_header cert_size count (page_at t.now child)) ≡ true) }
-    ensures { result ≡ spot_of upto (keys_in leaf_header cert_size count (page_at t.now child)) }
-{
-    let from = child as usize * PAGE;
-    let to = from + PAGE;
-    seek::confirm(&t[from..to], Entries::certs(count as usize), upto, guess)
-}
-
 // Down to the leaf of a key. Damage ends the step, and what was mended above it is reported.
 pub fn next(
     t: &mut [u8],
@@ -128,26 +106,26 @@ pub fn next(
     upto: u64,
     cursor: Above,
     mut report: Report,
-) -> Stepped
+) -> Result<Leaf, Report>
     requires { (length t.old ≡ n * page_size) × (fit0 n t.old ≡ true) × Kept n t.old cursor }
     ensures { nexting t.new result
-        ≡ next_of upto (way_of n c key t.old) (way_report n c key t.old report) }
+        ≡ next_of key upto (way_of n c key t.old) (way_report n c key t.old report) }
 {
     let mut above = holding(t, cursor, key);
     let mut e = place(t, above, key);
-    let mut level = levels(above);
-    while 0 < level {
+    for _ in 0..levels(above) {
         let guess = way::look_ahead(t, e.child, key, upto);
         let Some(entered) = enter::enter(t, n, c, above, e) else {
-            return Stepped::Damaged(report);
+            return Err(report);
         };
         let page = entered.head;
         report = report.add(entered.reason);
         if page.kind == LEAF {
-            let spot = spot_at(t, e.child, page.count, upto, guess);
-            return Stepped::Leaf(Leaf {
+            let spot = way::spot_at(t, e.child, page.count, upto, guess);
+            return Ok(Leaf {
                 child: e.child,
                 count: page.count,
+                from: key,
                 high: e.high,
                 spot,
                 behind: above,
@@ -160,7 +138,62 @@ pub fn next(
             top,
         };
         e = way::place_below(t, e.child, page, key, guess);
-        level -= 1;
     }
-    Stepped::Damaged(report)
+    Err(report)
+}
+
+// A walk over the leaves of a range: where it goes on, which is nowhere behind the last leaf and behind damage, the last
+// key of the range, the cursor, and what was mended so far.
+//
+// A step mends pages of the table, and those who walk read it between two steps. So the table is lent to each step alone,
+// while an iterator of the library would hold it for the whole walk.
+#[derive(Clone, Copy)]
+pub struct Leaves {
+    pub key: Option<u64>,
+    pub high: u64,
+    pub cursor: Above,
+    pub report: Report,
+}
+
+// The key behind a leaf that ends at one, while the range goes on there.
+fn behind(end: u64, high: u64) -> Option<u64>
+    ensures { result ≡ key_behind end high }
+{
+    if end < high {
+        return Some(end + 1);
+    }
+    None
+}
+
+impl Leaves {
+    pub fn over(low: u64, high: u64) -> Self
+        ensures { result ≡ walk_over low high }
+    {
+        Leaves {
+            key: Some(low),
+            high,
+            cursor: start(),
+            report: Report::nothing(),
+        }
+    }
+
+    // The next leaf, or damage. With damage the walk is over.
+    pub fn next(&mut self, t: &mut [u8], n: usize, c: u32) -> Option<Result<Leaf, Report>>
+        requires { (length t.old ≡ n * page_size) × (fit0 n t.old ≡ true) × Kept n t.old self.old.cursor }
+        ensures { stepping t.new result self.new ≡ step_of n c t.old self.old }
+    {
+        let key = self.key.take()?;
+        let step = next(t, n, c, key, self.high, self.cursor, self.report);
+        match step {
+            Ok(leaf) => {
+                self.key = behind(leaf.high, self.high);
+                self.cursor = leaf.behind;
+                self.report = leaf.report;
+            }
+            Err(report) => {
+                self.report = report;
+            }
+        }
+        Some(step)
+    }
 }

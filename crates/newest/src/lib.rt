@@ -23,7 +23,7 @@ ghost use Rattle.rules.specs.Reports.{newest_reported};
 ghost use Rattle.rules.specs.declared.Session.{Session};
 ghost use Rattle.newest.specs.Newests.{beside, leaving, range, last_in, seeing, seen};
 
-use leaves::Stepped;
+use leaves::Leaves;
 use rules::{FindError, LAST_FINAL, Latest, Newest, NewestOf, PAGE, Report, Session};
 
 // How many issues a meter has, counting 0.
@@ -71,34 +71,19 @@ fn look(t: &mut [u8], n: usize, c: u32, low: u64, high: u64) -> Sought
     ensures { seeing t.new result ≡ seen (walk_of n c (range low high) t.old) }
 {
     let mut newest = Err(FindError::Missing);
-    let mut cursor = leaves::start();
-    let mut key = low;
-    let mut report = Report::nothing();
-    while key <= high {
-        match leaves::next(t, n, c, key, high, cursor, report) {
-            Stepped::Damaged(last) => {
-                return Sought {
-                    answer: Err(FindError::Damaged),
-                    report: last,
-                };
-            }
-            Stepped::Leaf(leaf) => {
-                newest = last_on(t, leaf.child, leaf.spot, key, newest);
-                report = leaf.report;
-                if leaf.high >= high {
-                    return Sought {
-                        answer: newest,
-                        report,
-                    };
-                }
-                cursor = leaf.behind;
-                key = leaf.high + 1;
-            }
-        }
+    let mut walk = Leaves::over(low, high);
+    while let Some(step) = walk.next(t, n, c) {
+        let Ok(leaf) = step else {
+            return Sought {
+                answer: Err(FindError::Damaged),
+                report: walk.report,
+            };
+        };
+        newest = last_on(t, leaf.child, leaf.spot, leaf.from, newest);
     }
     Sought {
         answer: newest,
-        report,
+        report: walk.report,
     }
 }
 

@@ -1,10 +1,10 @@
 -- What a step to the leaf of a key gives a withdrawal: damage, or the leaf to take the certificate out of. Assumes nothing.
-use Rattle.std.specs.Prelude.{Ok, Err}
 use mathlib.Core.Path.{◌≡◌, refl, sym, ap, ◌∙◌}
 use mathlib.Core.List.{List, ◌∷◌}
 use mathlib.Core.Option.{Option, some, none}
 use Prim.Native.Nat.{ℕ, ◌≤◌}
 use native.Mathlib.Omega.{arith}
+use Rattle.std.specs.Prelude.{Result, Ok, Err}
 use Rattle.rules.specs.Layout.{leaf_header, cert_size, leaf_room, last_key}
 use Rattle.rules.specs.Entry.{Cert, keys, find}
 use Rattle.rules.specs.Page.{Page, page_in}
@@ -27,7 +27,6 @@ use Rattle.way.proofs.Leaf.{certs-are}
 use Rattle.climbs.specs.Ground.{Ground}
 use Rattle.leaves.specs.Cursors.{nexting, next_of}
 use Rattle.leaves.specs.declared.Leaf.{Leaf}
-use Rattle.leaves.specs.declared.Stepped.{Stepped}
 use Rattle.leaves.proofs.Loops.{next-damaged, Reached, next-leaf}
 use Rattle.lookup.specs.Looks.{found_before, looked_in}
 use Rattle.lookup.proofs.Leaf.{spot-room, found-leaf}
@@ -71,22 +70,22 @@ along_way k s stable x =
     ]
 
 -- the step's report begins with nothing
-pub from_nothing : (n c k : ℕ) (t u : List ℕ) (r : Stepped) (x : Report) → x ≡ nothing
-    → nexting u r ≡ next_of k (rules.way_of n c k t) (rules.way_report n c k t x)
-    → nexting u r ≡ next_of k (rules.way_of n c k t) (rules.way_report n c k t nothing)
-from_nothing n c k t u r x o f = f ∙ ap (λ (y : Report). next_of k (rules.way_of n c k t) (rules.way_report n c k t y)) o
+pub from_nothing : (n c k : ℕ) (t u : List ℕ) (r : Result Leaf Report) (x : Report) → x ≡ nothing
+    → nexting u r ≡ next_of k k (rules.way_of n c k t) (rules.way_report n c k t x)
+    → nexting u r ≡ next_of k k (rules.way_of n c k t) (rules.way_report n c k t nothing)
+from_nothing n c k t u r x o f = f ∙ ap (λ (y : Report). next_of k k (rules.way_of n c k t) (rules.way_report n c k t y)) o
 
-module _ (s : Session) (k : ℕ) (t u : List ℕ) (g : Ground s.n s.c t) (h : k ≤ last_key) {r : Stepped}
-    (f : nexting u r ≡ next_of k (rules.way_of s.n s.c k t) (rules.way_report s.n s.c k t nothing)) where
+module _ (s : Session) (k : ℕ) (t u : List ℕ) (g : Ground s.n s.c t) (h : k ≤ last_key) {r : Result Leaf Report}
+    (f : nexting u r ≡ next_of k k (rules.way_of s.n s.c k t) (rules.way_report s.n s.c k t nothing)) where
   -- a damaged place was met
-  pub damaged : {y : Report} → r ≡ Stepped.Damaged y → (stable : List ℕ)
+  pub damaged : {y : Report} → r ≡ Err y → (stable : List ℕ)
       → reported (left (Err FindError.Damaged) s u stable) y ≡ reported (withdraw_key k s t stable) (rules.way_report s.n s.c k t nothing)
   unfolding withdraw_key withdraw_refused along_way
   damaged {y} e stable =
       let q = next-damaged g h k nothing y (ap (nexting u) (sym e) ∙ f) in
       reported_too q.1 (sym (ap (along_way k s stable) q.0))
 
-  module _ {l : Leaf} (e : r ≡ Stepped.Leaf l) where
+  module _ {l : Leaf} (e : r ≡ Ok l) where
     pub reached : Reached s.n s.c k k nothing t u l
     reached = next-leaf g h k nothing l (ap (nexting u) (sym e) ∙ f)
 

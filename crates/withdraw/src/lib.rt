@@ -21,7 +21,6 @@ ghost use Rattle.rules.specs.Reports.{withdraw_reported};
 ghost use Rattle.way.specs.Ways.{reported};
 ghost use Rattle.withdraw.specs.Withdraws.{leaving};
 
-use leaves::Stepped;
 use rules::{FindError, Report, Session, Withdrawing};
 
 // A key's certificate taken out of the leaf at the end of its way.
@@ -33,14 +32,14 @@ fn take_out(t: &mut [u8], session: Session, key: u64) -> Withdrawing
     let n = session.n as usize;
     let first = leaves::start();
     match leaves::next(t, n, session.c, key, key, first, Report::nothing()) {
-        Stepped::Damaged(report) => {
+        Err(report) => {
             return Withdrawing {
                 answer: Err(FindError::Damaged),
                 report,
                 session,
             };
         }
-        Stepped::Leaf(leaf) => {
+        Ok(leaf) => {
             let report = leaf.report;
             let Ok(_) = lookup::find_on(t, leaf.child, leaf.spot, key) else {
                 return Withdrawing {

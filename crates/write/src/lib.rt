@@ -29,7 +29,7 @@ ghost use Rattle.write.specs.Calls.{beside, leaving, telling, told, wrote, wrote
 use counts::{Tally, everything};
 use dry::KeyRange;
 use head::{Table, page_at};
-use leaves::Stepped;
+use leaves::Leaves;
 use rules::{Asked, Report, Session};
 use sections::{Starts, put_counts, put_leaf, starts_of};
 
@@ -87,28 +87,20 @@ fn fill(t: &mut [u8], n: usize, c: u32, a: Asked, s: Starts, out: &mut [u8]) -> 
         × Lies s (counted_all no_tally (walk_of n c a t.old).found) (length out.old) }
     ensures { wrote t.new out.new result ≡ wrote_in s out.old (walk_of n c a t.old) }
 {
-    let mut key = a.low;
-    let mut cursor = leaves::start();
+    let mut walk = Leaves::over(a.low, a.high);
     let mut tally = Tally::default();
-    let mut report = Report::nothing();
-    while key <= a.high {
-        let Stepped::Leaf(leaf) = leaves::next(t, n, c, key, key, cursor, report) else {
-            return report;
+    while let Some(step) = walk.next(t, n, c) {
+        let Ok(leaf) = step else {
+            return walk.report;
         };
-        report = leaf.report;
         let page = page_at(t, leaf.child as usize);
         let range = KeyRange {
-            low: key,
+            low: leaf.from,
             high: a.high,
         };
         tally = put_leaf(page, leaf.count as usize, range, s, tally, out);
-        if leaf.high >= a.high {
-            return report;
-        }
-        key = leaf.high + 1;
-        cursor = leaf.behind;
     }
-    report
+    walk.report
 }
 
 // What lies ahead is known before a byte is written.

@@ -1,6 +1,6 @@
 -- `fill::copy`: so far each list is as it came, with the first j certificates pasted in behind those found.
 -- Assumes nothing.
-use Prim.Native.Nat.{◌+◌, ◌-◌}
+use Prim.Native.Nat.{◌+◌}
 use mathlib.Core.Path.{refl, ◌∙◌}
 use lib.ListN.{length-set}
 use lib.Seq.{paste-zero}

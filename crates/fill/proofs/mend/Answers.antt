@@ -1,64 +1,32 @@
 -- `fill::mend`: at each turn there is room. Assumes nothing.
-use Prim.Native.Nat.{◌-◌}
-use mathlib.Core.Path.{refl, ap, sym, ◌∙◌}
-use Rattle.leaves.specs.Cursors.{nexting}
-use Rattle.fill.proofs.Fills.{mending-begins, mending-stops, mending-ends, mending_on, mending_less}
+use Prim.Native.Nat.{ℕ}
+use Rattle.std.specs.Prelude.{Some}
+use Rattle.leaves.proofs.Walks.{no_leaf}
+use mathlib.Core.Path.{◌≡◌, refl, ap, ◌∙◌}
+use Rattle.fill.proofs.Fills.{mending-begins, mending-done, mending-stops, mending_on, mending_less}
 use native.Mathlib.Omega.{arith}
 use Rattle.fill.proofs.mend.Goals as goal
+use Rattle.fill.proofs.mend.Goals.{in_default, in_default-2}
 
-pub loop-key-init : goal.loop-key-init
-loop-key-init c =
+pub loop-init : goal.loop-init
+loop-init c =
     let pre = c.requires in
-    (refl, mending-begins (record { long = pre.0; bytes = c.slice_known-1.given; fit = pre.1; counter = omega (arith, c.ranges.c) }) pre.2 pre.3 c.start-cursor.result c.start-cursor.ensures c.nothing-report.result c.nothing-report.ensures)
+    (refl, mending-begins (record { long = pre.0; bytes = c.slice_known-1.given; fit = pre.1; counter = omega (arith, c.ranges.c) }) pre.2 pre.3 c.over-walk.result c.over-walk.ensures)
 
 pub next-requires : goal.next-requires
 next-requires c =
-    let pre = c.requires in
-    let loop = c.loop-key in
-    (omega (arith, loop.invariant.0, pre.0), loop.invariant.1.climbing.ground.fit, loop.invariant.1.climbing.kept)
+    let y = c.loop.invariant.1.walking in
+    (omega (arith, c.loop.invariant.0, c.requires.0), y.ground.fit, y.kept)
 
-pub shape_of-t-in-Damaged : goal.shape_of-t-in-Damaged
-shape_of-t-in-Damaged c =
-    let loop = c.loop-key in
-    let next = c.next in
-    omega (arith, next.auto.t, loop.invariant.0)
+pub loop-smaller : goal.loop-smaller
+loop-smaller c = mending_less c.loop.invariant.1 c.requires.4 c.in-Some-Ok.ensures _ (ap Some c.in-Some-Ok.field-0-is)
 
-pub returns-in-Damaged : goal.returns-in-Damaged
-returns-in-Damaged c =
-    let pre = c.requires in
-    let loop = c.loop-key in
-    let next = c.next in
-    mending-stops loop.invariant.1 pre.4 loop.key next.new.t c.in-Damaged.told (ap (nexting next.new.t) (sym c.in-Damaged.is) ∙ next.ensures)
-
-pub shape_of-t-then-leaf-a : goal.shape_of-t-then-leaf-a
-shape_of-t-then-leaf-a c =
-    let loop = c.loop-key in
-    let next = c.next in
-    omega (arith, next.auto.t, loop.invariant.0)
-
-pub returns-then-leaf-a : goal.returns-then-leaf-a
-returns-then-leaf-a c =
-    let pre = c.requires in
-    let loop = c.loop-key in
-    let next = c.next in
-    mending-ends loop.invariant.1 pre.4 loop.key next.new.t c.in-Leaf.leaf (ap (nexting next.new.t) (sym c.in-Leaf.is) ∙ next.ensures) (omega (arith, c.if-leaf-a.true))
-
-pub loop-key-smaller : goal.loop-key-smaller
-loop-key-smaller c =
-    let pre = c.requires in
-    let loop = c.loop-key in
-    let next = c.next in
-    mending_less loop.invariant.1 pre.4 loop.key next.new.t c.in-Leaf.leaf (ap (nexting next.new.t) (sym c.in-Leaf.is) ∙ next.ensures) (omega (arith, c.if-leaf-a.false))
-
-pub loop-key-preserved : goal.loop-key-preserved
-loop-key-preserved c =
-    let pre = c.requires in
-    let loop = c.loop-key in
-    let next = c.next in
-    (omega (arith, next.auto.t, loop.invariant.0), mending_on loop.invariant.1 pre.4 loop.key next.new.t c.in-Leaf.leaf (ap (nexting next.new.t) (sym c.in-Leaf.is) ∙ next.ensures) (omega (arith, c.if-leaf-a.false)))
-
-pub shape_of-t : goal.shape_of-t
-shape_of-t c = c.loop-key.invariant.0
+pub loop-preserved : goal.loop-preserved
+loop-preserved c = (omega (arith, c.next.auto.t, c.loop.invariant.0), mending_on c.loop.invariant.1 c.requires.4 c.in-Some-Ok.ensures _ (ap Some c.in-Some-Ok.field-0-is))
 
 pub returns : goal.returns
-returns c = absurd (omega (arith, c.loop-key-test.false, c.loop-key.invariant.1.climbing.low))
+returns c =
+    elim c.match-next.branch [
+      | in_default w ↦ let d = no_leaf w.in_default.field-0 (λ l q. let z : ◌≡◌ {A = ℕ} 0 1 = cc in absurd (omega arith)) in mending-stops c.loop.invariant.1 c.requires.4 c.next.ensures d.0 (w.in_default.is ∙ ap Some d.1)
+      | in_default-2 w ↦ mending-done c.loop.invariant.1 c.requires.4 c.next.ensures w.in_default.is
+    ]

@@ -4,22 +4,14 @@ use borrow.Author.Tests.{eq-eqb, ne_eqb}
 use Rattle.leaves.specs.Cursors.{levels_in}
 use Rattle.leaves.proofs.levels.Goals as goal
 
-pub returns-then-cursor-eq0 : goal.returns-then-cursor-eq0
+pub returns-in-0-default : goal.returns-in-0-default
 unfolding levels_in
-returns-then-cursor-eq0 c =
-    let args = c.args in
-    rw (eq-eqb args.cursor.parent 0 c.if-cursor-eq0.true, levels_in)
+returns-in-0-default c = rw (eq-eqb c.args.cursor.parent 0 c.in-0-default.is-0, levels_in)
 
-pub returns-then-cursor-eq0-2 : goal.returns-then-cursor-eq0-2
+pub returns-in_default-eq0 : goal.returns-in_default-eq0
 unfolding levels_in
-returns-then-cursor-eq0-2 c =
-    let args = c.args in
-    let if1 = c.if-cursor-eq0 in
-    rw (ne_eqb args.cursor.parent 0 if1.false, levels_in, eq-eqb args.cursor.top 0 c.if-cursor-eq0-2.true)
+returns-in_default-eq0 c = rw (ne_eqb c.args.cursor.parent 0 c.in_default-eq0.is-0.1, levels_in, eq-eqb c.args.cursor.top 0 c.in_default-eq0.is-1)
 
-pub returns : goal.returns
+pub returns-in_default : goal.returns-in_default
 unfolding levels_in
-returns c =
-    let args = c.args in
-    let if1 = c.if-cursor-eq0 in
-    rw (ne_eqb args.cursor.parent 0 if1.false, levels_in, ne_eqb args.cursor.top 0 c.if-cursor-eq0-2.false)
+returns-in_default c = rw (ne_eqb c.args.cursor.parent 0 c.in_default.is-0.1, levels_in, ne_eqb c.args.cursor.top 0 c.in_default.is-1.1)

@@ -1,10 +1,10 @@
 -- `newest::look`: at each turn the walk behind the last leaf is what is left to do. Assumes nothing.
-use Prim.Native.Nat.{◌+◌, ◌-◌}
+use Rattle.leaves.specs.Walks.{keys_left}
 use Rattle.newest.proofs.Turns.{Going}
 use Rattle.newest.proofs.look.Given as goal
 
-abbrev pub invariant-loop-key : goal.invariant-loop-key
-invariant-loop-key l = Going l.n l.c l.low l.high l.initial.t l.t l.newest l.cursor l.key l.report
+abbrev pub invariant-loop-step : goal.invariant-loop-step
+invariant-loop-step l = Going l.n l.c l.fn.low l.fn.high l.initial.t l.t l.newest l.walk
 
-abbrev pub decreases-loop-key : goal.decreases-loop-key
-decreases-loop-key l = l.high + 1 - l.key
+abbrev pub decreases-loop-step : goal.decreases-loop-step
+decreases-loop-step l = keys_left l.walk

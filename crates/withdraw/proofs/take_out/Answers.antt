@@ -12,8 +12,8 @@ pub next-requires : goal.next-requires
 next-requires c =
     (c.requires.0, c.requires.1, kept-start c.args.session.n c.args.t.now c.start-first.result c.start-first.ensures)
 
-pub returns-in-Damaged : goal.returns-in-Damaged
-returns-in-Damaged c =
+pub returns-in-Err : goal.returns-in-Err
+returns-in-Err c =
     let s = c.args.session in
     let k = c.args.key in
     let t = c.args.t.now in
@@ -21,7 +21,7 @@ returns-in-Damaged c =
     let g : Ground s.n s.c t = record { long = c.requires.0; bytes = c.slice_known-1.given; fit = c.requires.1; counter = omega (arith, c.well_formed) } in
     let h : k ≤ last_key = omega (arith, c.ranges.key) in
     let f = from_nothing s.n s.c k t u c.next.result c.nothing.result c.nothing.ensures c.next.ensures in
-    damaged s k t u g h f c.in-Damaged.is
+    damaged s k t u g h f c.in-Err.is
 
 pub find_on-requires : goal.find_on-requires
 find_on-requires c =
@@ -32,7 +32,7 @@ find_on-requires c =
     let g : Ground s.n s.c t = record { long = c.requires.0; bytes = c.slice_known-1.given; fit = c.requires.1; counter = omega (arith, c.well_formed) } in
     let h : k ≤ last_key = omega (arith, c.ranges.key) in
     let f = from_nothing s.n s.c k t u c.next.result c.nothing.result c.nothing.ensures c.next.ensures in
-    let e = c.in-Leaf.is in
+    let e = c.in-Ok.is in
     let r = reached s k t u g h f e in
     (omega (arith, c.next.auto.t, c.requires.0, r.child_below), spot-within s k t u g h f e)
 
@@ -45,7 +45,7 @@ returns-in_default c =
     let g : Ground s.n s.c t = record { long = c.requires.0; bytes = c.slice_known-1.given; fit = c.requires.1; counter = omega (arith, c.well_formed) } in
     let h : k ≤ last_key = omega (arith, c.ranges.key) in
     let f = from_nothing s.n s.c k t u c.next.result c.nothing.result c.nothing.ensures c.next.ensures in
-    let e = c.in-Leaf.is in
+    let e = c.in-Ok.is in
     let x = found_as s k t u g h f e c.find_on.ensures in
     missing s k t u g h f e (none_found _ c.find_on.result x c.in_default.not-Ok)
 
@@ -58,14 +58,14 @@ remove_cert-requires c =
     let g : Ground s.n s.c t = record { long = c.requires.0; bytes = c.slice_known-1.given; fit = c.requires.1; counter = omega (arith, c.well_formed) } in
     let h : k ≤ last_key = omega (arith, c.ranges.key) in
     let f = from_nothing s.n s.c k t u c.next.result c.nothing.result c.nothing.ensures c.next.ensures in
-    let e = c.in-Leaf.is in
+    let e = c.in-Ok.is in
     let r = reached s k t u g h f e in
     let x = found_as s k t u g h f e c.find_on.ensures in
-    let o = one_found _ c.find_on.result x _ c.in-Ok.is in
+    let o = one_found _ c.find_on.result x _ c.in-Ok-find_on.is in
     record { page_size_in_bounds = omega (arith, c.next.auto.t, c.requires.0, r.child_below); has_cert = has s k t u g h f e o.0 o.1 }
 
-pub returns-in-Leaf : goal.returns-in-Leaf
-returns-in-Leaf c =
+pub returns-in-Ok : goal.returns-in-Ok
+returns-in-Ok c =
     let s = c.args.session in
     let k = c.args.key in
     let t = c.args.t.now in
@@ -73,7 +73,7 @@ returns-in-Leaf c =
     let g : Ground s.n s.c t = record { long = c.requires.0; bytes = c.slice_known-1.given; fit = c.requires.1; counter = omega (arith, c.well_formed) } in
     let h : k ≤ last_key = omega (arith, c.ranges.key) in
     let f = from_nothing s.n s.c k t u c.next.result c.nothing.result c.nothing.ensures c.next.ensures in
-    let e = c.in-Leaf.is in
+    let e = c.in-Ok.is in
     let x = found_as s k t u g h f e c.find_on.ensures in
-    let o = one_found _ c.find_on.result x _ c.in-Ok.is in
+    let o = one_found _ c.find_on.result x _ c.in-Ok-find_on.is in
     λ stable. taken_out s k t u g h f e o.0 o.1 stable c.remove_cert.new.table c.remove_cert.ensures c.uncount-lowered.result c.uncount-lowered.ensures

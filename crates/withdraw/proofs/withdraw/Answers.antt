@@ -1,7 +1,6 @@
 -- `withdraw::withdraw`: test after test, in document 01's order.
 -- Assumes nothing.
 use mathlib.Core.Path.{refl, sym, ◌∙◌}
-use borrow.Author.Tests.{not-true, not-false}
 use Rattle.rules.proofs.Bytes.Lengths.{lengths_for_true}
 use Rattle.withdraw.proofs.Call.{bad_length_lem, bad_key, bad_zero, by_key}
 use native.Mathlib.Omega.{arith}
