@@ -128,7 +128,7 @@ pub fn build_lower(table: &mut [u8], to: usize, from: usize, c: u32)
     requires divides { Divides (read table.old from).view }
     ensures { table.new ≡ build table.old to (lower_page c (read table.old from)) }
 {
-    let head = head::head_at(table, from);
+    let head = head::read_head(head::page_at(table, from));
     let high = middle_at(table, from) - 1;
     let run = Run {
         first: 0,
@@ -149,7 +149,7 @@ pub fn build_upper(table: &mut [u8], to: usize, from: usize, c: u32)
     requires divides { Divides (read table.old from).view }
     ensures { table.new ≡ build table.old to (upper_page c (read table.old from)) }
 {
-    let head = head::head_at(table, from);
+    let head = head::read_head(head::page_at(table, from));
     let low = middle_at(table, from);
     let run = Run {
         first: half_of(head.kind),

@@ -17,11 +17,11 @@ build_range-requires c =
     record {
       page_size_in_bounds = pre.page_size_in_bounds;
       roomy = pre.divides.roomy;
-      first_bound = (omega arith, rw (c.half_of.ensures, c.head_at-head.ensures, count-view_in b) (omega (arith, half_below b pre.divides)));
+      first_bound = (omega arith, rw (c.half_of.ensures, c.read_head-head.ensures, c.page_at.ensures.bytes, count-view_in b) (omega (arith, half_below b pre.divides)));
     }
 
 pub returns : goal.returns
 unfolding lower_page read page_in head_in
 returns c =
     let b = page_at c.args.table.now c.args.from in
-    rw (c.build_range.ensures, c.middle_at-high.ensures, c.half_of.ensures, c.head_at-head.ensures, lower_half_lem b (half_below b c.requires.divides))
+    rw (c.build_range.ensures, c.middle_at-high.ensures, c.half_of.ensures, c.read_head-head.ensures, c.page_at.ensures.bytes, lower_half_lem b (half_below b c.requires.divides))
