@@ -12,7 +12,7 @@ use Rattle.rules.specs.declared.Session.{Session}
 use Rattle.rules.proofs.Demand1.Batches.{batch_stable}
 use Rattle.exchange.specs.Judged.{Judged, judged}
 use Rattle.exchange.specs.Told.{certs_in}
-use Rattle.exchange.specs.ReadFile.{Read, as_items, read_refused, read_no, read_count, read_place, read_file}
+use Rattle.exchange.specs.ReadFile.{Read, as_items, read_refused, read_error_no, read_no, read_count, read_place, read_file}
 use Rattle.exchange.specs.declared.ReadError.{ReadError}
 use Rattle.exchange.proofs.Parts.{bad_not_fine}
 use Rattle.exchange.proofs.Exact.{exact}
@@ -27,7 +27,7 @@ module _ (w t : List ℕ) (s : Session) (f : List ℕ) where
   number r = read_no r.left.answer
 
   pub read-given : Bytes f → Given (read_causes w t s f) (number (read_file w t s f))
-  unfolding read_no
+  unfolding read_error_no
   read-given b = go (lengths_for s w t) refl (judged f) refl
     where
       go : (a : Bool) → lengths_for s w t ≡ a → (j : Judged) → judged f ≡ j → Given (read_causes w t s f) (number (read_file w t s f))
@@ -54,7 +54,7 @@ module _ (w t : List ℕ) (s : Session) (f : List ℕ) where
   }
 
   pub read-unchanged : Refused (number (read_file w t s f)) → Unchanged w t s (read_file w t s f).left
-  unfolding read_no
+  unfolding read_error_no
   read-unchanged h = go (lengths_for s w t) refl (judged f) refl
     where
       go : (a : Bool) → lengths_for s w t ≡ a → (j : Judged) → judged f ≡ j → Unchanged w t s (read_file w t s f).left
@@ -74,13 +74,13 @@ module _ (w t : List ℕ) (s : Session) (f : List ℕ) where
 -- ── The numbers beside ──────────────────────────────────────────────────────────────────────────────────────────
 
 pub done-zero : (a : Read) → Refused (read_no a) → read_count a ≡ 0
-unfolding read_no read_count
+unfolding read_error_no read_count
 done-zero (Ok k) h = absurd (h refl)
 done-zero (Err ReadError.Length) h = refl
 done-zero (Err (ReadError.File at)) h = refl
 
 pub place-zero : (a : Read) → (read_no a ≡ 11 → ⊥) → read_place a ≡ 0
-unfolding read_no read_place
+unfolding read_error_no read_place
 place-zero (Ok k) h = refl
 place-zero (Err ReadError.Length) h = refl
 place-zero (Err (ReadError.File at)) h = absurd (h refl)

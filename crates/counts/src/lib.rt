@@ -17,7 +17,7 @@ ghost use Rattle.counts.specs.Tally.{everything, one_more, counted, counted_in, 
 
 use dry::{Cursor, KeyRange};
 use head::{Table, cert_key, read_head};
-use rules::{Asked, LAST_KEY, MOST};
+use rules::{Asked, LAST_KEY, MODEL, MOST, SERIAL};
 
 // How many there are so far, and the last key; 0 is no key. The default stands before the first certificate.
 //
@@ -32,9 +32,9 @@ pub struct Tally {
 }
 
 // A key over one of these is its meter, its model.
-pub const BY_METER: u64 = 65_536;
+pub const BY_METER: u64 = SERIAL;
 
-pub const BY_MODEL: u64 = 281_474_976_710_656;
+pub const BY_MODEL: u64 = MODEL;
 
 // Room for all: what a count of four bytes can say. No walk finds as many.
 const ROOM: usize = 4_294_967_295;

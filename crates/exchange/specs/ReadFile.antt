@@ -3,7 +3,7 @@
 use Rattle.std.specs.Prelude.{ℕ, suc, true, false, List, [], ◌∷◌, eqb, Result, Ok, Err}
 use Rattle.rules.specs.Entry.{Cert}
 use Rattle.rules.specs.Report.{Reported, nothing}
-use Rattle.rules.specs.Call.{Left, lengths_for}
+use Rattle.rules.specs.Call.{Left, lengths_for, answer_no}
 use Rattle.rules.specs.Batch.{BatchLeft, batch}
 use Rattle.rules.specs.declared.Session.{Session}
 use Rattle.rules.specs.declared.Item.{Item}
@@ -58,15 +58,16 @@ read_file w t s f =
     elim (lengths_for s w t) [ false ↦ read_refused (Err ReadError.Length) w t s | true ↦ read_by (judged f) w t s f ]
 
 -- the paper's numbers: the answer, how many were done, and the byte place, which are 0 beside any other answer
-unfoldable pub read_no : Read → ℕ
-read_no (Ok k) = 0
-read_no (Err ReadError.Length) = 1
-read_no (Err (ReadError.File at)) = 11
+unfoldable pub read_error_no : ReadError → ℕ
+read_error_no ReadError.Length = 1
+read_error_no (ReadError.File at) = 11
+
+abbrev pub read_no : Read → ℕ
+read_no = answer_no read_error_no
 
 unfoldable pub read_count : Read → ℕ
 read_count (Ok k) = k
-read_count (Err ReadError.Length) = 0
-read_count (Err (ReadError.File at)) = 0
+read_count (Err e) = 0
 
 unfoldable pub read_place : Read → ℕ
 read_place (Ok k) = 0

@@ -6,7 +6,7 @@
 // part; `cert_at` then finds each certificate of an accepted file. The `put` functions write an item into a lent
 // output, for the call that writes a store's file.
 //
-// Below stand `fields`, numbers in bytes, and `rules`.
+// Below stand `fields`, numbers in bytes, `rules`, and `numbers`, where a refusal has its number.
 
 #![tactic(auto)]
 
@@ -15,9 +15,11 @@ ghost use Rattle.fields.specs.Field.{le_at};
 ghost use Rattle.exchange.specs.Item.{item_for, item_at, size, count_width, put_item};
 ghost use Rattle.exchange.specs.Judged.{follows, items_judged, section_judged, after, certs_at, judged, checked};
 ghost use Rattle.exchange.specs.Told.{cert_in};
+ghost use Rattle.exchange.specs.ReadFile.{read_error_no};
 ghost use Rattle.exchange.specs.declared.Section.{Section};
 
 use fields::{get16, get32, put16, put32};
+use numbers::Refusal;
 use rules::{Report, Session};
 
 // Nothing bad, or the byte where the first bad item begins.
@@ -40,6 +42,18 @@ pub struct Certificate {
 pub enum ReadError {
     Length,
     File(usize),
+}
+
+impl Refusal for ReadError {
+    ghost number_of = { read_error_no };
+
+    #[tactic(auto, unfolding(crate::specs::ReadFile::read_error_no))]
+    fn number(self) -> u32 {
+        match self {
+            ReadError::Length => 1,
+            ReadError::File(_) => 11,
+        }
+    }
 }
 
 // What the call that reads it answers: how many certificates were done.

@@ -177,7 +177,7 @@ pub extern "C" fn kh_lean_write_file(
     let report = left.report;
     let reason = report.reason;
     KhLeanWritten {
-        answer: write::number_of(answer),
+        answer: numbers::number(answer),
         length: write::length_of(answer),
         mended: report.mended,
         reason: numbers::reason(reason),

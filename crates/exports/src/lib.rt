@@ -228,7 +228,7 @@ pub extern "C" fn kh_read_file(
     let reason = report.reason;
     let session = left.session;
     KhRead {
-        answer: read::number(answer),
+        answer: numbers::number(answer),
         done: read::done(answer),
         place: read::place(answer),
         mended: report.mended,
@@ -351,7 +351,7 @@ pub extern "C" fn kh_write_file(
     let report = left.report;
     let reason = report.reason;
     KhWritten {
-        answer: write::number_of(answer),
+        answer: numbers::number(answer),
         length: write::length_of(answer),
         mended: report.mended,
         reason: numbers::reason(reason),

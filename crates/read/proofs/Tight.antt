@@ -8,9 +8,6 @@ read_file_tight κs a pre z z' l l' p q =
     let e = p ∙ sym q in
     ((λ i. record { answer = (e i).left.answer; report = (e i).report; session = (e i).left.session }), (λ i. ((e i).left.working, l.1)))
 
-pub number_tight : Tight this.number.Kinds.ps this.number.Kinds.r this.number.Reads.Pre this.number.Reads.Post
-number_tight κs a pre z z' l l' p q = (p ∙ sym q, refl)
-
 pub done_tight : Tight this.done.Kinds.ps this.done.Kinds.r this.done.Reads.Pre this.done.Reads.Post
 done_tight κs a pre z z' l l' p q = (p ∙ sym q, refl)
 

@@ -14,7 +14,7 @@
 ghost use Rattle.std.specs.Prelude.{◌≡◌, ◌+◌, ◌<◌, Ok};
 ghost use Rattle.exchange.specs.Judged.{checked};
 ghost use Rattle.exchange.specs.Told.{certs_in};
-ghost use Rattle.exchange.specs.ReadFile.{as_item, as_items, read_file, read_no, read_count, read_place};
+ghost use Rattle.exchange.specs.ReadFile.{as_item, as_items, read_file, read_count, read_place};
 ghost use Rattle.read.specs.Readings.{leaving, running, beginning, one_more, goes};
 
 use exchange::{Certificate, Read, ReadError, Reading};
@@ -95,19 +95,7 @@ pub fn read_file(working: &mut [u8], stable: &[u8], session: Session, file: &[u8
     }
 }
 
-// The numbers that C is given: the answer's, how many were done, and the byte place; the last two are 0 beside any
-// other answer.
-
-#[tactic(auto, unfolding(exchange::specs::ReadFile::read_no))]
-pub fn number(answer: Read) -> u32
-    ensures { result ≡ read_no answer }
-{
-    match answer {
-        Ok(_) => 0,
-        Err(ReadError::Length) => 1,
-        Err(ReadError::File(_)) => 11,
-    }
-}
+// The numbers beside an answer: how many were done, and the byte place. They are 0 beside any other answer.
 
 #[tactic(auto, unfolding(exchange::specs::ReadFile::read_count))]
 pub fn done(answer: Read) -> u32

@@ -17,6 +17,7 @@ ghost use Rattle.sections.specs.Puts.{starts_of, put_counts, put_model, put_mete
 
 use counts::{BY_METER, BY_MODEL, Tally, counted};
 use dry::KeyRange;
+use exchange::{CERT, COUNT, METER, MODEL};
 use fields::put32;
 use head::{cert_key, cert_record};
 
@@ -31,16 +32,8 @@ pub struct Starts {
     pub end: usize,
 }
 
-// The first model's byte; the bytes of a count, a model, a meter, a certificate.
-const MODELS: usize = 4;
-
-const COUNT: usize = 4;
-
-const MODEL: usize = 2;
-
-const METER: usize = 6;
-
-const CERT: usize = 10;
+// The first model's byte, behind the first count.
+const MODELS: usize = COUNT;
 
 // The file of so many of each.
 pub fn starts_of(c: Tally) -> Starts

@@ -23,7 +23,7 @@ use Rattle.exchange.specs.Written.{file_of}
 use Rattle.exchange.specs.Judged.{judged}
 use Rattle.exchange.proofs.Exact.{exact}
 use Rattle.counts.specs.Tally.{everything}
-use Rattle.write.specs.WriteFile.{Written, write_done, write_refused, write_whole, write_walked, write_file, write_reported, written_no, written_length}
+use Rattle.write.specs.WriteFile.{Written, write_done, write_refused, write_whole, write_walked, write_file, write_reported, write_error_no, written_no, written_length}
 use Rattle.write.specs.declared.WriteError.{WriteError}
 use Rattle.write.specs.Promises.{AsListed, Answers, Promises}
 use Rattle.write.proofs.Rooms.{room-same}
@@ -93,7 +93,7 @@ module _ (w t : List ℕ) (s : Session) (out ks xs : List ℕ) (f : 37240 < leng
 -- ── Accepted ────────────────────────────────────────────────────────────────────────────────────────────────────
 
 refused_not : {a : Written} {k : ℕ} → (written_length a ≡ 0) → (written_no a ≡ 0 → ⊥) → a ≡ Ok k → ⊥
-unfolding written_no
+unfolding write_error_no
 refused_not l n e = n (ap written_no e)
 
 module _ (w t : List ℕ) (s : Session) (out : List ℕ) where
@@ -108,7 +108,7 @@ module _ (w t : List ℕ) (s : Session) (out : List ℕ) where
     out-is : (write_file w t s out).out ≡ over found out
 
   done : (k : ℕ) → (write_file w t s out).answer ≡ Ok k → Done k
-  unfolding write_file write_refused write_walked write_whole write_done written_no written_length
+  unfolding write_file write_refused write_walked write_whole write_done write_error_no written_length
   done k h = go (lengths_for s w t) refl (fit0 s.n w) refl (walk_of s.n s.c everything w).whole refl (leb (length found) (length out)) refl
     where
       go : (a : Bool) → lengths_for s w t ≡ a → (b : Bool) → fit0 s.n w ≡ b → (d : Bool) → (walk_of s.n s.c everything w).whole ≡ d
@@ -136,7 +136,7 @@ module _ (w t : List ℕ) (s : Session) (out : List ℕ) where
   -- ── Refused ─────────────────────────────────────────────────────────────────────────────────────────────────────
 
   stays : (written_no (write_file w t s out).answer ≡ 0 → ⊥) → (write_file w t s out).out ≡ out
-  unfolding write_file write_refused write_walked write_whole write_done written_no
+  unfolding write_file write_refused write_walked write_whole write_done write_error_no
   stays h = go (lengths_for s w t) refl (fit0 s.n w) refl (walk_of s.n s.c everything w).whole refl (leb (length found) (length out)) refl
     where
       go : (a : Bool) → lengths_for s w t ≡ a → (b : Bool) → fit0 s.n w ≡ b → (d : Bool) → (walk_of s.n s.c everything w).whole ≡ d
@@ -157,7 +157,7 @@ write_session w t s out = go (lengths_for s w t) refl (fit0 s.n w) refl
     go true p true q = rw (write_file, p, q) (write_leaves s t (walk_of s.n s.c everything w) out).session
 
 no_length : (a : Written) → (written_no a ≡ 0 → ⊥) → written_length a ≡ 0
-unfolding written_no written_length
+unfolding write_error_no written_length
 no_length (Ok k) h = absurd (h refl)
 no_length (Err WriteError.Length) h = refl
 no_length (Err WriteError.Damaged) h = refl

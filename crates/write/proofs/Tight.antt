@@ -6,9 +6,6 @@ use Rattle.rules.specs.declared.Session.{Session}
 use Rattle.tight.specs.Tight.{Tight}
 use Rattle.write.proofs as this
 
-pub number_of_tight : Tight this.number_of.Kinds.ps this.number_of.Kinds.r this.number_of.Reads.Pre this.number_of.Reads.Post
-number_of_tight κs a pre z z' l l' p q = (p ∙ sym q, refl)
-
 pub length_of_tight : Tight this.length_of.Kinds.ps this.length_of.Kinds.r this.length_of.Reads.Pre this.length_of.Reads.Post
 length_of_tight κs a pre z z' l l' p q = (p ∙ sym q, refl)
 

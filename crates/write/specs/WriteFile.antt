@@ -4,7 +4,7 @@ use Rattle.rules.specs.Page.{over}
 use Rattle.rules.specs.Table.{fit0}
 use Rattle.rules.specs.Report.{Reported}
 use Rattle.rules.specs.Walk.{Walked, walk_of}
-use Rattle.rules.specs.Call.{lengths_for}
+use Rattle.rules.specs.Call.{lengths_for, answer_no}
 use Rattle.rules.specs.Reports.{once_tested}
 use Rattle.rules.specs.declared.Session.{Session}
 use Rattle.exchange.specs.Written.{file_of}
@@ -76,14 +76,14 @@ write_reported w t s out = record {
 
 -- ── The paper's numbers ─────────────────────────────────────────────────────────────────────────────────────────
 
-unfoldable pub written_no : Written → ℕ
-written_no (Ok k) = 0
-written_no (Err WriteError.Length) = 1
-written_no (Err WriteError.Damaged) = 3
-written_no (Err WriteError.Short) = 9
+unfoldable pub write_error_no : WriteError → ℕ
+write_error_no WriteError.Length = 1
+write_error_no WriteError.Damaged = 3
+write_error_no WriteError.Short = 9
+
+abbrev pub written_no : Written → ℕ
+written_no = answer_no write_error_no
 
 unfoldable pub written_length : Written → ℕ
 written_length (Ok k) = k
-written_length (Err WriteError.Length) = 0
-written_length (Err WriteError.Damaged) = 0
-written_length (Err WriteError.Short) = 0
+written_length (Err e) = 0

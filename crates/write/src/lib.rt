@@ -22,7 +22,7 @@ ghost use Rattle.rules.specs.Walk.{walk_of};
 ghost use Rattle.rules.specs.declared.Session.{Session};
 ghost use Rattle.fill.specs.Fills.{HasRoom};
 ghost use Rattle.counts.specs.Tally.{everything, no_tally, counted_all};
-ghost use Rattle.write.specs.WriteFile.{write_reported, written_no, written_length};
+ghost use Rattle.write.specs.WriteFile.{write_reported, write_error_no, written_length};
 ghost use Rattle.sections.specs.Puts.{Lies};
 ghost use Rattle.write.specs.Calls.{beside, leaving, telling, told, wrote, wrote_in};
 
@@ -30,6 +30,7 @@ use counts::{Tally, everything};
 use dry::KeyRange;
 use head::{Table, page_at};
 use leaves::Leaves;
+use numbers::Refusal;
 use rules::{Asked, Report, Session};
 use sections::{Starts, put_counts, put_leaf, starts_of};
 
@@ -39,6 +40,19 @@ pub enum WriteError {
     Length,
     Damaged,
     Short,
+}
+
+impl Refusal for WriteError {
+    ghost number_of = { write_error_no };
+
+    #[tactic(auto, unfolding(crate::specs::WriteFile::write_error_no))]
+    fn number(self) -> u32 {
+        match self {
+            WriteError::Length => 1,
+            WriteError::Damaged => 3,
+            WriteError::Short => 9,
+        }
+    }
 }
 
 // The file's length, or why there is none.
@@ -59,20 +73,7 @@ pub struct Sought {
     pub report: Report,
 }
 
-// The paper's number for each answer, and the length beside it.
-
-#[tactic(auto, unfolding(crate::specs::WriteFile::written_no))]
-pub fn number_of(w: Written) -> u32
-    ensures { result ≡ written_no w }
-{
-    match w {
-        Ok(_) => 0,
-        Err(WriteError::Length) => 1,
-        Err(WriteError::Damaged) => 3,
-        Err(WriteError::Short) => 9,
-    }
-}
-
+// The file's length, 0 beside a refusal.
 #[tactic(auto, unfolding(crate::specs::WriteFile::written_length))]
 pub fn length_of(w: Written) -> u64
     ensures { result ≡ written_length w }

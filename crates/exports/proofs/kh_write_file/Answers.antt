@@ -8,4 +8,4 @@ pub returns : goal.returns
 returns c =
     let args = c.args in
     let left = c.lean_write_file-left in
-    rw (c.number_of.ensures, c.length_of.ensures, c.reason.ensures) (ap C.written (left.ensures args.session refl refl))
+    rw (c.number.ensures, c.length_of.ensures, c.reason.ensures) (ap C.written (left.ensures args.session refl refl))
