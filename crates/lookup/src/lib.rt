@@ -15,10 +15,9 @@
 
 #![tactic(auto)]
 
-ghost use Rattle.std.specs.Prelude.{◌≡◌, true, ◌+◌, ◌*◌, ◌≤◌, length, drop};
-ghost use Rattle.rules.specs.Layout.{page_size, leaf_header, cert_size, leaf_room};
-ghost use Rattle.rules.specs.Entry.{keys, find, rising};
-ghost use Rattle.rules.specs.Page.{read_each, cert_in};
+ghost use Rattle.std.specs.Prelude.{◌≡◌, true, ◌+◌, ◌*◌, ◌≤◌, length};
+ghost use Rattle.rules.specs.Layout.{page_size, leaf_room};
+ghost use Rattle.rules.specs.Entry.{find};
 ghost use Rattle.rules.specs.Table.{page_at, read, fit0};
 ghost use Rattle.rules.specs.Report.{nothing};
 ghost use Rattle.rules.specs.Walk.{way_of, way_report};
@@ -29,52 +28,33 @@ ghost use Rattle.way.specs.Ways.{Holds, reported};
 ghost use Rattle.lookup.specs.Looks.{found_before, looked_in, beside, leaving, looking, looked_along};
 
 use entries::Entries;
-use rules::{FindError, Looked, Looking, PAGE, Report, Session};
+use rules::{FindError, Looked, Looking, Report, Session};
 use way::Step;
 
 // What stands under a key in a leaf, by the key's spot: the entry before it has the key, or none has.
-fn find_in(page: &[u8], spot: usize, key: u64) -> Looked
-    requires { leaf_header + cert_size * spot ≤ length page.now }
-    ensures { result ≡ found_before key spot page.now }
+pub fn find_on(table: &[u8], i: u16, spot: usize, key: u64) -> Looked
+    requires { ((i + 1) * page_size ≤ length table.now) × (spot ≤ leaf_room) }
+    ensures { result ≡ found_before key spot (page_at table.now i) }
 {
     if spot == 0 {
         return Err(FindError::Missing);
     }
+    let page = head::page_at(table, i as usize);
     if head::cert_key(page, spot - 1) != key {
         return Err(FindError::Missing);
     }
     Ok(head::cert_record(page, spot - 1))
 }
 
-// The same on page i of a table.
-pub fn find_on(table: &[u8], i: u16, spot: usize, key: u64) -> Looked
-    requires { ((i + 1) * page_size ≤ length table.now) × (spot ≤ leaf_room) }
-    ensures { result ≡ found_before key spot (page_at table.now i) }
-{
-    let from = i as usize * PAGE;
-    let to = from + PAGE;
-    find_in(&table[from..to], spot, key)
-}
-
-// What stands under a key in a leaf whose keys rise.
-fn seek_in(page: &[u8], count: usize, key: u64) -> Looked
-    requires { (leaf_header + cert_size * count ≤ length page.now) × (length page.now ≤ page_size)
-        × (rising (keys (read_each cert_in cert_size count (drop leaf_header page.now))) ≡ true) }
-    ensures { result ≡ looked_in (find key (read_each cert_in cert_size count (drop leaf_header page.now))) }
-{
-    let spot = seek::seek(page, Entries::certs(count), key);
-    find_in(page, spot, key)
-}
-
-// The same in the leaf at the end of a way.
+// What stands under a key in the leaf at the end of a way.
 pub fn find_at(table: &[u8], leaf: Step, key: u64) -> Looked
     requires { ((leaf.place.child + 1) * page_size ≤ length table.now)
         × (leaf.head ≡ head_of (read table.now leaf.place.child)) × (Holds (read table.now leaf.place.child).view) }
     ensures { result ≡ looked_in (find key (read table.now leaf.place.child).view.certs) }
 {
-    let from = leaf.place.child as usize * PAGE;
-    let to = from + PAGE;
-    seek_in(&table[from..to], leaf.head.count as usize, key)
+    let page = head::page_at(table, leaf.place.child as usize);
+    let spot = seek::seek(page, Entries::certs(leaf.head.count as usize), key);
+    find_on(table, leaf.place.child, spot, key)
 }
 
 // What a search along a way comes to: the answer, and what was mended.

@@ -16,15 +16,15 @@
 #![tactic(auto)]
 
 ghost use Rattle.std.specs.Prelude.{◌≡◌, true, ◌+◌, ◌*◌, ◌≤◌, ◌<◌, length};
-ghost use Rattle.rules.specs.Layout.{page_size, leaf_header, cert_size, leaf_room, last_key};
-ghost use Rattle.rules.specs.Table.{page_at, fit0};
+ghost use Rattle.rules.specs.Layout.{page_size, leaf_header, cert_size, last_key};
+ghost use Rattle.rules.specs.Table.{fit0};
 ghost use Rattle.rules.specs.Walk.{walk_of};
 ghost use Rattle.rules.specs.Reports.{newest_reported};
 ghost use Rattle.rules.specs.declared.Session.{Session};
 ghost use Rattle.newest.specs.Newests.{beside, leaving, range, last_in, seeing, seen};
 
 use leaves::Leaves;
-use rules::{FindError, LAST_FINAL, Latest, Newest, NewestOf, PAGE, Report, Session};
+use rules::{FindError, LAST_FINAL, Latest, Newest, NewestOf, Report, Session};
 
 // How many issues a meter has, counting 0.
 const ISSUES: u64 = 65536;
@@ -48,16 +48,6 @@ fn last_in(page: &[u8], spot: usize, low: u64, newest: Newest) -> Newest
     })
 }
 
-// The same on page i of a table.
-fn last_on(table: &[u8], i: u16, spot: usize, low: u64, newest: Newest) -> Newest
-    requires { ((i + 1) * page_size ≤ length table.now) × (spot ≤ leaf_room) }
-    ensures { result ≡ last_in low spot (page_at table.now i) newest }
-{
-    let from = i as usize * PAGE;
-    let to = from + PAGE;
-    last_in(&table[from..to], spot, low, newest)
-}
-
 // What a walk over a range comes to: the answer, and what was mended.
 #[derive(Clone, Copy)]
 pub struct Sought {
@@ -79,7 +69,8 @@ fn look(t: &mut [u8], n: usize, c: u32, low: u64, high: u64) -> Sought
                 report: walk.report,
             };
         };
-        newest = last_on(t, leaf.child, leaf.spot, leaf.from, newest);
+        let page = head::page_at(t, leaf.child as usize);
+        newest = last_in(page, leaf.spot, leaf.from, newest);
     }
     Sought {
         answer: newest,

@@ -16,17 +16,20 @@ next-requires c =
 pub returns-in_default-step : goal.returns-in_default-step
 returns-in_default-step c = ends-damaged c.loop-step.invariant c.next.ensures c.in_default-step.field-0 (c.in-Some.is ∙ ap Some c.in_default-step.is)
 
-pub last_on-newest-requires : goal.last_on-newest-requires
-last_on-newest-requires c =
-    let e = c.in-Some.is ∙ ap Some c.in-Ok.is in
-    let k = reached c.loop-step.invariant c.next.ensures c.in-Ok.leaf e in
-    (omega (arith, k.child_below, k.ground.long), spot-room c.loop-step.invariant c.next.ensures c.in-Ok.leaf e)
+pub page_at-page-requires : goal.page_at-page-requires
+page_at-page-requires c =
+    let k = reached c.loop-step.invariant c.next.ensures c.in-Ok.leaf (c.in-Some.is ∙ ap Some c.in-Ok.is) in
+    omega (arith, k.child_below, k.ground.long)
+
+pub last_in-newest-requires : goal.last_in-newest-requires
+last_in-newest-requires c =
+    omega (arith, c.page_at-page.ensures.size, spot-room c.loop-step.invariant c.next.ensures c.in-Ok.leaf (c.in-Some.is ∙ ap Some c.in-Ok.is))
 
 pub loop-step-smaller : goal.loop-step-smaller
 loop-step-smaller c = turns_less c.loop-step.invariant c.next.ensures c.in-Ok.leaf (c.in-Some.is ∙ ap Some c.in-Ok.is)
 
 pub loop-step-preserved : goal.loop-step-preserved
-loop-step-preserved c = goes-next c.loop-step.invariant c.next.ensures c.in-Ok.leaf (c.in-Some.is ∙ ap Some c.in-Ok.is) c.last_on-newest.ensures
+loop-step-preserved c = goes-next c.loop-step.invariant c.next.ensures c.in-Ok.leaf (c.in-Some.is ∙ ap Some c.in-Ok.is) (rw c.page_at-page.ensures.bytes at c.last_in-newest.ensures)
 
 pub returns : goal.returns
 returns c = ends c.loop-step.invariant c.next.ensures c.in_default.is
