@@ -12,8 +12,8 @@ use Rattle.rules.specs.Insert.{new_pages, put_cert, changed, Making, making, spl
 use Rattle.rules.specs.declared.Session.{Session}
 use Rattle.entries.specs.Spot.{new_cert}
 use Rattle.edit.specs.Takes.{TakesCert}
-use Rattle.way.specs.declared.Way.{Way}
-use Rattle.apply.specs.Leads.{Ready, listed, steps_in, ReadyPages, done}
+use Rattle.way.specs.declared.Step as way
+use Rattle.apply.specs.Leads.{Ready, steps_in, ReadyPages, done}
 use Rattle.apply.proofs.Going.{Gone}
 use Rattle.apply.proofs.Whole.{split-gone}
 use Rattle.apply.proofs.Ends.{leaf-takes}
@@ -61,10 +61,10 @@ module _ {k : ℕ} {t : List ℕ} {s : Session} {steps : List Step} {pages : Lis
       ∙ ap (λ (m : Making). done m.session (changed s.c (put_cert (record { key = k; value = x })) m.table m.at) stable) same
 
 -- the same, where of the session only the counter is at hand
-pub pages-done : {c k : ℕ} {t : List ℕ} {w : Way} {pages : List ℕ} (y : ReadyPages c k t w pages) (t' : List ℕ) (s' : Session) (at : ℕ)
-    → making t' s' at ≡ split y.session.c k (steps_in t (listed w)) pages (making t y.session 0) → (x : ℕ) (v : List ℕ)
+pub pages-done : {c k : ℕ} {t : List ℕ} {w : List way.Step} {pages : List ℕ} (y : ReadyPages c k t w pages) (t' : List ℕ) (s' : Session) (at : ℕ)
+    → making t' s' at ≡ split y.session.c k (steps_in t w) pages (making t y.session 0) → (x : ℕ) (v : List ℕ)
     → v ≡ changed c (put_cert (new_cert k x)) t' at → (stable : List ℕ)
-    → done s' v stable ≡ insert_done k x y.session (steps_in t (listed w)) t stable
+    → done s' v stable ≡ insert_done k x y.session (steps_in t w) t stable
 pages-done {k = k} y t' s' at q x v z stable =
     all_done y.ready.ready t' s' at q x v
     (z ∙ ap (λ (d : ℕ). changed d (put_cert (new_cert k x)) t' at) (sym y.counter)) stable

@@ -7,35 +7,24 @@ use mathlib.Core.Bool.{Bool, true, false}
 use mathlib.Core.List.{List, [], ◌∷◌}
 use borrow.Author.Tests.{eqb-true, eqb-false, eq-eqb, ne_eqb}
 use lib.Dec.{eqb}
-use lib.ListN.{length, take, drop, get_or, drop_of_length-le}
-use lib.Seq.{drop-cons, drop-drop, length-take-le}
+use lib.ListN.{length, drop, get_or, drop_of_length-le}
+use lib.Seq.{drop-cons, drop-drop}
 use Rattle.rules.specs.Insert.{Making, making, grow, halve, split}
 use Rattle.rules.specs.declared.Session.{Session}
 use Rattle.rules.proofs.Bytes.All.{All, all_head, all-at}
-use Rattle.head.specs.declared.Head.{Head}
 use Rattle.split.specs.Split.{step_at, Halves, Grows}
 use Rattle.plan.specs.Plan.{full_by, splits_by, heads_of}
 use Rattle.way.specs.Ways.{no_step}
 use Rattle.way.specs.declared.Step.{Step}
-use Rattle.way.specs.declared.Way.{Way}
-use Rattle.apply.specs.Leads.{HeadRead, listed, step_on, steps_in, ReadyWay, Level, Starts, start_of}
+use Rattle.apply.specs.Leads.{HeadRead, step_on, steps_in, ReadyWay, Level, Starts, start_of}
 use Rattle.apply.proofs.Levels.{level-stays}
-use Rattle.apply.proofs.Numbers.{full-read, below-above, below_halves, below_split, top-grows, top_halves, top_split}
+use Rattle.apply.proofs.Numbers.{full-read, below-above, below_halves, below_split, two-left, three-left, top-grows, top_halves, top_split}
 use Rattle.apply.proofs.Handed.{ready-level, some_page}
 
 -- ── How many pages split ────────────────────────────────────────────────────────────────────────────────────────
 
-abbrev heads : List Step → List Head
-heads [] = []
-heads (x ∷ xs) = x.head ∷ heads xs
-
-heads-take : (n : ℕ) (xs : List Step) → heads (take n xs) ≡ take n (heads xs)
-heads-take zero xs = refl
-heads-take (suc n) [] = refl
-heads-take (suc n) (x ∷ xs) = ap (λ (hs : List Head). x.head ∷ hs) (heads-take n xs)
-
 abbrev splits : List Step → ℕ
-splits xs = splits_by (heads xs)
+splits xs = splits_by (heads_of xs)
 
 splits-more : (x : Step) (xs : List Step) → full_by x.head ≡ true → splits (x ∷ xs) ≡ suc (splits xs)
 unfolding splits_by
@@ -126,22 +115,22 @@ levels {c} {k} {t} (x ∷ xs) pages (suc j) L h = go xs (full_by x.head) refl L 
 -- ── Turn by turn ────────────────────────────────────────────────────────────────────────────────────────────────
 
 -- a step's page halved where it stands, by its own two numbers
-abbrev halved : ℕ → ℕ → Way → List ℕ → ℕ → Making → Making
+abbrev halved : ℕ → ℕ → List Step → List ℕ → ℕ → Making → Making
 halved c k w pages j m = halve c k (step_at m.table (step_on w j).place) (get_or pages (2 * j) 0) (get_or pages (2 * j + 1) 0) m
 
 -- the last so many, one after the other
-unfoldable pub halvings : ℕ → ℕ → Way → List ℕ → ℕ → Making → Making
+unfoldable pub halvings : ℕ → ℕ → List Step → List ℕ → ℕ → Making → Making
 halvings c k w pages zero m = m
 halvings c k w pages (suc j) m = halvings c k w pages j (halved c k w pages j m)
 
 -- and what each of them asks for
-abbrev pub Asks : ℕ → ℕ → Way → List ℕ → ℕ → Making → Type 0
+abbrev pub Asks : ℕ → ℕ → List Step → List ℕ → ℕ → Making → Type 0
 Asks c k w pages zero m = Unit {0}
 Asks c k w pages (suc j) m =
     Halves m.table (step_on w j).place (step_on w j).head (get_or pages (2 * j) 0) (get_or pages (2 * j + 1) 0) m.at
     × Asks c k w pages j (halved c k w pages j m)
 
-module _ (c k : ℕ) (w : Way) (pages : List ℕ) (i : ℕ) (some : 0 < i) (m : Making) (a : Asks c k w pages i m)
+module _ (c k : ℕ) (w : List Step) (pages : List ℕ) (i : ℕ) (some : 0 < i) (m : Making) (a : Asks c k w pages i m)
     (x : Step) (e : x ≡ step_on w (i - 1)) where
   back : i ≡ suc (i - 1)
   back = omega arith
@@ -168,27 +157,24 @@ module _ (c k : ℕ) (w : Way) (pages : List ℕ) (i : ℕ) (some : 0 < i) (m : 
     turn-goes_on =
         ap (halvings c k w pages (i - 1)) one ∙ ap (λ (j : ℕ). halvings c k w pages j m) (sym back)
 
-none_left : (c k : ℕ) (w : Way) (pages : List ℕ) (i : ℕ) (m r : Making) → i ≡ 0 → halvings c k w pages i m ≡ r → m ≡ r
+none_left : (c k : ℕ) (w : List Step) (pages : List ℕ) (i : ℕ) (m r : Making) → i ≡ 0 → halvings c k w pages i m ≡ r → m ≡ r
 unfolding halvings
 none_left c k w pages i m r e q = ap (λ (j : ℕ). halvings c k w pages j m) (sym e) ∙ q
 
 -- ── The way ─────────────────────────────────────────────────────────────────────────────────────────────────────
 
 -- with the last so many pages still to be halved: what stands above the next of them, and at last the whole split
-unfoldable pub reached : ℕ → List ℕ → Session → Way → List ℕ → ℕ → Making
-reached k t s w pages zero = split s.c k (steps_in t (listed w)) pages (making t s 0)
-reached k t s w pages (suc j) = over_of s.c k t (drop j (listed w)) (2 * j) pages s
+unfoldable pub reached : ℕ → List ℕ → Session → List Step → List ℕ → ℕ → Making
+reached k t s w pages zero = split s.c k (steps_in t w) pages (making t s 0)
+reached k t s w pages (suc j) = over_of s.c k t (drop j w) (2 * j) pages s
 
-module _ {k : ℕ} {t : List ℕ} {s : Session} {w : Way} {pages : List ℕ} (R : ReadyWay k t s w pages)
+module _ {k : ℕ} {t : List ℕ} {s : Session} {w : List Step} {pages : List ℕ} (R : ReadyWay k t s w pages)
     (many : ℕ) (q : many ≡ splits_by (heads_of w)) where
   abbrev xs : List Step
-  xs = listed w
-
-  long : length xs ≡ w.len
-  long = length-take-le w.len (w.leaf ∷ (w.parent ∷ (w.top ∷ []))) (omega (arith, R.len))
+  xs = w
 
   many_is : many ≡ splits xs
-  many_is = q ∙ ap splits_by (sym (heads-take w.len (w.leaf ∷ (w.parent ∷ (w.top ∷ [])))))
+  many_is = q
 
   below-many : {j : ℕ} → j < many → j < length xs
   below-many h = omega (arith, many_is, splits-short xs)
@@ -255,25 +241,46 @@ module _ {k : ℕ} {t : List ℕ} {s : Session} {w : Way} {pages : List ℕ} (R 
       )
 
   pub halved_all : (j : ℕ) → j ≤ many
-      → halvings s.c k w pages j (reached k t s w pages j) ≡ split s.c k (steps_in t (listed w)) pages (making t s 0)
+      → halvings s.c k w pages j (reached k t s w pages j) ≡ split s.c k (steps_in t w) pages (making t s 0)
   unfolding halvings reached
   halved_all zero h = refl
   halved_all (suc j) h = ap (halvings s.c k w pages j) (next j (omega arith)) ∙ halved_all j (omega arith)
 
-  -- ── Where it starts ───────────────────────────────────────────────────────────────────────────────────────────
+  top : (j : ℕ) → suc j ≡ length w → drop (suc j) xs ≡ []
+  top j e = drop_of_length-le xs {i = suc j} (omega arith)
 
-  top : (j : ℕ) → suc j ≡ w.len → drop (suc j) xs ≡ []
-  top j e = drop_of_length-le xs {i = suc j} (omega (arith, long))
+  -- two numbers for each, and one more for a new root
+  pub enough-halves : 2 * many ≤ length pages
+  enough-halves = go many refl
+    where
+      go : (i : ℕ) → i ≡ many → 2 * i ≤ length pages
+      go zero e = omega arith
+      go (suc j) e =
+          let h : j < many = omega (arith, e) in
+          omega (arith, two-left (2 * j) pages (level-here j h) refl (full-here j h))
+
+  enough-root : many ≡ length w → 2 * many < length pages
+  enough-root e = go many refl e
+    where
+      go : (i : ℕ) → i ≡ many → i ≡ length w → 2 * i < length pages
+      go zero d e = absurd (some_page R (sym e))
+      go (suc j) d e =
+          let h : j < many = omega (arith, d) in
+          let L = subst (λ (zs : List Step). Level s.c k t (step_on w j ∷ zs) (drop (2 * j) pages)) (top j e) (level-here j h) in
+          omega (arith, three-left (2 * j) pages L refl (full-here j h))
+
+  -- ── Where it starts ───────────────────────────────────────────────────────────────────────────────────────────
 
   pub way-starts : Starts t w pages many
   way-starts = record {
     some = omega (arith, some_page R);
     len = R.len;
-    short = omega (arith, many_is, splits-short xs, long);
+    short = omega (arith, many_is, splits-short xs);
+    root = enough-root;
     grows = λ e. go many e refl;
   }
     where
-      go : (i : ℕ) → i ≡ w.len → i ≡ many → Grows t (step_on w (i - 1)).place (step_on w (i - 1)).head (get_or pages (2 * i) 0)
+      go : (i : ℕ) → i ≡ length w → i ≡ many → Grows t (step_on w (i - 1)).place (step_on w (i - 1)).head (get_or pages (2 * i) 0)
       go zero e d = absurd (some_page R (sym e))
       go (suc j) e d =
           let two : 2 * j + 2 ≡ 2 * suc j = omega arith in
@@ -285,21 +292,21 @@ module _ {k : ℕ} {t : List ℕ} {s : Session} {w : Way} {pages : List ℕ} (R 
 
   pub way-started : start_of s.c t w pages many s ≡ reached k t s w pages many
   unfolding start_of reached over_of
-  way-started = go many refl (eqb many w.len) refl
+  way-started = go many refl (eqb many (length w)) refl
     where
-      go : (i : ℕ) → i ≡ many → (b : Bool) → eqb i w.len ≡ b → start_of s.c t w pages i s ≡ reached k t s w pages i
-      go zero d true f = absurd (some_page R (sym (eqb-true 0 w.len f)))
+      go : (i : ℕ) → i ≡ many → (b : Bool) → eqb i (length w) ≡ b → start_of s.c t w pages i s ≡ reached k t s w pages i
+      go zero d true f = absurd (some_page R (sym (eqb-true 0 (length w) f)))
       go (suc j) d true f =
-          let e = eqb-true (suc j) w.len f in
+          let e = eqb-true (suc j) (length w) f in
           let one : suc j - 1 ≡ j = omega arith in
           let two : 2 * suc j ≡ 2 * j + 2 = omega arith in
           rw (f, start_of)
           (ap (λ (z : ℕ). grow s.c (step_at t (step_on w z).place) (get_or pages (2 * suc j) 0) (making t s 0)) one
           ∙ (ap (λ (z : ℕ). grow s.c (step_at t (step_on w j).place) (get_or pages z 0) (making t s 0)) two
           ∙ ap (λ (zs : List Step). over_of s.c k t zs (2 * j) pages s)
-          (sym (here j (omega (arith, long)) ∙ ap (λ (zs : List Step). step_on w j ∷ zs) (top j e)))))
+          (sym (here j (omega arith) ∙ ap (λ (zs : List Step). step_on w j ∷ zs) (top j e)))))
       go i d false f =
-          let less : i < length xs = omega (arith, d, many_is, splits-short xs, long, eqb-false i w.len f) in
+          let less : i < length xs = omega (arith, d, many_is, splits-short xs, eqb-false i (length w) f) in
           let room : full_by (step_on w i).head ≡ false =
           ap (λ (z : ℕ). full_by (get_or xs z no_step).head) (d ∙ many_is) ∙ splits-end xs (omega (arith, d, many_is)) in
           let read-room = full-read t (step_on w i) (all-at R.heads i no_step less) ∙ room in
@@ -310,46 +317,43 @@ module _ {k : ℕ} {t : List ℕ} {s : Session} {w : Way} {pages : List ℕ} (R 
 
 -- ── Where the code starts ───────────────────────────────────────────────────────────────────────────────────────
 
-pub start-grows : {t : List ℕ} {w : Way} {pages : List ℕ} {many : ℕ} → Starts t w pages many → many ≡ w.len
+pub start-grows : {t : List ℕ} {w : List Step} {pages : List ℕ} {many : ℕ} → Starts t w pages many → many ≡ length w
     → (x : Step) → x ≡ step_on w (many - 1) → Grows t x.place x.head (get_or pages (2 * many) 0)
 start-grows {t} {w} {pages} {many} S e x d = subst (λ (y : Step). Grows t y.place y.head (get_or pages (2 * many) 0)) (sym d) (S.grows e)
 
-module _ (c : ℕ) (t : List ℕ) (w : Way) (pages : List ℕ) (many : ℕ) (s : Session) where
-  pub start-grown : many ≡ w.len → (x : Step) → x ≡ step_on w (many - 1) → (r : Making)
+module _ (c : ℕ) (t : List ℕ) (w : List Step) (pages : List ℕ) (many : ℕ) (s : Session) where
+  pub start-grown : many ≡ length w → (x : Step) → x ≡ step_on w (many - 1) → (r : Making)
       → r ≡ grow c (step_at t x.place) (get_or pages (2 * many) 0) (making t s 0) → r ≡ start_of c t w pages many s
   unfolding start_of
   start-grown e x d r q =
-      let f = eq-eqb many w.len e in
+      let f = eq-eqb many (length w) e in
       q ∙ (ap (λ (y : Step). grow c (step_at t y.place) (get_or pages (2 * many) 0) (making t s 0)) d ∙ rw (f, start_of))
 
-  pub start-stays : many ≢ w.len → (x : Step) → x ≡ step_on w many → making t s x.place.child ≡ start_of c t w pages many s
+  pub start-stays : many ≢ length w → (x : Step) → x ≡ step_on w many → making t s x.place.child ≡ start_of c t w pages many s
   unfolding start_of
   start-stays e x d =
-      let f = ne_eqb many w.len e in
+      let f = ne_eqb many (length w) e in
       ap (λ (y : Step). making t s y.place.child) d ∙ rw (f, start_of)
 
-module _ {k : ℕ} {t : List ℕ} {s : Session} {w : Way} {pages : List ℕ} (R : ReadyWay k t s w pages)
+module _ {k : ℕ} {t : List ℕ} {s : Session} {w : List Step} {pages : List ℕ} (R : ReadyWay k t s w pages)
     (many : ℕ) (q : many ≡ splits_by (heads_of w)) (m : Making) (z : m ≡ start_of s.c t w pages many s) where
   pub way-begins : Asks s.c k w pages many m
   way-begins = subst (Asks s.c k w pages many) (sym (z ∙ way-started R many q)) (asks-all R many q many (omega arith))
 
   pub way-ends : (i : ℕ) (r : Making) → i ≡ 0 → halvings s.c k w pages i r ≡ halvings s.c k w pages many m
-      → r ≡ split s.c k (steps_in t (listed w)) pages (making t s 0)
+      → r ≡ split s.c k (steps_in t w) pages (making t s 0)
   way-ends i r e h =
-      none_left s.c k w pages i r (split s.c k (steps_in t (listed w)) pages (making t s 0)) e
+      none_left s.c k w pages i r (split s.c k (steps_in t w) pages (making t s 0)) e
       (h ∙ (ap (halvings s.c k w pages many) (z ∙ way-started R many q) ∙ halved_all R many q many (omega arith)))
 
 -- ── A leaf that has room ────────────────────────────────────────────────────────────────────────────────────────
 
-pub leaf-stays : {k : ℕ} {t : List ℕ} {s : Session} {w : Way} {pages : List ℕ} → ReadyWay k t s w pages → {b : Bool}
-    → b ≡ full_by w.leaf.head → b ≡ false
-    → making t s w.leaf.place.child ≡ split s.c k (steps_in t (listed w)) pages (making t s 0)
-leaf-stays {k} {t} {s} {w} {pages} R q e = go w.len (some_page R) R.heads
+pub leaf-stays : {k : ℕ} {t : List ℕ} {s : Session} {w : List Step} {pages : List ℕ} → ReadyWay k t s w pages → {b : Bool}
+    → b ≡ full_by (step_on w 0).head → b ≡ false
+    → making t s (step_on w 0).place.child ≡ split s.c k (steps_in t w) pages (making t s 0)
+leaf-stays {k} {t} {s} {w} {pages} R q e = go w (some_page R) R.heads (sym q ∙ e)
   where
-    go : (n : ℕ) → n ≢ 0 → All (HeadRead t) (take n (w.leaf ∷ (w.parent ∷ (w.top ∷ []))))
-        → making t s w.leaf.place.child
-        ≡ split s.c k (steps_in t (take n (w.leaf ∷ (w.parent ∷ (w.top ∷ []))))) pages (making t s 0)
-    go zero z h = absurd (z refl)
-    go (suc n) z h =
-        level-stays s.c k t w.leaf (take n (w.parent ∷ (w.top ∷ []))) pages s
-        (full-read t w.leaf (all_head h) ∙ (sym q ∙ e))
+    go : (xs : List Step) → length xs ≢ 0 → All (HeadRead t) xs → full_by (step_on xs 0).head ≡ false
+        → making t s (step_on xs 0).place.child ≡ split s.c k (steps_in t xs) pages (making t s 0)
+    go [] z h f = absurd (z refl)
+    go (x ∷ xs) z h f = level-stays s.c k t x xs pages s (full-read t x (all_head h) ∙ f)

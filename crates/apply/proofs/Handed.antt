@@ -18,8 +18,7 @@ use Rattle.rules.proofs.Entries.Rises.{rising-take, rising-distinct}
 use Rattle.rules.proofs.Bytes.Numbers.{FreePage, all-free_pages, rising-free_pages}
 use Rattle.rules.proofs.Entries.Tests.{or_none, and_other}
 use Rattle.way.specs.declared.Step.{Step}
-use Rattle.way.specs.declared.Way.{Way}
-use Rattle.apply.specs.Leads.{Leads, Fresh, Chosen, Ready, listed, steps_in, ReadyWay, Level}
+use Rattle.apply.specs.Leads.{Leads, Fresh, Chosen, Ready, steps_in, ReadyWay, Level}
 use Rattle.apply.proofs.Same.{Agree}
 use Rattle.apply.proofs.Levels.{steps-long}
 
@@ -82,16 +81,20 @@ module _ {k : ℕ} {t : List ℕ} {s : Session} {steps : List rules.Step} {pages
 
 -- ── A way by its length ─────────────────────────────────────────────────────────────────────────────────────────
 
-module _ {k : ℕ} {t : List ℕ} {s : Session} {w : Way} {pages : List ℕ} (R : ReadyWay k t s w pages) where
-  pub ready-level : (xs : List Step) → listed w ≡ xs → Level s.c k t xs pages
+module _ {k : ℕ} {t : List ℕ} {s : Session} {w : List Step} {pages : List ℕ} (R : ReadyWay k t s w pages) where
+  pub ready-level : (xs : List Step) → w ≡ xs → Level s.c k t xs pages
   ready-level xs q = subst (λ (ys : List Step). Level s.c k t ys pages) q record {
     n = s.n;
     whole = R.ready.whole;
     leads = R.ready.leads;
-    short = omega (arith, R.ready.short, steps-long t (listed w));
+    short = omega (arith, R.ready.short, steps-long t w);
     heads = R.heads;
     new = ready-chosen R.ready;
   }
 
-  pub some_page : w.len ≢ 0
-  some_page q = subst (λ (i : ℕ). Leads s.n k t (steps_in t (take i (w.leaf ∷ (w.parent ∷ (w.top ∷ [])))))) q R.ready.leads
+  pub some_page : length w ≢ 0
+  some_page q = absurd (go w q R.ready.leads)
+    where
+      go : (xs : List Step) → length xs ≡ 0 → Leads s.n k t (steps_in t xs) → ⊥
+      go [] e l = l
+      go (x ∷ xs) e l = absurd (omega arith)

@@ -12,5 +12,4 @@ pub mod Handed
 pub mod Done
 pub mod Down
 pub mod Marks
-pub mod Steps
 pub mod Tight

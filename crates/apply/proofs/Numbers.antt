@@ -55,6 +55,17 @@ module _ {c k : ℕ} {t : List ℕ} {x : Step} {above : List Step} {pages : List
   enough : new_pages (steps_in t (x ∷ above)) ≤ length pages
   enough = omega (arith, L.new.enough, length-take (new_pages (steps_in t (x ∷ above))) pages)
 
+-- a page that splits has two numbers left, and a root a third
+pub two-left : {c k : ℕ} {t : List ℕ} {x : Step} {above : List Step} (i : ℕ) (pages : List ℕ) → Level c k t (x ∷ above) (drop i pages)
+    → {b : Bool} → b ≡ full_by x.head → b ≡ true → i + 2 ≤ length pages
+two-left {t = t} {x = x} {above = above} i pages L q e =
+    omega (arith, enough L q, new_pages-full (step_at t x.place) (steps_in t above) (full-then L q ∙ e), length-drop i pages)
+
+pub three-left : {c k : ℕ} {t : List ℕ} {x : Step} (i : ℕ) (pages : List ℕ) → Level c k t (x ∷ []) (drop i pages)
+    → {b : Bool} → b ≡ full_by x.head → b ≡ true → i + 3 ≤ length pages
+three-left {t = t} {x = x} i pages L q e =
+    omega (arith, enough L q, new_pages-full (step_at t x.place) [] (full-then L q ∙ e), new_pages-none, length-drop i pages)
+
 -- ── A page below another ────────────────────────────────────────────────────────────────────────────────────────
 
 module _ {c k : ℕ} {t : List ℕ} {x y : Step} {above : List Step} (i : ℕ) (pages : List ℕ)

@@ -18,9 +18,9 @@ use Rattle.rules.proofs.Bytes.All.{All}
 use Rattle.rules.proofs.Entries.Places.{Fits}
 use Rattle.head.proofs.Headers.{head_of}
 use Rattle.split.specs.Split.{step_at, retire_by, Grows}
+use Rattle.split.specs.declared.Twins.{Twins}
 use Rattle.way.specs.Ways.{no_step}
 use Rattle.way.specs.declared.Step as way
-use Rattle.way.specs.declared.Way.{Way}
 
 -- a table of n pages, and a counter that fits its field
 pub record Whole (n c : ℕ) (t : List ℕ) : Type 0 where
@@ -82,31 +82,27 @@ pub record Ready (k : ℕ) (t : List ℕ) (s : Session) (steps : List Step) (cho
 
 -- ── Handed over in the code's words ─────────────────────────────────────────────────────────────────────────────
 
--- how many new pages an insert can need: two for each of three levels, and a root
-abbrev pub most_new : ℕ
-most_new = 7
-
 -- a page on the way is known by its place and its header
 abbrev pub HeadRead : List ℕ → way.Step → Type 0
 HeadRead t x = x.head ≡ head_of (read t x.place.child)
 
--- the steps of a way, leaf first
-abbrev pub listed : Way → List way.Step
-listed w = take w.len (w.leaf ∷ (w.parent ∷ (w.top ∷ [])))
+-- one step of a way
+abbrev pub step_on : List way.Step → ℕ → way.Step
+step_on w i = get_or w i no_step
 
--- one of them
-abbrev pub step_on : Way → ℕ → way.Step
-step_on w i = get_or (listed w) i no_step
+-- the numbers of its two halves
+abbrev pub twins_at : List ℕ → ℕ → Twins
+twins_at chosen i = record { lower = get_or chosen (2 * i) 0; upper = get_or chosen (2 * i + 1) 0 }
 
 -- the steps as the rules see them, where their pages stand in a table
 abbrev pub steps_in : List ℕ → List way.Step → List Step
 steps_in t [] = []
 steps_in t (x ∷ xs) = step_at t x.place ∷ steps_in t xs
 
-pub record ReadyWay (k : ℕ) (t : List ℕ) (s : Session) (w : Way) (chosen : List ℕ) : Type 0 where
-  pub len : w.len ≤ top_kind
-  pub heads : All (HeadRead t) (listed w)
-  pub ready : Ready k t s (steps_in t (listed w)) chosen
+pub record ReadyWay (k : ℕ) (t : List ℕ) (s : Session) (w : List way.Step) (chosen : List ℕ) : Type 0 where
+  pub len : length w ≤ top_kind
+  pub heads : All (HeadRead t) w
+  pub ready : Ready k t s (steps_in t w) chosen
 
 -- the upper end of a way, and numbers for its new pages
 pub record Level (c k : ℕ) (t : List ℕ) (xs : List way.Step) (chosen : List ℕ) : Type 0 where
@@ -118,16 +114,17 @@ pub record Level (c k : ℕ) (t : List ℕ) (xs : List way.Step) (chosen : List 
   pub new : Chosen n (steps_in t xs) (take (new_pages (steps_in t xs)) chosen)
 
 -- where so many pages split, from the leaf up, what a new root over all of them asks for
-pub record Starts (t : List ℕ) (w : Way) (chosen : List ℕ) (many : ℕ) : Type 0 where
-  pub some : 1 ≤ w.len
-  pub len : w.len ≤ top_kind
-  pub short : many ≤ w.len
-  pub grows : many ≡ w.len → Grows t (step_on w (many - 1)).place (step_on w (many - 1)).head (get_or chosen (2 * many) 0)
+pub record Starts (t : List ℕ) (w : List way.Step) (chosen : List ℕ) (many : ℕ) : Type 0 where
+  pub some : 1 ≤ length w
+  pub len : length w ≤ top_kind
+  pub short : many ≤ length w
+  pub root : many ≡ length w → 2 * many < length chosen
+  pub grows : many ≡ length w → Grows t (step_on w (many - 1)).place (step_on w (many - 1)).head (get_or chosen (2 * many) 0)
 
 -- what stands above them: that new root, or the page that has room
-unfoldable pub start_of : ℕ → List ℕ → Way → List ℕ → ℕ → Session → Making
+unfoldable pub start_of : ℕ → List ℕ → List way.Step → List ℕ → ℕ → Session → Making
 start_of c t w chosen many s =
-    elim (eqb many w.len) [
+    elim (eqb many (length w)) [
       | true ↦ grow c (step_at t (step_on w (many - 1)).place) (get_or chosen (2 * many) 0) (making t s 0)
       | false ↦ making t s (step_on w many).place.child
     ]
@@ -135,27 +132,28 @@ start_of c t w chosen many s =
 -- ── The session's part ──────────────────────────────────────────────────────────────────────────────────────────
 
 -- the halves of a step's page are taken, and the page retires
-abbrev pub marks_at : ℕ → Way → List ℕ → ℕ → Session → Session
+abbrev pub marks_at : ℕ → List way.Step → List ℕ → ℕ → Session → Session
 marks_at c w chosen j s =
     retire_by c (step_on w j).place.child (step_on w j).head
     (taken (get_or chosen (2 * j + 1) 0) (taken (get_or chosen (2 * j) 0) s))
 
 -- so for the last so many steps, the highest first
-unfoldable pub marks_for : ℕ → Way → List ℕ → ℕ → Session → Session
+unfoldable pub marks_for : ℕ → List way.Step → List ℕ → ℕ → Session → Session
 marks_for c w chosen zero s = s
 marks_for c w chosen (suc j) s = marks_for c w chosen j (marks_at c w chosen j s)
 
 -- a new root's page is taken before them
-unfoldable pub root_marked : Way → List ℕ → ℕ → Session → Session
-root_marked w chosen many s = elim (eqb many w.len) [ true ↦ taken (get_or chosen (2 * many) 0) s | false ↦ s ]
+unfoldable pub root_marked : List way.Step → List ℕ → ℕ → Session → Session
+root_marked w chosen many s = elim (eqb many (length w)) [ true ↦ taken (get_or chosen (2 * many) 0) s | false ↦ s ]
 
-unfoldable pub marks_by : Way → List ℕ → ℕ → Session → Session
+unfoldable pub marks_by : List way.Step → List ℕ → ℕ → Session → Session
 marks_by w chosen many s = marks_for s.c w chosen many (root_marked w chosen many s)
 
 -- numbers that have marks: of the pages that split and of their halves
-pub record Numbered (w : Way) (chosen : List ℕ) (many : ℕ) : Type 0 where
-  pub short : many ≤ w.len
-  pub len : w.len ≤ top_kind
+pub record Numbered (w : List way.Step) (chosen : List ℕ) (many : ℕ) : Type 0 where
+  pub short : many ≤ length w
+  pub len : length w ≤ top_kind
+  pub enough : 2 * many ≤ length chosen
   pub child : (j : ℕ) → j < many → (step_on w j).place.child < most_pages
   pub lower : (j : ℕ) → j < many → get_or chosen (2 * j) 0 < most_pages
   pub upper : (j : ℕ) → j < many → get_or chosen (2 * j + 1) 0 < most_pages
@@ -163,13 +161,13 @@ pub record Numbered (w : Way) (chosen : List ℕ) (many : ℕ) : Type 0 where
 -- ── Handed over apart ───────────────────────────────────────────────────────────────────────────────────────────
 
 -- to the work on pages no more of the session than its counter
-pub record ReadyPages (c k : ℕ) (t : List ℕ) (w : Way) (chosen : List ℕ) : Type 0 where
+pub record ReadyPages (c k : ℕ) (t : List ℕ) (w : List way.Step) (chosen : List ℕ) : Type 0 where
   pub session : Session
   pub counter : session.c ≡ c
   pub ready : ReadyWay k t session w chosen
 
 -- to the session's part neither key nor table
-pub record ReadySession (s : Session) (w : Way) (chosen : List ℕ) : Type 0 where
+pub record ReadySession (s : Session) (w : List way.Step) (chosen : List ℕ) : Type 0 where
   pub key : ℕ
   pub table : List ℕ
   pub ready : ReadyWay key table s w chosen

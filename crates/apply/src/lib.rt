@@ -11,138 +11,97 @@
 
 #![tactic(auto)]
 
-ghost use Rattle.std.specs.Prelude.{◌≡◌, List, ℕ, ◌+◌, ◌≤◌, ◌<◌, get_or};
+ghost use Rattle.std.specs.Prelude.{◌≡◌, List, ℕ, ◌+◌, ◌*◌, ◌≤◌, ◌<◌, length};
 ghost use Rattle.rules.specs.Layout.{top_kind};
-ghost use Rattle.rules.specs.Marks.{taken};
-ghost use Rattle.rules.specs.Insert.{making, halve, split, insert_done};
+ghost use Rattle.rules.specs.Insert.{making, split, insert_done};
 ghost use Rattle.rules.specs.declared.Session.{Session};
 ghost use Rattle.plan.specs.Plan.{heads_of, splits_by};
-ghost use Rattle.split.specs.Split.{step_at, retire_by, Halves};
-ghost use Rattle.apply.specs.Leads.{most_new, listed, step_on, steps_in, Starts, start_of, done};
+ghost use Rattle.apply.specs.Leads.{steps_in, twins_at, Starts, start_of, done};
 ghost use Rattle.apply.specs.Leads.{marks_for, root_marked, marks_by, Numbered, ReadyPages, ReadySession};
 
-use marks::Chosen;
 use rules::Session;
-use way::{Step, Way};
+use split::Twins;
+use way::Step;
 
-// How many new pages an insert can need: two for each of three levels, and a root.
-const NEW: usize = 7;
-
-// A full step's page halved below the page that now stands above it, by the two numbers at a spot.
-fn halve_step(
-    table: &mut [u8],
-    over: u16,
-    c: u32,
-    key: u64,
-    step: Step,
-    pages: [u16; NEW],
-    from: usize,
-) -> u16
-    requires { (from + 2 ≤ most_new)
-        × Halves table.old step.place step.head (get_or pages from 0) (get_or pages (from + 1) 0) over }
-    ensures { (s : Session)
-        → making table.new (retire_by c step.place.child step.head (taken (get_or pages (from + 1) 0) (taken (get_or pages from 0) s))) result
-        ≡ halve c key (step_at table.old step.place) (get_or pages from 0) (get_or pages (from + 1) 0)
-        (making table.old s over) }
+// The numbers of a step's two halves, by the step's number.
+fn twins(pages: &[u16], i: usize) -> Twins
+    requires { (i < top_kind) × (2 * i + 2 ≤ length pages.now) }
+    ensures { result ≡ twins_at pages.now i }
 {
-    let lower = pages[from];
-    let upper = pages[from + 1];
-    split::halve(table, c, key, step.place, step.head, lower, upper, over)
-}
-
-// A step of a way, the leaf's first.
-fn step_on(way: Way, i: usize) -> Step
-    requires { (i < way.len) × (way.len ≤ top_kind) }
-    ensures { result ≡ step_on way i }
-{
-    if i == 0 {
-        return way.leaf;
+    Twins {
+        lower: pages[2 * i],
+        upper: pages[2 * i + 1],
     }
-    if i == 1 {
-        return way.parent;
-    }
-    way.top
 }
 
 // What stands above the pages that split: a new root over them all, or the first page from the leaf up that has room.
-fn start(table: &mut [u8], c: u32, way: Way, pages: [u16; NEW], many: usize) -> u16
-    requires { Starts table.old way pages many }
-    ensures { (s : Session) → making table.new (root_marked way pages many s) result
-        ≡ start_of c table.old way pages many s }
+fn start(table: &mut [u8], c: u32, way: &[Step], pages: &[u16], many: usize) -> u16
+    requires { Starts table.old way.now pages.now many }
+    ensures { (s : Session) → making table.new (root_marked way.now pages.now many s) result
+        ≡ start_of c table.old way.now pages.now many s }
 {
-    if many == way.len {
-        let root = step_on(way, many - 1);
+    if many == way.len() {
         let new = pages[2 * many];
-        split::grow(table, c, root.place, root.head, new);
+        split::grow(table, c, way[many - 1], new);
         return new;
     }
-    let step = step_on(way, many);
-    step.place.child
+    way[many].place.child
 }
 
 // The full pages from the leaf up are halved, the highest first.
-fn split_way(table: &mut [u8], c: u32, key: u64, way: Way, pages: [u16; NEW]) -> u16
-    requires { ReadyPages c key table.old way pages }
-    ensures { (y : ReadyPages c key table.old way pages)
-        → making table.new (marks_by way pages (splits_by (heads_of way)) y.session) result
-        ≡ split y.session.c key (steps_in table.old (listed way)) pages (making table.old y.session 0) }
+fn split_way(table: &mut [u8], c: u32, key: u64, way: &[Step], pages: &[u16]) -> u16
+    requires { ReadyPages c key table.old way.now pages.now }
+    ensures { (y : ReadyPages c key table.old way.now pages.now)
+        → making table.new (marks_by way.now pages.now (splits_by (heads_of way.now)) y.session) result
+        ≡ split y.session.c key (steps_in table.old way.now) pages.now (making table.old y.session 0) }
 {
     let many = plan::splits(way);
     let mut at = start(table, c, way, pages, many);
-    let mut i = many;
-    while 0 < i {
-        i -= 1;
-        at = halve_step(table, at, c, key, step_on(way, i), pages, 2 * i);
+    for i in (0..many).rev() {
+        at = split::halve(table, c, key, way[i], twins(pages, i), at);
     }
     at
 }
 
 // The entry into a leaf that has room, as most have; else first the splits, then the entry in the page that stands at
 // the end of the way.
-pub fn apply(table: &mut [u8], c: u32, key: u64, value: u32, way: Way, chosen: Chosen)
-    requires { ReadyPages c key table.old way chosen.pages }
-    ensures { (y : ReadyPages c key table.old way chosen.pages) (stable : List ℕ)
-        → done (marks_by way chosen.pages (splits_by (heads_of way)) y.session) table.new stable
-        ≡ insert_done key value y.session (steps_in table.old (listed way)) table.old stable }
+pub fn apply(table: &mut [u8], c: u32, key: u64, value: u32, way: &[Step], chosen: &[u16])
+    requires { ReadyPages c key table.old way.now chosen.now }
+    ensures { (y : ReadyPages c key table.old way.now chosen.now) (stable : List ℕ)
+        → done (marks_by way.now chosen.now (splits_by (heads_of way.now)) y.session) table.new stable
+        ≡ insert_done key value y.session (steps_in table.old way.now) table.old stable }
 {
-    if !plan::is_full(way.leaf.head) {
-        edit::put_cert(table, way.leaf.place.child as usize, key, value, c);
+    let leaf = way[0];
+    if !plan::is_full(leaf.head) {
+        edit::put_cert(table, leaf.place.child as usize, key, value, c);
         return;
     }
-    let pages = chosen.pages;
-    let at = split_way(table, c, key, way, pages);
+    let at = split_way(table, c, key, way, chosen);
     edit::put_cert(table, at as usize, key, value, c);
 }
 
 // The marks of the pages that split and of their halves, the highest first.
-fn mark_halves(session: Session, way: Way, pages: [u16; NEW], many: usize) -> Session
-    requires { Numbered way pages many }
-    ensures { result ≡ marks_for session.c way pages many session }
+fn mark_halves(session: Session, way: &[Step], pages: &[u16], many: usize) -> Session
+    requires { Numbered way.now pages.now many }
+    ensures { result ≡ marks_for session.c way.now pages.now many session }
 {
     let c = session.c;
     let mut left = session;
-    let mut i = many;
-    while 0 < i {
-        i -= 1;
-        let step = step_on(way, i);
-        let lower = pages[2 * i];
-        let upper = pages[2 * i + 1];
-        left = split::mark(left, c, step.place.child, step.head, lower, upper);
+    for i in (0..many).rev() {
+        left = split::mark(left, c, way[i], twins(pages, i));
     }
     left
 }
 
 // The session of an insert that is done.
-pub fn marked(session: Session, way: Way, chosen: Chosen) -> Session
-    requires { ReadySession session way chosen.pages }
-    ensures { result ≡ marks_by way chosen.pages (splits_by (heads_of way)) session }
+pub fn marked(session: Session, way: &[Step], chosen: &[u16]) -> Session
+    requires { ReadySession session way.now chosen.now }
+    ensures { result ≡ marks_by way.now chosen.now (splits_by (heads_of way.now)) session }
 {
     let many = plan::splits(way);
-    let pages = chosen.pages;
-    if many == way.len {
-        let root = pages[2 * many];
-        let rooted = session.take(root as usize);
-        return mark_halves(rooted, way, pages, many);
+    if many == way.len() {
+        let rooted = session.take(chosen[2 * many] as usize);
+        return mark_halves(rooted, way, chosen, many);
     }
-    mark_halves(session, way, pages, many)
+    mark_halves(session, way, chosen, many)
 }

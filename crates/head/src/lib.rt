@@ -23,7 +23,7 @@ use rules::{
 };
 
 // The header of a page.
-#[derive(Clone, Copy)]
+#[derive(Clone, Copy, Default)]
 pub struct Head {
     pub kind: u16,
     pub count: u16,

@@ -1,13 +1,12 @@
 -- What is planned along a way is what the rules' chain comes to, and where it is to go on all is ready. Assumes nothing.
 use Rattle.std.specs.Prelude.{Ok, Err}
-use Prim.Native.Nat.{ℕ, zero, suc, ◌+◌, ◌*◌, ◌≤◌}
+use Prim.Native.Nat.{ℕ, ◌+◌, ◌*◌, ◌≤◌}
 use native.Mathlib.Omega.{arith}
 use mathlib.Core.Path.{◌≡◌, refl, sym, ap, ◌∙◌, subst}
 use mathlib.Core.Bool.{Bool, true, false}
 use mathlib.Core.List.{List, [], ◌∷◌}
 use mathlib.Core.Option.{Option, some, none}
-use borrow.Author.Tests.{eq-eqb, ne_eqb}
-use lib.ListN.{length, take, get_or}
+use lib.ListN.{length, get_or}
 use Rattle.rules.specs.Layout.{page_size}
 use Rattle.rules.specs.Entry.{Cert, find}
 use Rattle.rules.specs.Page.{is_leaf}
@@ -18,24 +17,23 @@ use Rattle.rules.specs.Walk as rules
 use Rattle.rules.specs.Call.{Left}
 use Rattle.rules.specs.Insert.{splitting, too_soon, new_pages, no_room, insert_refused, insert_done, insert_along}
 use Rattle.rules.specs.declared.Session.{Session}
-use Rattle.rules.specs.Answer.{Inserted, Looked}
+use Rattle.rules.specs.Answer.{Inserted}
 use Rattle.rules.specs.declared.InsertError.{InsertError}
+use Rattle.rules.specs.Answer.{Looked}
 use Rattle.rules.proofs.Bytes.All.{All, all_head}
 use Rattle.head.proofs.Headers.{head_of}
-use Rattle.marks.specs.declared.Chosen.{Chosen}
 use Rattle.marks.proofs.Needed.{lowest-at}
 use Rattle.way.specs.Ways.{Holds}
 use Rattle.way.specs.declared.Step.{Step}
-use Rattle.way.specs.declared.Way.{Way}
+use Rattle.way.proofs.Descent.{length-way}
 use Rattle.lookup.specs.Looks.{looked_in}
 use Rattle.split.specs.Split.{step_at}
 use Rattle.plan.specs.declared.Planned.{Planned}
-use Rattle.plan.specs.Plan.{heads_of, splits_by, chosen_by, Planning, plan_of}
-use Rattle.plan.proofs.Plans.{splits-within, need-few}
-use Rattle.plan.proofs.Pages.{need-is, chosen_is}
-use Rattle.apply.specs.Leads.{Stands, Leads, EndsInLeaf, HeadRead, listed, steps_in, ReadyWay, done}
+use Rattle.plan.specs.Plan.{chosen_by, Planning, plan_of}
+use Rattle.plan.proofs.Pages.{chosen_is}
+use Rattle.apply.specs.Leads.{Stands, Leads, EndsInLeaf, HeadRead, step_on, steps_in, ReadyWay, done}
 use Rattle.apply.proofs.Going.{leads-first}
-use Rattle.insert.specs.Inserts.{left, present_in, answer_of, steps_of, Walked, decided_on}
+use Rattle.insert.specs.Inserts.{left, present_in, answer_of, Walked, decided_on}
 
 -- ── The rules' chain, by the plan ───────────────────────────────────────────────────────────────────────────────
 
@@ -118,74 +116,66 @@ is_found_lem (some y) x e = refl
 
 -- ── The leaf at the end ─────────────────────────────────────────────────────────────────────────────────────────
 
-take-first : (len : ℕ) (x : Step) (xs : List Step) → 1 ≤ len → (ys : List Step) × (take len (x ∷ xs) ≡ x ∷ ys)
-take-first zero x xs h = absurd (omega arith)
-take-first (suc len) x xs h = (take len xs, refl)
+abbrev pub leaf_of : List Step → Step
+leaf_of w = step_on w 0
 
--- no pages, a damaged place
-pub decided-nowhere : (k : ℕ) (s : Session) (w : Way) (t : List ℕ) → w.len ≡ 0 → Err InsertError.Damaged ≡ decided_on k s w t
-unfolding decided_on
-decided-nowhere k s w t z = rw (decided_on, eq-eqb w.len 0 z)
+module _ {k : ℕ} {t : List ℕ} {s : Session} {w : List Step} (W : Walked k t s w) where
+  first : (ys : List Step) × (w ≡ leaf_of w ∷ ys)
+  first = go w W.some_page
+    where
+      go : (xs : List Step) → 1 ≤ length xs → (ys : List Step) × (xs ≡ leaf_of xs ∷ ys)
+      go [] h = absurd (omega arith)
+      go (x ∷ xs) h = (xs, refl)
 
-module _ {k : ℕ} {t : List ℕ} {s : Session} {w : Way} (W : Walked k t s w) where
-  first : (ys : List Step) × (listed w ≡ w.leaf ∷ ys)
-  first = take-first w.len w.leaf (w.parent ∷ (w.top ∷ [])) W.some_page
-
-  steps_first : steps_of t w ≡ step_at t w.leaf.place ∷ steps_in t first.0
+  steps_first : steps_in t w ≡ step_at t (leaf_of w).place ∷ steps_in t first.0
   steps_first = ap (steps_in t) first.1
 
-  leaf-stands : Stands s.n k t (step_at t w.leaf.place)
-  leaf-stands = leads-first (step_at t w.leaf.place) (steps_in t first.0) (subst (Leads s.n k t) steps_first W.leads)
+  leaf-stands : Stands s.n k t (step_at t (leaf_of w).place)
+  leaf-stands = leads-first (step_at t (leaf_of w).place) (steps_in t first.0) (subst (Leads s.n k t) steps_first W.leads)
 
-  leaf-ends : is_leaf (read t w.leaf.place.child).view ≡ true
+  leaf-ends : is_leaf (read t (leaf_of w).place.child).view ≡ true
   leaf-ends = subst EndsInLeaf steps_first W.ends
 
-  pub leaf-within : (w.leaf.place.child + 1) * page_size ≤ length t
+  pub leaf-within : ((leaf_of w).place.child + 1) * page_size ≤ length t
   leaf-within = omega (arith, W.whole.long, leaf-stands.below)
 
-  pub leaf-head : w.leaf.head ≡ head_of (read t w.leaf.place.child)
+  pub leaf-head : (leaf_of w).head ≡ head_of (read t (leaf_of w).place.child)
   leaf-head = all_head (subst (All (HeadRead t)) first.1 W.heads)
 
-  pub leaf-holds : Holds (read t w.leaf.place.child).view
+  pub leaf-holds : Holds (read t (leaf_of w).place.child).view
   leaf-holds =
       let v = leaf-stands.fits.sound in
       record { leaf = leaf-ends; room = v.certs_room; rise = v.certs_rise }
 
-  pub certs-leaf : (read t w.leaf.place.child).view.certs ≡ certs_at (steps_of t w)
+  pub certs-leaf : (read t (leaf_of w).place.child).view.certs ≡ certs_at (steps_in t w)
   unfolding certs_at
   certs-leaf = sym (ap certs_at steps_first)
 
-  pub few : w.len ≤ 3
-  few = omega (arith, ap (λ (v : Way). v.len) W.headed.way, W.headed.few)
+  pub few : length w ≤ 3
+  few = omega (arith, ap length W.headed.way, length-way (steps_in t w), W.headed.few)
 
   -- ── The plan, by the key in the leaf ──────────────────────────────────────────────────────────────────────────
 
-  abbrev pub planning : {c : ℕ} {x : Chosen} → s.c ≡ c → x ≡ chosen_by s w → Planning c w x
+  abbrev pub planning : {c : ℕ} {x : List ℕ} → s.c ≡ c → x ≡ chosen_by s w → Planning c w x
   planning e f = record {
     session = s;
-    steps = steps_of t w;
+    steps = steps_in t w;
     counter = e;
     headed = W.headed;
     some_page = W.some_page;
     chosen = f;
   }
 
-  pub decided_planned : (w.len ≡ 0 → ⊥) → (present : Bool) → present ≡ present_in (find k (read t w.leaf.place.child).view.certs)
-      → (p : Planned) → p ≡ plan_of s present (steps_of t w) → (a : Inserted) → a ≡ answer_of p → a ≡ decided_on k s w t
+  pub decided_planned : (present : Bool) → present ≡ present_in (find k (read t (leaf_of w).place.child).view.certs)
+      → (p : Planned) → p ≡ plan_of s present (steps_in t w) → (a : Inserted) → a ≡ answer_of p → a ≡ decided_on k s w t
   unfolding decided_on
-  decided_planned o present e p h a f =
-      rw (decided_on, ne_eqb w.len 0 o)
-      (f ∙ ap answer_of (h ∙ ap (λ (b : Bool). plan_of s b (steps_of t w)) (e ∙ ap (λ (cs : List Cert). present_in (find k cs)) certs-leaf)))
+  decided_planned present e p h a f =
+      f ∙ ap answer_of (h ∙ ap (λ (b : Bool). plan_of s b (steps_in t w)) (e ∙ ap (λ (cs : List Cert). present_in (find k cs)) certs-leaf))
 
   -- ── All is ready ──────────────────────────────────────────────────────────────────────────────────────────────
 
-  need-most : new_pages (steps_of t w) ≤ 7
-  need-most =
-      let z = splits-within w few (splits_by (heads_of w)) refl in
-      omega (arith, need-is W.headed, need-few w.len (splits_by (heads_of w)) (omega (arith, few)))
-
-  pub ready : (x : Chosen) → x ≡ chosen_by s w → answer_of (plan_of s (present_in (find k (certs_at (steps_of t w)))) (steps_of t w)) ≡ Ok tt
-      → ReadyWay k t (counted s) w x.pages
+  pub ready : (x : List ℕ) → x ≡ chosen_by s w → answer_of (plan_of s (present_in (find k (certs_at (steps_in t w)))) (steps_in t w)) ≡ Ok tt
+      → ReadyWay k t (counted s) w x
   unfolding free_pages
   ready x e d = record {
     len = few;
@@ -195,13 +185,13 @@ module _ {k : ℕ} {t : List ℕ} {s : Session} {w : Way} (W : Walked k t s w) w
       leads = W.leads;
       short = W.headed.few;
       ends = W.ends;
-      absent = go_absent s (steps_of t w) (find k (certs_at (steps_of t w))) goes;
-      room = go_room s (steps_of t w) (present_in (find k (certs_at (steps_of t w)))) goes;
+      absent = go_absent s (steps_in t w) (find k (certs_at (steps_in t w))) goes;
+      room = go_room s (steps_in t w) (present_in (find k (certs_at (steps_in t w)))) goes;
       lowest = λ j h.
-          ap (λ (y : Chosen). get_or y.pages j 0) (e ∙ chosen_is W.headed s)
-          ∙ lowest-at (new_pages (steps_of t w)) (free_pages s (numbers (steps_of t w))) j h need-most;
+          ap (λ (y : List ℕ). get_or y j 0) (e ∙ chosen_is W.headed s)
+          ∙ lowest-at (new_pages (steps_in t w)) (free_pages s (numbers (steps_in t w))) j h;
     };
   }
     where
-      goes : Planned.Go ≡ plan_of s (present_in (find k (certs_at (steps_of t w)))) (steps_of t w)
-      goes = done-goes (plan_of s (present_in (find k (certs_at (steps_of t w)))) (steps_of t w)) d
+      goes : Planned.Go ≡ plan_of s (present_in (find k (certs_at (steps_in t w)))) (steps_in t w)
+      goes = done-goes (plan_of s (present_in (find k (certs_at (steps_in t w)))) (steps_in t w)) d

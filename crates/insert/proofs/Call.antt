@@ -5,8 +5,7 @@ use native.Mathlib.Omega.{arith}
 use mathlib.Core.Path.{◌≡◌, refl, sym, ap, ◌∙◌, subst}
 use mathlib.Core.Bool.{Bool, true, false}
 use mathlib.Core.List.{List, []}
-use borrow.Author.Tests.{eqb-true, eqb-false, eq-eqb, ne_eqb}
-use lib.Dec.{eqb}
+use Rattle.std.specs.Prelude.{Some, None}
 use lib.ListN.{length}
 use Rattle.fields.specs.Field.{Bytes}
 use Rattle.rules.specs.Layout.{page_size, most_pages, last_key}
@@ -26,34 +25,38 @@ use Rattle.rules.specs.Answer.{Inserted}
 use Rattle.rules.specs.declared.InsertError.{InsertError}
 use Rattle.rules.proofs.Demand1.Tested.{tested-length, tested-key, tested-zero, tested-done}
 use Rattle.rules.proofs.Bytes.Lengths.{lengths_for_true}
-use Rattle.marks.specs.declared.Chosen.{Chosen}
 use Rattle.way.specs.Ways.{walking, told}
-use Rattle.way.specs.declared.Way.{Way}
+use Rattle.way.specs.declared.Step.{Step}
 use Rattle.way.proofs.Stood.{WayStands, way-stands}
 use Rattle.way.proofs.Linked.{WayLinked, way-linked}
 use Rattle.plan.specs.Plan.{chosen_by, plan_of}
-use Rattle.apply.specs.Leads.{ReadyWay, done}
-use Rattle.insert.specs.Inserts.{left, leaving, present_in, answer_of, steps_of, Walked, decided_on, Deciding, tested_by}
+use Rattle.apply.specs.Leads.{steps_in, ReadyWay, done}
+use Rattle.insert.specs.Inserts.{left, leaving, present_in, answer_of, Walked, decided_on, Deciding, tested_by}
 use Rattle.insert.proofs.Went.{Went, went, went-nowhere, steps-here, walked}
 use Rattle.insert.proofs.Along.{refused_along, done_along, ready}
 
 -- ── The walk ────────────────────────────────────────────────────────────────────────────────────────────────────
 
-module _ (k x : ℕ) (s : Session) (t : List ℕ) (long : length t ≡ s.n * page_size) (fit : fit0 s.n t ≡ true) (bytes : Bytes t)
-    (counter : s.c < 256 ^ 4) (key : k ≤ last_key) (u : List ℕ) (w : Way) (h : walking u w ≡ told (rules.way_of s.n s.c k t)) where
+-- what is known behind a walk: an insert along the way is the rules' insert under the key
+pub record Going (k : ℕ) (s : Session) (t u : List ℕ) (w : List Step) : Type 0 where
+  pub walked : Walked k u s w
+  pub along : (x : ℕ) (stable : List ℕ) → insert_along k x s (steps_in u w) u stable ≡ insert_key k x s t stable
+
+module _ (k : ℕ) (s : Session) (t : List ℕ) (long : length t ≡ s.n * page_size) (fit : fit0 s.n t ≡ true) (bytes : Bytes t)
+    (counter : s.c < 256 ^ 4) (key : k ≤ last_key) (u : List ℕ) where
   abbrev way : rules.Way
   way = rules.way_of s.n s.c k t
 
   -- a damaged place was met
-  key-nowhere : (stable : List ℕ) → w.len ≡ 0 → insert_refused (Err InsertError.Damaged) s u stable ≡ insert_key k x s t stable
-  unfolding insert_key
-  key-nowhere stable z =
-      let d = went-nowhere way u w h s.n k (way-stands s.n s.c k t long fit bytes counter key) z in
+  pub key-nowhere : walking u None ≡ told way → (x : ℕ) (stable : List ℕ) → left (Err InsertError.Damaged) s u stable ≡ insert_key k x s t stable
+  unfolding insert_key insert_refused
+  key-nowhere h x stable =
+      let d = went-nowhere way u h in
       rw (insert_key, d.0) (ap (λ (v : List ℕ). insert_refused (Err InsertError.Damaged) s v stable) d.1)
 
-  module _ (o : w.len ≡ 0 → ⊥) where
+  module _ (w : List Step) (h : walking u (Some w) ≡ told way) where
     gone : Went way u w
-    gone = went way u w h o
+    gone = went way u w h
 
     stood : WayStands s.n k way.table gone.steps
     stood = way-stands s.n s.c k t long fit bytes counter key gone.steps gone.found
@@ -61,69 +64,36 @@ module _ (k x : ℕ) (s : Session) (t : List ℕ) (long : length t ≡ s.n * pag
     linked : WayLinked s.n k 3 gone.steps
     linked = way-linked s.n s.c k t long fit bytes counter key gone.steps gone.found
 
-    pub key-walked : s.n ≤ most_pages → length u ≡ s.n * page_size → Bytes u → Walked k u s w
-    key-walked few l b = walked gone stood linked s refl (record { long = l; few = few; bytes = b; counter = counter })
-
-    key_along : (stable : List ℕ) → insert_along k x s (steps_of u w) u stable ≡ insert_key k x s t stable
+    pub going : s.n ≤ most_pages → length u ≡ s.n * page_size → Bytes u → Going k s t u w
     unfolding insert_key
-    key_along stable =
-        ap (λ (ss : List rules.Step). insert_along k x s ss u stable) (steps-here gone stood linked)
-        ∙ (ap (λ (v : List ℕ). insert_along k x s gone.steps v stable) gone.table ∙ found)
-      where
-        found : insert_along k x s gone.steps way.table stable ≡ insert_key k x s t stable
-        found = rw (insert_key, gone.found)
+    going few l b = record {
+      walked = walked gone stood linked s refl (record { long = l; few = few; bytes = b; counter = counter });
+      along = λ x stable.
+          ap (λ (ss : List rules.Step). insert_along k x s ss u stable) (steps-here gone stood linked)
+          ∙ (ap (λ (v : List ℕ). insert_along k x s gone.steps v stable) gone.table ∙ rw (insert_key, gone.found));
+    }
 
-  pub way-short : w.len ≤ 3
-  way-short = go (eqb w.len 0) refl
-    where
-      go : (b : Bool) → eqb w.len 0 ≡ b → w.len ≤ 3
-      go true e = omega (arith, eqb-true w.len 0 e)
-      go false e =
-          let o = eqb-false w.len 0 e in
-          omega (arith, ap (λ (v : Way). v.len) (gone o).way, (linked o).short)
+module _ {k : ℕ} {s : Session} {t u : List ℕ} {w : List Step} (G : Going k s t u w) (y : List ℕ) (q : y ≡ chosen_by s w) where
+  abbrev pub deciding : Deciding s.c k u w y
+  deciding = record { session = s; counter = refl; chosen = q; walked = G.walked }
 
-  module _ (few : s.n ≤ most_pages) (l : length u ≡ s.n * page_size) (b : Bytes u) (y : Chosen) (q : y ≡ chosen_by s w) where
-    abbrev pub deciding : Deciding s.c k u w y
-    deciding = record { session = s; counter = refl; chosen = q; walked = λ o. key-walked o few l b }
+  -- ── The answer ──────────────────────────────────────────────────────────────────────────────────────────────────
 
-    -- ── The answer ────────────────────────────────────────────────────────────────────────────────────────────────
+  module _ (a : Inserted) (f : a ≡ decided_on k s w u) where
+    by_plan : a ≡ answer_of (plan_of s (present_in (find k (certs_at (steps_in u w)))) (steps_in u w))
+    unfolding decided_on
+    by_plan = f
 
-    module _ (a : Inserted) (f : a ≡ decided_on k s w u) where
-      abbrev planned_answer : Inserted
-      planned_answer = answer_of (plan_of s (present_in (find k (certs_at (steps_of u w)))) (steps_of u w))
+    pub key-refused : (x : ℕ) (stable : List ℕ) → (a ≡ Ok tt → ⊥) → left a s u stable ≡ insert_key k x s t stable
+    key-refused x stable n = refused_along k x s (steps_in u w) u stable a by_plan n ∙ G.along x stable
 
-      by_plan : (w.len ≡ 0 → ⊥) → a ≡ planned_answer
-      unfolding decided_on
-      by_plan o = f ∙ rw (decided_on, ne_eqb w.len 0 o)
+    module _ (g : a ≡ Ok tt) where
+      pub key-ready : ReadyWay k u (counted s) w y
+      key-ready = ready G.walked y q (sym by_plan ∙ g)
 
-      damaged : w.len ≡ 0 → a ≡ Err InsertError.Damaged
-      unfolding decided_on
-      damaged z = f ∙ rw (decided_on, eq-eqb w.len 0 z)
-
-      some-pages : a ≡ Ok tt → w.len ≡ 0 → ⊥
-      some-pages g z = let e : ◌≡◌ {A = ℕ} 0 1 = cc (damaged z) in omega arith
-
-      pub key-refused : (stable : List ℕ) → (a ≡ Ok tt → ⊥) → left a s u stable ≡ insert_key k x s t stable
-      unfolding insert_refused
-      key-refused stable n = go (eqb w.len 0) refl
-        where
-          go : (d : Bool) → eqb w.len 0 ≡ d → left a s u stable ≡ insert_key k x s t stable
-          go true e =
-              let z = eqb-true w.len 0 e in
-              ap (λ (c : Inserted). insert_refused c s u stable) (damaged z) ∙ key-nowhere stable z
-          go false e =
-              let o = eqb-false w.len 0 e in
-              refused_along k x s (steps_of u w) u stable a (by_plan o) n ∙ key_along o stable
-
-      module _ (g : a ≡ Ok tt) where
-        pub key-ready : ReadyWay k u (counted s) w y.pages
-        key-ready = let o = some-pages g in ready (key-walked o few l b) y q (sym (by_plan o) ∙ g)
-
-        pub key-done : (stable : List ℕ) (r : Session) (v : List ℕ) → done r v stable ≡ insert_done k x (counted s) (steps_of u w) u stable
-            → left a r v stable ≡ insert_key k x s t stable
-        key-done stable r v e =
-            let o = some-pages g in
-            done_along k x s (steps_of u w) u stable a (by_plan o) g r v e ∙ key_along o stable
+      pub key-done : (x : ℕ) (stable : List ℕ) (r : Session) (v : List ℕ)
+          → done r v stable ≡ insert_done k x (counted s) (steps_in u w) u stable → left a r v stable ≡ insert_key k x s t stable
+      key-done x stable r v e = done_along k x s (steps_in u w) u stable a by_plan g r v e ∙ G.along x stable
 
 -- ── The tests before it ─────────────────────────────────────────────────────────────────────────────────────────
 
@@ -134,17 +104,17 @@ has-page n w t r f e =
     omega (arith, l.working, l.least)
 
 module _ (w t : List ℕ) (s : Session) (model serial issue : ℕ) where
-  pub length-tested : lengths_for s w t ≡ false → Err InsertError.Length ≡ tested_by s w t model serial issue
+  pub length-tested : lengths_for s w t ≡ false → (Err InsertError.Length) ≡ tested_by s w t model serial issue
   unfolding tested_by
   length-tested l = rw (tested_by, l)
 
   module _ (l : lengths_for s w t ≡ true) where
-    pub key-tested : good_parts model serial issue ≡ false → Err InsertError.BadKey ≡ tested_by s w t model serial issue
+    pub key-tested : good_parts model serial issue ≡ false → (Err InsertError.BadKey) ≡ tested_by s w t model serial issue
     unfolding tested_by
     key-tested g = rw (tested_by, l, g)
 
     module _ (g : good_parts model serial issue ≡ true) where
-      pub zero-tested : fit0 s.n w ≡ false → Err InsertError.Damaged ≡ tested_by s w t model serial issue
+      pub zero-tested : fit0 s.n w ≡ false → (Err InsertError.Damaged) ≡ tested_by s w t model serial issue
       unfolding tested_by
       zero-tested f = rw (tested_by, l, g, f)
 

@@ -1,9 +1,10 @@
 -- A way that was walked to its end is one along which an insert can go. Assumes nothing.
-use Prim.Native.Nat.{ℕ, ◌≤◌}
+use Prim.Native.Nat.{ℕ}
 use native.Mathlib.Omega.{arith}
 use mathlib.Core.Path.{◌≡◌, refl, sym, ap, ◌∙◌, subst}
 use mathlib.Core.List.{List, [], ◌∷◌}
 use mathlib.Core.Option.{Option, some, none}
+use Rattle.std.specs.Prelude.{Some, None}
 use lib.ListN.{length}
 use Rattle.rules.specs.Page.{Page}
 use Rattle.rules.specs.Table.{read}
@@ -15,43 +16,29 @@ use Rattle.rules.proofs.Entries.Views.{Shaped, shaped-read}
 use Rattle.head.proofs.Headers.{head_of}
 use Rattle.way.specs.Ways.{step_of, way_for, Walking, walking, way_or, told}
 use Rattle.way.specs.declared.Step.{Step}
-use Rattle.way.specs.declared.Way.{Way}
+use Rattle.way.proofs.Descent.{length-way}
 use Rattle.way.proofs.Stood.{Stood, WayStands}
 use Rattle.way.proofs.Linked.{Linked, AllLinked, WayLinked}
-use Rattle.apply.specs.Leads.{Whole, Stands, Leads, EndsInLeaf, HeadRead, listed, steps_in}
-use Rattle.insert.specs.Inserts.{steps_of, Walked}
+use Rattle.apply.specs.Leads.{Whole, Stands, Leads, EndsInLeaf, HeadRead, steps_in}
+use Rattle.insert.specs.Inserts.{Walked}
 
 -- ── Steps by their places and headers ───────────────────────────────────────────────────────────────────────────
-
-known : List rules.Step → List Step
-known [] = []
-known (s ∷ ss) = step_of s ∷ known ss
-
-listed_known : (ss : List rules.Step) → length ss ≤ 3 → listed (way_for ss) ≡ known ss
-unfolding known
-listed_known [] h = refl
-listed_known (s ∷ []) h = refl
-listed_known (s ∷ (u ∷ [])) h = refl
-listed_known (s ∷ (u ∷ (v ∷ []))) h = refl
-listed_known (s ∷ (u ∷ (v ∷ (x ∷ ss)))) h = absurd (omega arith)
 
 abbrev step_with : Place → Page → rules.Step
 step_with e p = record { place = e; page = p }
 
 module _ {n k : ℕ} {u : List ℕ} where
   -- each step is read where its page stands
-  steps_known : {ss : List rules.Step} → All (Stood n k u) ss → steps_in u (known ss) ≡ ss
-  unfolding known
+  steps_known : {ss : List rules.Step} → All (Stood n k u) ss → steps_in u (way_for ss) ≡ ss
   steps_known nil = refl
   steps_known (cons {x = s} {xs = ss} h a) = go h.here (steps_known a)
     where
-      go : read u s.place.child ≡ s.page → steps_in u (known ss) ≡ ss → steps_in u (known (s ∷ ss)) ≡ s ∷ ss
+      go : read u s.place.child ≡ s.page → steps_in u (way_for ss) ≡ ss → steps_in u (way_for (s ∷ ss)) ≡ s ∷ ss
       go e f =
-          ap (λ (p : Page). step_with s.place p ∷ steps_in u (known ss)) e
+          ap (λ (p : Page). step_with s.place p ∷ steps_in u (way_for ss)) e
           ∙ ap (λ (zs : List rules.Step). s ∷ zs) f
 
-  heads_known : {ss : List rules.Step} → All (Stood n k u) ss → All (HeadRead u) (known ss)
-  unfolding known
+  heads_known : {ss : List rules.Step} → All (Stood n k u) ss → All (HeadRead u) (way_for ss)
   heads_known nil = nil
   heads_known (cons {x = s} h a) = cons {x = step_of s} (ap head_of (sym h.here)) (heads_known a)
 
@@ -75,61 +62,49 @@ module _ {n k : ℕ} {u : List ℕ} where
 -- ── After the walk ──────────────────────────────────────────────────────────────────────────────────────────────
 
 -- the rules' steps and the code's are the same way
-pub record Went (x : rules.Way) (u : List ℕ) (w : Way) : Type 0 where
+pub record Went (x : rules.Way) (u : List ℕ) (w : List Step) : Type 0 where
   pub steps : List rules.Step
   pub found : x.steps ≡ some steps
   pub table : u ≡ x.table
   pub way : w ≡ way_for steps
 
-module _ (x : rules.Way) (u : List ℕ) (w : Way) (h : walking u w ≡ told x) where
-  table-left : u ≡ x.table
-  unfolding told
-  table-left = ap (λ (y : Walking). y.table) h
-
-  way-told : w ≡ way_or x.steps
-  unfolding told
-  way-told = ap (λ (y : Walking). y.way) h
-
-  pub went : (w.len ≡ 0 → ⊥) → Went x u w
-  unfolding way_or
-  went o = go x.steps refl way-told
+module _ (x : rules.Way) (u : List ℕ) where
+  pub went : (w : List Step) → walking u (Some w) ≡ told x → Went x u w
+  unfolding told way_or
+  went w h = go x.steps refl (ap (λ (y : Walking). y.way) h)
     where
-      go : (s : Option (List rules.Step)) → x.steps ≡ s → w ≡ way_or s → Went x u w
-      go none q f = absurd (o (ap (λ (v : Way). v.len) f))
-      go (some ss) q f = record { steps = ss; found = q; table = table-left; way = f }
+      go : (s : Option (List rules.Step)) → x.steps ≡ s → Some w ≡ way_or s → Went x u w
+      go none q f = let z : ◌≡◌ {A = ℕ} 0 1 = cc in absurd (omega arith)
+      go (some ss) q f = record { steps = ss; found = q; table = ap (λ (y : Walking). y.table) h; way = cc }
 
-  -- no pages: a damaged place was met
-  pub went-nowhere : (n k : ℕ) → ((steps : List rules.Step) → x.steps ≡ some steps → WayStands n k x.table steps)
-      → w.len ≡ 0 → (x.steps ≡ none) × (u ≡ x.table)
-  unfolding way_or
-  went-nowhere n k a z = go x.steps refl way-told
+  -- a damaged place was met
+  pub went-nowhere : walking u None ≡ told x → (x.steps ≡ none) × (u ≡ x.table)
+  unfolding told way_or
+  went-nowhere h = go x.steps refl (ap (λ (y : Walking). y.way) h)
     where
-      go : (s : Option (List rules.Step)) → x.steps ≡ s → w ≡ way_or s → (x.steps ≡ none) × (u ≡ x.table)
-      go none q f = (q, table-left)
-      go (some ss) q f = absurd (omega (arith, z, ap (λ (v : Way). v.len) f, ap length (a ss q).are))
+      go : (s : Option (List rules.Step)) → x.steps ≡ s → None ≡ way_or s → (x.steps ≡ none) × (u ≡ x.table)
+      go none q f = (q, ap (λ (y : Walking). y.table) h)
+      go (some ss) q f = let z : ◌≡◌ {A = ℕ} 0 1 = cc in absurd (omega arith)
 
-module _ {x : rules.Way} {u : List ℕ} {w : Way} (d : Went x u w) {n k : ℕ} (a : WayStands n k x.table d.steps) (l : WayLinked n k 3 d.steps) where
+module _ {x : rules.Way} {u : List ℕ} {w : List Step} (d : Went x u w) {n k : ℕ} (a : WayStands n k x.table d.steps) (l : WayLinked n k 3 d.steps) where
   all_here : All (Stood n k u) d.steps
   all_here = subst (λ (t : List ℕ). All (Stood n k t) d.steps) (sym d.table) a.all
 
-  listed_here : listed w ≡ known d.steps
-  listed_here = ap listed d.way ∙ listed_known d.steps l.short
-
-  pub steps-here : steps_of u w ≡ d.steps
-  steps-here = ap (steps_in u) listed_here ∙ steps_known all_here
+  pub steps-here : steps_in u w ≡ d.steps
+  steps-here = ap (steps_in u) d.way ∙ steps_known all_here
 
   pub walked : (s : Session) → s.n ≡ n → Whole s.n s.c u → Walked k u s w
   walked s e f = record {
     whole = f;
-    leads = subst (λ (m : ℕ). Leads m k u (steps_of u w)) (sym e) (subst (Leads n k u) (sym (steps-here ∙ a.are)) leads-here);
+    leads = subst (λ (m : ℕ). Leads m k u (steps_in u w)) (sym e) (subst (Leads n k u) (sym (steps-here ∙ a.are)) leads-here);
     ends = subst EndsInLeaf (sym (steps-here ∙ a.are)) a.ends;
     headed = record {
       way = d.way ∙ ap way_for (sym steps-here);
       few = omega (arith, ap length steps-here, l.short);
       shaped = subst (All (λ (z : rules.Step). Shaped z.page.view)) (sym steps-here) (all_map shaped-stood all_here);
     };
-    heads = subst (All (HeadRead u)) (sym listed_here) (heads_known all_here);
-    some_page = omega (arith, ap (λ (v : Way). v.len) d.way, ap length a.are);
+    heads = subst (All (HeadRead u)) (sym d.way) (heads_known all_here);
+    some_page = omega (arith, ap length d.way, length-way d.steps, ap length a.are);
   }
     where
       leads-here : Leads n k u (a.leaf ∷ a.rest)

@@ -1,22 +1,21 @@
 -- What an insert hands back, piece by piece, as the rules say it, and what it knows once its way is walked.
-use Rattle.std.specs.Prelude.{ℕ, ◌≤◌, ◌≡◌, Bool, true, false, List, eqb, Ok, Err}
+use Rattle.std.specs.Prelude.{ℕ, ◌≤◌, ◌≡◌, Bool, true, false, List, length, Ok, Err}
 use Rattle.std.proofs.Math.Option.{Option, some, none}
 use Rattle.rules.specs.Key.{good_parts}
 use Rattle.rules.specs.Entry.{find}
 use Rattle.rules.specs.Table.{fit0}
 use Rattle.rules.specs.Report.{Reported}
-use Rattle.rules.specs.Walk.{Step, certs_at}
+use Rattle.rules.specs.Walk.{certs_at}
 use Rattle.rules.specs.Call.{Left, lengths_for}
 use Rattle.rules.specs.declared.Session.{Session}
 use Rattle.rules.specs.Answer.{Inserted}
 use Rattle.rules.specs.declared.InsertError.{InsertError}
 use Rattle.rules.specs.declared.Inserting.{Inserting}
 use Rattle.rules.proofs.Bytes.All.{All}
-use Rattle.marks.specs.declared.Chosen.{Chosen}
-use Rattle.way.specs.declared.Way.{Way}
+use Rattle.way.specs.declared.Step as way
 use Rattle.plan.specs.Plan.{chosen_by, Headed, plan_of}
 use Rattle.plan.specs.declared.Planned.{Planned}
-use Rattle.apply.specs.Leads.{Whole, Leads, EndsInLeaf, HeadRead, listed, steps_in}
+use Rattle.apply.specs.Leads.{Whole, Leads, EndsInLeaf, HeadRead, steps_in}
 
 -- what is left, and with the report the whole of it
 abbrev pub left : Inserted → Session → List ℕ → List ℕ → Left Inserted
@@ -37,36 +36,27 @@ answer_of Planned.SyncFirst = Err InsertError.SyncFirst
 answer_of Planned.Full = Err InsertError.Full
 answer_of Planned.Go = Ok tt
 
--- the rules' steps, read where their pages stand
-abbrev pub steps_of : List ℕ → Way → List Step
-steps_of t w = steps_in t (listed w)
-
 -- a way walked to its end: its pages stand in the table, each below the one that asked for it, the first a leaf
-pub record Walked (k : ℕ) (t : List ℕ) (s : Session) (w : Way) : Type 0 where
+pub record Walked (k : ℕ) (t : List ℕ) (s : Session) (w : List way.Step) : Type 0 where
   pub whole : Whole s.n s.c t
-  pub leads : Leads s.n k t (steps_of t w)
-  pub ends : EndsInLeaf (steps_of t w)
-  pub headed : Headed w (steps_of t w)
-  pub heads : All (HeadRead t) (listed w)
-  pub some_page : 1 ≤ w.len
+  pub leads : Leads s.n k t (steps_in t w)
+  pub ends : EndsInLeaf (steps_in t w)
+  pub headed : Headed w (steps_in t w)
+  pub heads : All (HeadRead t) w
+  pub some_page : 1 ≤ length w
 
 -- ── What is decided before anything is written ──────────────────────────────────────────────────────────────────
 
--- along a way: no pages, a damaged place; else by the plan. Done: it is to go on
-unfoldable pub decided_on : ℕ → Session → Way → List ℕ → Inserted
-decided_on k s w t =
-    elim (eqb w.len 0) [
-      | true ↦ Err InsertError.Damaged
-      | false ↦ answer_of (plan_of s (present_in (find k (certs_at (steps_of t w)))) (steps_of t w))
-    ]
+-- along a way, by the plan. Done: it is to go on
+unfoldable pub decided_on : ℕ → Session → List way.Step → List ℕ → Inserted
+decided_on k s w t = answer_of (plan_of s (present_in (find k (certs_at (steps_in t w)))) (steps_in t w))
 
--- what the decision is made of: a session with this counter, its lowest free numbers, and a way walked to its end,
--- unless it has no pages
-pub record Deciding (c k : ℕ) (t : List ℕ) (w : Way) (x : Chosen) : Type 0 where
+-- what the decision is made of: a session with this counter, its lowest free numbers, and a way walked to its end
+pub record Deciding (c k : ℕ) (t : List ℕ) (w : List way.Step) (x : List ℕ) : Type 0 where
   pub session : Session
   pub counter : session.c ≡ c
   pub chosen : x ≡ chosen_by session w
-  pub walked : (w.len ≡ 0 → ⊥) → Walked k t session w
+  pub walked : Walked k t session w
 
 -- before the walk. Done: all tests pass
 unfoldable pub tested_by : Session → List ℕ → List ℕ → ℕ → ℕ → ℕ → Inserted

@@ -20,10 +20,9 @@ ghost use Rattle.head.proofs.Headers.{head_of};
 ghost use Rattle.way.specs.Ways.{Holds};
 ghost use Rattle.insert.specs.Inserts.{leaving, present_in, answer_of, decided_on, Deciding, tested_by};
 
-use marks::Chosen;
 use plan::Planned;
 use rules::{InsertError, Inserted, Inserting, Report, Session};
-use way::{Step, Way};
+use way::Step;
 
 // The key is in the leaf, with any record.
 fn is_present(table: &[u8], leaf: Step, key: u64) -> bool
@@ -50,14 +49,11 @@ fn answer_of(planned: Planned) -> Inserted
 }
 
 // The answer along a way, before anything is written: done where the insert is to go on.
-fn decided(t: &[u8], c: u32, key: u64, way: Way, chosen: Chosen) -> Inserted
-    requires { Deciding c key t.now way chosen }
-    ensures { (d : Deciding c key t.now way chosen) → result ≡ decided_on key d.session way t.now }
+fn decided(t: &[u8], c: u32, key: u64, way: &[Step], chosen: &[u16]) -> Inserted
+    requires { Deciding c key t.now way.now chosen.now }
+    ensures { (d : Deciding c key t.now way.now chosen.now) → result ≡ decided_on key d.session way.now t.now }
 {
-    if way.len == 0 {
-        return Err(InsertError::Damaged);
-    }
-    let present = is_present(t, way.leaf, key);
+    let present = is_present(t, way[0], key);
     answer_of(plan::plan(c, way, present, chosen))
 }
 
@@ -101,8 +97,17 @@ pub fn insert(
     let key = keys::key_of(model, serial, issue);
     let went = way::way_of(working, session.n as usize, session.c, key);
     let report = went.report;
-    let chosen = plan::choose(session, went.way);
-    let answer = decided(working, session.c, key, went.way, chosen);
+    let Some(way) = went.way else {
+        return Inserting {
+            answer: Err(InsertError::Damaged),
+            report,
+            session,
+        };
+    };
+    let steps = way.as_slice();
+    let chosen = plan::choose(session, steps);
+    let pages = chosen.as_slice();
+    let answer = decided(working, session.c, key, steps, pages);
     let Ok(()) = answer else {
         return Inserting {
             answer,
@@ -110,8 +115,8 @@ pub fn insert(
             session,
         };
     };
-    apply::apply(working, session.c, key, value, went.way, chosen);
-    let left = apply::marked(session.count(), went.way, chosen);
+    apply::apply(working, session.c, key, value, steps, pages);
+    let left = apply::marked(session.count(), steps, pages);
     Inserting {
         answer,
         report,

@@ -1,4 +1,5 @@
 -- The free numbers from a number up: at it, behind it, past the last page; and the first of them. Assumes nothing.
+use Rattle.std.specs.Prelude.{Some, None}
 use mathlib.Core.Path.{◌≡◌, refl, ap, sym, ◌∙◌}
 use mathlib.Core.Bool.{Bool, true, false}
 use mathlib.Core.List.{List, [], ◌∷◌}
@@ -9,7 +10,6 @@ use Rattle.rules.specs.Marks.{numbers_from, free_pages}
 use Rattle.rules.specs.declared.Session.{Session}
 use Rattle.rules.proofs.Bytes.Numbers.{numbers_from-here, numbers_from-past}
 use Rattle.marks.specs.Lowest.{counts_free, free_from, first_of}
-use Rattle.marks.specs.declared.Free.{Free}
 
 -- the first number of a list of numbers, and the numbers behind it
 record First (mark : ℕ → Bool) (i k x : ℕ) : Type 0 where
@@ -17,21 +17,21 @@ record First (mark : ℕ → Bool) (i k x : ℕ) : Type 0 where
   above : i ≤ x
   list : numbers_from mark i k ≡ x ∷ numbers_from mark (x + 1) (i + k - (x + 1))
 
-page-same : {i x : ℕ} → first_of (i ∷ []) ≡ Free.Page x → i ≡ x
+page-same : {i x : ℕ} → first_of (i ∷ []) ≡ Some x → i ≡ x
 unfolding first_of
 page-same e = cc
 
-first-nothing : (xs : List ℕ) → first_of xs ≡ Free.Nothing → xs ≡ []
+first-nothing : (xs : List ℕ) → first_of xs ≡ None → xs ≡ []
 unfolding first_of
 first-nothing [] e = refl
 first-nothing (x ∷ xs) e = let z : ◌≡◌ {A = ℕ} 0 1 = cc in absurd (omega arith)
 
-numbers-first : (mark : ℕ → Bool) (i k x : ℕ) → first_of (numbers_from mark i k) ≡ Free.Page x → First mark i k x
+numbers-first : (mark : ℕ → Bool) (i k x : ℕ) → first_of (numbers_from mark i k) ≡ Some x → First mark i k x
 unfolding numbers_from first_of
 numbers-first mark i zero x e = let z : ◌≡◌ {A = ℕ} 0 1 = cc in absurd (omega arith)
 numbers-first mark i (suc k) x e = go (mark i) refl (numbers-first mark (suc i) k x)
   where
-    go : (b : Bool) → mark i ≡ b → (first_of (numbers_from mark (suc i) k) ≡ Free.Page x → First mark (suc i) k x) → First mark i (suc k) x
+    go : (b : Bool) → mark i ≡ b → (first_of (numbers_from mark (suc i) k) ≡ Some x → First mark (suc i) k x) → First mark i (suc k) x
     go true f ih =
         let p : i ≡ x = page-same (ap first_of (sym (numbers_from-here mark i k f)) ∙ e) in
         let q : k ≡ i + suc k - (i + 1) = omega arith in
@@ -74,12 +74,12 @@ module _ (s : Session) (entered : List ℕ) where
         rw k
 
     -- what a search that found a page has passed, and what is left behind it
-    pub free-first : (x : ℕ) → first_of (free_from s entered i) ≡ Free.Page x → (x < s.n) × (free_from s entered i ≡ x ∷ free_from s entered (x + 1))
+    pub free-first : (x : ℕ) → first_of (free_from s entered i) ≡ Some x → (x < s.n) × (free_from s entered i ≡ x ∷ free_from s entered (x + 1))
     unfolding free_from
     free-first x e =
         let r : First (counts_free s entered) i (s.n - i) x = numbers-first (counts_free s entered) i (s.n - i) x e in
         let q : i + (s.n - i) ≡ s.n = omega (arith, r.below, r.above) in
         (omega (arith, r.below, r.above), r.list ∙ rw q)
 
-    pub free-none : first_of (free_from s entered i) ≡ Free.Nothing → free_from s entered i ≡ []
+    pub free-none : first_of (free_from s entered i) ≡ None → free_from s entered i ≡ []
     free-none e = first-nothing (free_from s entered i) e

@@ -2,28 +2,28 @@
 //
 // `turn` is sync's, `opened` and `nobody` are the sessions that an opening hands out, `lowest` chooses the numbers of
 // new pages. Each contract is one equation with the rules' Marks. What a function asks, that page numbers are marks'
-// numbers and that a count is within its array, its callers have tested.
+// numbers, its callers have tested.
 //
-// Below stands `rules`: the session and its moves.
+// Below stand `rules`, the session and its moves, and `few`, which holds the numbers chosen.
 
 #![tactic(auto)]
 
-ghost use Rattle.std.specs.Prelude.{◌≡◌, ◌<◌, ◌≤◌};
+ghost use Rattle.std.specs.Prelude.{◌≡◌, ◌<◌, ◌≤◌, take};
 ghost use Rattle.rules.specs.Layout.{most_pages};
-ghost use Rattle.rules.specs.Test.{mem};
 ghost use Rattle.rules.specs.Marks.{turned, is_page, free_pages};
 ghost use Rattle.marks.specs.Opened.{opened_by};
-ghost use Rattle.marks.specs.Lowest.{entered_by, counts_free, free_from, first_of, lowest_of};
+ghost use Rattle.marks.specs.Lowest.{most_new, counts_free, free_from, first_of};
 
+use few::Few;
 use rules::{MOST, Session};
+
+// How many new pages an insert can need: two halves at each of three levels, and a root.
+pub const NEW: usize = 7;
 
 fn is_page(n: u16, i: usize) -> bool
     ensures { result ≡ is_page n i }
 {
-    if i < 1 {
-        return false;
-    }
-    i < n as usize
+    1 <= i && i < n as usize
 }
 
 // Sync's turn: waiting pages become free and wait no longer, and the counter grows.
@@ -31,15 +31,12 @@ pub fn turn(s: Session) -> Session
     requires { s.c < 4294967295 }
     ensures { result ≡ turned s }
 {
-    let n = s.n;
     let mut t = s;
-    let mut i = 0;
-    while i < MOST {
-        let page = is_page(n, i);
+    for i in 0..MOST {
+        let page = is_page(s.n, i);
         let waiting = t.waiting[i];
         t.free[i] = t.free[i] | (page & waiting);
         t.waiting[i] = !page & waiting;
-        i += 1;
     }
     t.raise()
 }
@@ -63,10 +60,8 @@ pub fn opened(n: u16, c: u32, total: u32, children: [bool; MOST], spared: [bool;
     ensures { result ≡ opened_by n c total children spared }
 {
     let mut free = [false; MOST];
-    let mut i = 0;
-    while i < MOST {
+    for i in 0..MOST {
         free[i] = is_page(n, i) & (!children[i] & !spared[i]);
-        i += 1;
     }
     Session {
         n,
@@ -77,84 +72,40 @@ pub fn opened(n: u16, c: u32, total: u32, children: [bool; MOST], spared: [bool;
     }
 }
 
-// The pages that an insert has entered: a way from the root has at most three.
-#[derive(Clone, Copy)]
-pub struct Entered {
-    pub pages: [u16; 3],
-    pub count: usize,
-}
-
-fn is_entered(e: Entered, i: u16) -> bool
-    requires { e.count ≤ 3 }
-    ensures { result ≡ mem i (entered_by e) }
+// Whether a page counts as free: it is, and was not entered.
+fn counts(s: Session, entered: &[u16], i: u16) -> bool
+    requires { i < most_pages }
+    ensures { result ≡ counts_free s entered.now i }
 {
-    let mut j = 0;
-    while j < e.count {
-        if e.pages[j] == i {
-            return true;
-        }
-        j += 1;
-    }
-    false
-}
-
-// Whether a page counts as free.
-fn counts(s: Session, e: Entered, i: u16) -> bool
-    requires { (i < most_pages) × (e.count ≤ 3) }
-    ensures { result ≡ counts_free s (entered_by e) i }
-{
-    let at = i as usize;
-    if s.free[at] {
-        return !is_entered(e, i);
-    }
-    false
-}
-
-// What a search for a free page finds.
-#[derive(Clone, Copy)]
-pub enum Free {
-    Page(u16),
-    Nothing,
+    s.free[i as usize] && !entered.contains(&i)
 }
 
 // The lowest free page at or above a number.
-pub fn first_free(s: Session, e: Entered, from: u16) -> Free
-    requires { (s.n ≤ most_pages) × (e.count ≤ 3) }
-    ensures { result ≡ first_of (free_from s (entered_by e) from) }
+pub fn first_free(s: Session, entered: &[u16], from: u16) -> Option<u16>
+    requires { s.n ≤ most_pages }
+    ensures { result ≡ first_of (free_from s entered.now from) }
 {
-    let n = s.n;
-    let mut i = from;
-    while i < n {
-        if counts(s, e, i) {
-            return Free::Page(i);
+    for i in from..s.n {
+        if counts(s, entered, i) {
+            return Some(i);
         }
-        i += 1;
     }
-    Free::Nothing
+    None
 }
 
-// The numbers for the new pages of one insert, lowest first, and how many there are. No insert needs more than seven:
-// two halves at each of three levels, and a root.
-#[derive(Clone, Copy)]
-pub struct Chosen {
-    pub pages: [u16; 7],
-    pub count: usize,
-}
-
-pub fn lowest(s: Session, e: Entered, need: usize) -> Chosen
-    requires { (s.n ≤ most_pages) × ((e.count ≤ 3) × (need ≤ 7)) }
-    ensures { result ≡ lowest_of need (free_pages s (entered_by e)) }
+// The numbers for the new pages of one insert, lowest first: as many as are needed, or as are there.
+pub fn lowest(s: Session, entered: &[u16], need: usize) -> Few<u16, NEW>
+    requires { (s.n ≤ most_pages) × (need ≤ most_new) }
+    ensures { result ≡ take need (free_pages s entered.now) }
 {
-    let mut pages = [0u16; 7];
-    let mut count = 0;
+    let mut pages = Few::new();
     let mut from = 1;
-    while count < need {
-        let Free::Page(i) = first_free(s, e, from) else {
-            return Chosen { pages, count };
+    for _ in 0..need {
+        let Some(i) = first_free(s, entered, from) else {
+            break;
         };
-        pages[count] = i;
-        count += 1;
+        pages.push(i);
         from = i + 1;
     }
-    Chosen { pages, count }
+    pages
 }

@@ -1,18 +1,18 @@
 -- Counting full pages and looking for late ones, one page after the other. Assumes nothing.
-use Prim.Native.Nat.{ℕ, ◌+◌, ◌≤◌, ◌<◌}
-use native.Mathlib.Numerals.{add-one}
+use Prim.Native.Nat.{ℕ, zero, suc, ◌+◌, ◌<◌}
 use native.Mathlib.Omega.{arith}
-use mathlib.Core.Path.{◌≡◌, sym, ap, ◌∙◌}
-use mathlib.Core.Bool.{true, false}
-use mathlib.Core.List.{List, [], ◌∷◌}
+use mathlib.Core.Path.{◌≡◌, refl, ap}
+use mathlib.Core.Bool.{Bool, true, false}
+use mathlib.Core.List.{List, [], ◌∷◌, ◌++◌}
 use lib.Dec.{leb, eqb}
-use lib.ListN.{length, take, drop, get_or, drop_of_length-le}
-use lib.Seq.{drop-cons, get_or-take, length-take-le}
+use lib.ListN.{length, take, get_or}
 use borrow.Author.Tests.{eq-eqb, ne_eqb}
 use Rattle.rules.specs.Layout.{leaf_kind, leaf_room, inner_room}
 use Rattle.head.specs.declared.Head.{Head}
-use Rattle.way.specs.declared.Way.{Way}
-use Rattle.plan.specs.Plan.{heads_of, full_by, splits_by, late_by, too_soon_by}
+use Rattle.way.specs.declared.Step.{Step}
+use Rattle.std.specs.Prelude.{take_while}
+use Rattle.std.specs.List.{list_any, prefix_len}
+use Rattle.plan.specs.Plan.{heads_of, full_by, splits_by, late_by, too_soon_by, numbers_of}
 
 -- ── One page ────────────────────────────────────────────────────────────────────────────────────────────────────
 
@@ -32,87 +32,46 @@ pub late-inner : (c : ℕ) (h : Head) → (h.kind ≡ leaf_kind → ⊥) → eqb
 unfolding late_by
 late-inner c h e = rw (ne_eqb h.kind leaf_kind e)
 
--- ── At an index of the way ──────────────────────────────────────────────────────────────────────────────────────
-
--- three headers, so many of them
-module _ (a b t d : Head) (len : ℕ) where
-  abbrev heads : List Head
-  heads = take len (a ∷ (b ∷ (t ∷ [])))
-
-  pub head_first : (i : ℕ) → i < len → i ≡ 0 → a ≡ get_or heads i d
-  head_first i h e = rw e (sym (get_or-take len (a ∷ (b ∷ (t ∷ []))) 0 d (omega arith)))
-
-  pub head-second : (i : ℕ) → i < len → i ≡ 1 → b ≡ get_or heads i d
-  head-second i h e = rw e (sym (get_or-take len (a ∷ (b ∷ (t ∷ []))) 1 d (omega arith)))
-
-  pub head-third : (i : ℕ) → i < len → len ≤ 3 → (i ≡ 0 → ⊥) → (i ≡ 1 → ⊥) → t ≡ get_or heads i d
-  head-third i h l p q =
-      let e : i ≡ 2 = omega arith in
-      rw e (sym (get_or-take len (a ∷ (b ∷ (t ∷ []))) 2 d (omega arith)))
-
--- ── One page after the other ────────────────────────────────────────────────────────────────────────────────────
-
-module _ (hs : List Head) (i : ℕ) (d : Head) where
-  pub splits-here : i < length hs → full_by (get_or hs i d) ≡ false → splits_by (drop i hs) ≡ 0
-  unfolding splits_by
-  splits-here l f = rw (drop-cons hs i d l, f, splits_by)
-
-  pub splits-more : i < length hs → full_by (get_or hs i d) ≡ true → i + splits_by (drop i hs) ≡ (i + 1) + splits_by (drop (i + 1) hs)
-  unfolding splits_by
-  splits-more l f = rw (drop-cons hs i d l, splits_by, f, add-one) (omega arith)
-
-  pub splits-end : length hs ≤ i → splits_by (drop i hs) ≡ 0
-  unfolding splits_by
-  splits-end l = rw (drop_of_length-le hs l)
-
-  pub soon_here : (c : ℕ) → i < length hs → late_by c (get_or hs i d) ≡ true → true ≡ too_soon_by c (drop i hs)
-  unfolding too_soon_by
-  soon_here c l f = rw (drop-cons hs i d l, f)
-
-  pub soon_later : (c : ℕ) → i < length hs → late_by c (get_or hs i d) ≡ false → too_soon_by c (drop i hs) ≡ too_soon_by c (drop (i + 1) hs)
-  unfolding too_soon_by
-  soon_later c l f = rw (drop-cons hs i d l, f, add-one)
-
-  pub soon_end : (c : ℕ) → length hs ≤ i → false ≡ too_soon_by c (drop i hs)
-  unfolding too_soon_by
-  soon_end c l = rw (drop_of_length-le hs l)
-
 -- ── Along a way ─────────────────────────────────────────────────────────────────────────────────────────────────
 
-pub length-heads : (w : Way) → w.len ≤ 3 → length (heads_of w) ≡ w.len
-length-heads w l = length-take-le w.len (w.leaf.head ∷ (w.parent.head ∷ (w.top.head ∷ []))) l
+pub length-heads : (w : List Step) → length (heads_of w) ≡ length w
+length-heads [] = refl
+length-heads (x ∷ xs) = ap suc (length-heads xs)
 
-module _ (w : Way) (l : w.len ≤ 3) (i : ℕ) (inv : splits_by (heads_of w) ≡ i + splits_by (drop i (heads_of w))) where
-  pub splits_stop : (h : Head) → i < w.len → h ≡ get_or (heads_of w) i h → full_by h ≡ false → i ≡ splits_by (heads_of w)
-  splits_stop h b e f =
-      let z = splits-here (heads_of w) i h (omega (arith, length-heads w l)) (ap full_by (sym e) ∙ f) in
-      omega (arith, inv, z)
+pub length-numbers : (w : List Step) → length (numbers_of w) ≡ length w
+length-numbers [] = refl
+length-numbers (x ∷ xs) = ap suc (length-numbers xs)
 
-  pub splits-next : (h : Head) → i < w.len → h ≡ get_or (heads_of w) i h → full_by h ≡ true
-      → splits_by (heads_of w) ≡ (i + 1) + splits_by (drop (i + 1) (heads_of w))
-  splits-next h b e f = inv ∙ splits-more (heads_of w) i h (omega (arith, length-heads w l)) (ap full_by (sym e) ∙ f)
+pub numbers-append : (w : List Step) (x : Step) → numbers_of (w ++ x ∷ []) ≡ numbers_of w ++ x.place.child ∷ []
+numbers-append [] x = refl
+numbers-append (y ∷ w) x = ap (λ (is : List ℕ). y.place.child ∷ is) (numbers-append w x)
 
-  pub splits-done : (h : Head) → w.len ≤ i → i ≡ splits_by (heads_of w)
-  splits-done h b =
-      let z = splits-end (heads_of w) i h (omega (arith, length-heads w l)) in
-      omega (arith, inv, z)
+pub heads-take : (n : ℕ) (w : List Step) → heads_of (take n w) ≡ take n (heads_of w)
+heads-take zero w = refl
+heads-take (suc n) [] = refl
+heads-take (suc n) (x ∷ xs) = ap (λ (hs : List Head). x.head ∷ hs) (heads-take n xs)
 
--- the first so many of the way
-module _ (w : Way) (l : w.len ≤ 3) (k : ℕ) (m : k ≤ w.len) (c i : ℕ)
-    (inv : too_soon_by c (take k (heads_of w)) ≡ too_soon_by c (drop i (take k (heads_of w)))) where
-  length-first : length (take k (heads_of w)) ≡ k
-  length-first = length-take-le k (heads_of w) (omega (arith, length-heads w l))
+pub head-at : (w : List Step) (i : ℕ) (x : Step) → i < length w → get_or (heads_of w) i x.head ≡ (get_or w i x).head
+head-at [] i x h = absurd (omega arith)
+head-at (y ∷ w) zero x h = refl
+head-at (y ∷ w) (suc i) x h = head-at w i x (omega arith)
 
-  pub soon_stop : (h : Head) → i < k → h ≡ get_or (heads_of w) i h → late_by c h ≡ true → true ≡ too_soon_by c (take k (heads_of w))
-  soon_stop h b e f =
-      soon_here (take k (heads_of w)) i h c (omega (arith, length-first))
-      (ap (late_by c) (get_or-take k (heads_of w) i h b ∙ sym e) ∙ f) ∙ sym inv
+-- the full pages from the leaf up, counted
+pub splits-counted : (w : List Step) → length (take_while (λ (x : Step). full_by x.head) w) ≡ splits_by (heads_of w)
+unfolding splits_by
+splits-counted [] = refl
+splits-counted (x ∷ w) = go (full_by x.head) refl (splits-counted w)
+  where
+    is_full : Step → Bool
+    is_full y = full_by y.head
 
-  pub soon_next : (h : Head) → i < k → h ≡ get_or (heads_of w) i h → late_by c h ≡ false
-      → too_soon_by c (take k (heads_of w)) ≡ too_soon_by c (drop (i + 1) (take k (heads_of w)))
-  soon_next h b e f =
-      inv ∙ soon_later (take k (heads_of w)) i h c (omega (arith, length-first))
-      (ap (late_by c) (get_or-take k (heads_of w) i h b ∙ sym e) ∙ f)
+    go : (b : Bool) → full_by x.head ≡ b → length (take_while is_full w) ≡ splits_by (heads_of w) → length (take_while is_full (x ∷ w)) ≡ splits_by (heads_of (x ∷ w))
+    go true f ih =
+        let one : 1 + prefix_len is_full w ≡ suc (prefix_len is_full w) = omega arith in
+        rw (f, splits_by, one) (ap suc ih)
+    go false f ih = rw (f, splits_by)
 
-  pub soon_done : (h : Head) → k ≤ i → false ≡ too_soon_by c (take k (heads_of w))
-  soon_done h b = soon_end (take k (heads_of w)) i h c (omega (arith, length-first)) ∙ sym inv
+pub soon-any : (c : ℕ) (w : List Step) → list_any (λ (x : Step). late_by c x.head) w ≡ too_soon_by c (heads_of w)
+unfolding too_soon_by
+soon-any c [] = refl
+soon-any c (x ∷ w) = rw (soon-any c w)

@@ -1,7 +1,6 @@
 -- What the headers of a way decide is what the rules decide by its pages. Assumes nothing.
-use Prim.Native.Nat.{ℕ, suc, ◌≤◌}
+use Prim.Native.Nat.{ℕ, suc}
 use native.Mathlib.Nat.{add-zero, zero-add}
-use native.Mathlib.Omega.{arith}
 use mathlib.Core.Path.{◌≡◌, refl, sym, ap, ◌∙◌, subst}
 use mathlib.Core.Bool.{Bool, true, false, not, ◌&&◌, ◌||◌}
 use mathlib.Core.List.{List, [], ◌∷◌}
@@ -18,9 +17,9 @@ use Rattle.rules.proofs.Bytes.All.{All, nil, cons}
 use Rattle.rules.proofs.Entries.Views.{view_of, same_view, Shaped, leaf_kind_lem, inner-kind}
 use Rattle.head.specs.declared.Head.{Head}
 use Rattle.head.proofs.Headers.{head_of}
-use Rattle.marks.specs.Lowest.{lowest_of}
 use Rattle.way.specs.Ways.{way_for}
-use Rattle.way.specs.declared.Way.{Way}
+use Rattle.way.specs.declared.Step as way
+use Rattle.way.proofs.Descent.{length-way}
 use Rattle.plan.specs.declared.Planned.{Planned}
 use Rattle.plan.specs.Plan.{heads_of, full_by, splits_by, late_by, too_soon_by, last_kind, too_high_by, numbers_of, need_by, stuck_by, no_room_by, chosen_by, plan_by, Headed, plan_of}
 use Rattle.plan.proofs.Heads.{full-leaf, full-inner}
@@ -64,21 +63,15 @@ heads : List Step → List Head
 heads [] = []
 heads (s ∷ ss) = head_of s.page ∷ heads ss
 
-heads_of_lem : (ss : List Step) → length ss ≤ 3 → heads_of (way_for ss) ≡ heads ss
+heads_of_lem : (ss : List Step) → heads_of (way_for ss) ≡ heads ss
 unfolding heads
-heads_of_lem [] h = refl
-heads_of_lem (s ∷ []) h = refl
-heads_of_lem (s ∷ (u ∷ [])) h = refl
-heads_of_lem (s ∷ (u ∷ (v ∷ []))) h = refl
-heads_of_lem (s ∷ (u ∷ (v ∷ (x ∷ ss)))) h = absurd (omega arith)
+heads_of_lem [] = refl
+heads_of_lem (s ∷ ss) = ap (λ (hs : List Head). head_of s.page ∷ hs) (heads_of_lem ss)
 
-numbers_of_lem : (ss : List Step) → length ss ≤ 3 → numbers_of (way_for ss) ≡ numbers ss
+numbers_of_lem : (ss : List Step) → numbers_of (way_for ss) ≡ numbers ss
 unfolding numbers
-numbers_of_lem [] h = refl
-numbers_of_lem (s ∷ []) h = refl
-numbers_of_lem (s ∷ (u ∷ [])) h = refl
-numbers_of_lem (s ∷ (u ∷ (v ∷ []))) h = refl
-numbers_of_lem (s ∷ (u ∷ (v ∷ (x ∷ ss)))) h = absurd (omega arith)
+numbers_of_lem [] = refl
+numbers_of_lem (s ∷ ss) = ap (λ (is : List ℕ). s.place.child ∷ is) (numbers_of_lem ss)
 
 splits_by_lem : {ss : List Step} → All (λ (s : Step). Shaped s.page.view) ss → splits_by (heads ss) ≡ length (splitting ss)
 unfolding heads splits_by splitting
@@ -117,15 +110,15 @@ abbrev chain : Bool → Bool → Planned
 chain soon short =
     elim soon [ true ↦ Planned.SyncFirst | false ↦ elim short [ true ↦ Planned.Full | false ↦ Planned.Go ] ]
 
-module _ {w : Way} {steps : List Step} (h : Headed w steps) where
+module _ {w : List way.Step} {steps : List Step} (h : Headed w steps) where
   heads-are : heads_of w ≡ heads steps
-  heads-are = ap heads_of h.way ∙ heads_of_lem steps h.few
+  heads-are = ap heads_of h.way ∙ heads_of_lem steps
 
   numbers-are : numbers_of w ≡ numbers steps
-  numbers-are = ap numbers_of h.way ∙ numbers_of_lem steps h.few
+  numbers-are = ap numbers_of h.way ∙ numbers_of_lem steps
 
-  len_is : w.len ≡ length steps
-  len_is = ap (λ (v : Way). v.len) h.way
+  len_is : length w ≡ length steps
+  len_is = ap length h.way ∙ length-way steps
 
   splits-are : splits_by (heads_of w) ≡ length (splitting steps)
   splits-are = ap splits_by heads-are ∙ splits_by_lem h.shaped
@@ -134,7 +127,7 @@ module _ {w : Way} {steps : List Step} (h : Headed w steps) where
   soon_is c = ap (λ (hs : List Head). too_soon_by c (take (splits_by hs) hs)) heads-are ∙ soon_by c h.shaped
 
   -- as many new pages as the rules need
-  pub need-is : need_by w.len (splits_by (heads_of w)) ≡ new_pages steps
+  pub need-is : need_by (length w) (splits_by (heads_of w)) ≡ new_pages steps
   unfolding need_by new_pages root_splits
   need-is = rw (splits-are, len_is)
 
@@ -147,7 +140,7 @@ module _ {w : Way} {steps : List Step} (h : Headed w steps) where
   room-is free = rw (need-is, stuck_is)
 
   -- the chosen numbers are the first of the rules' free pages
-  pub chosen_is : (s : Session) → chosen_by s w ≡ lowest_of (new_pages steps) (free_pages s (numbers steps))
+  pub chosen_is : (s : Session) → chosen_by s w ≡ take (new_pages steps) (free_pages s (numbers steps))
   unfolding chosen_by
   chosen_is s = rw (need-is, numbers-are)
 

@@ -11,14 +11,12 @@ use Rattle.rules.specs.Layout.{most_pages, top_kind}
 use Rattle.rules.specs.Marks.{free_pages}
 use Rattle.rules.specs.declared.Session.{Session}
 use Rattle.head.specs.declared.Head.{Head}
-use Rattle.marks.specs.Lowest.{entered_by, lowest_of}
-use Rattle.marks.specs.declared.Entered.{Entered}
-use Rattle.marks.specs.declared.Chosen.{Chosen}
+use Rattle.marks.specs.Lowest.{most_new}
 use Rattle.marks.proofs.Needed.{lowest_fewer}
-use Rattle.way.specs.declared.Way.{Way}
+use Rattle.way.specs.declared.Step.{Step}
 use Rattle.plan.specs.declared.Planned.{Planned}
-use Rattle.plan.specs.Plan.{heads_of, full_by, splits_by, too_soon_by, last_kind, too_high_by, numbers_of, entered_of, need_by, stuck_by, no_room_by, chosen_by, plan_by}
-use Rattle.plan.proofs.Heads.{length-heads}
+use Rattle.plan.specs.Plan.{heads_of, full_by, splits_by, too_soon_by, last_kind, too_high_by, numbers_of, need_by, stuck_by, no_room_by, chosen_by, plan_by}
+use Rattle.plan.proofs.Heads.{length-heads, head-at}
 
 -- the last of some headers
 last_kind_lem : (kind : ℕ) (h : Head) (hs : List Head) (d : Head) → last_kind kind (h ∷ hs) ≡ (get_or (h ∷ hs) (length hs) d).kind
@@ -42,21 +40,21 @@ splits-few (h ∷ hs) = go (full_by h) refl (splits-few hs)
     go true e ih = rw (e, splits_by) (omega arith)
     go false e ih = rw (e, splits_by) (omega arith)
 
-pub splits-within : (w : Way) → w.len ≤ 3 → (k : ℕ) → k ≡ splits_by (heads_of w) → k ≤ w.len
-splits-within w l k e = omega (arith, e, splits-few (heads_of w), length-heads w l)
+pub splits-within : (w : List Step) (k : ℕ) → k ≡ splits_by (heads_of w) → k ≤ length w
+splits-within w k e = omega (arith, e, splits-few (heads_of w), length-heads w)
 
-module _ (w : Way) (k : ℕ) where
-  pub stuck_root : (h : Head) → 1 ≤ w.len → w.len ≤ 3 → k ≡ w.len → h ≡ get_or (heads_of w) (w.len - 1) h → eqb h.kind top_kind ≡ stuck_by w k
+module _ (w : List Step) (k : ℕ) where
+  pub stuck_root : (d : Step) → 1 ≤ length w → k ≡ length w → eqb (get_or w (k - 1) d).head.kind top_kind ≡ stuck_by w k
   unfolding stuck_by
-  stuck_root h a b e q =
-      let l = length-heads w b in
-      let z : too_high_by (heads_of w) ≡ eqb (get_or (heads_of w) (length (heads_of w) - 1) h).kind top_kind = high-last (heads_of w) h (omega (arith, l)) in
-      let y : get_or (heads_of w) (length (heads_of w) - 1) h ≡ h = ap (λ (m : ℕ). get_or (heads_of w) (m - 1) h) l ∙ sym q in
-      rw (eq-eqb k w.len e) (sym (z ∙ ap (λ (x : Head). eqb x.kind top_kind) y))
+  stuck_root d a e =
+      let l = length-heads w in
+      let h : get_or (heads_of w) (length (heads_of w) - 1) d.head ≡ (get_or w (k - 1) d).head =
+      rw (l, ← e) (head-at w (k - 1) d (omega arith)) in
+      rw (eq-eqb k (length w) e) (sym (high-last (heads_of w) d.head (omega (arith, l)) ∙ ap (λ (x : Head). eqb x.kind top_kind) h))
 
-  pub stuck_never : (k ≡ w.len → ⊥) → false ≡ stuck_by w k
+  pub stuck_never : (k ≡ length w → ⊥) → false ≡ stuck_by w k
   unfolding stuck_by
-  stuck_never e = rw (ne_eqb k w.len e)
+  stuck_never e = rw (ne_eqb k (length w) e)
 
 pub need-root : (len k : ℕ) → k ≡ len → 2 * k + 1 ≡ need_by len k
 unfolding need_by
@@ -80,7 +78,7 @@ or_true : (b : Bool) → (b || true) ≡ true
 or_true true = refl
 or_true false = refl
 
-module _ (s : Session) (w : Way) where
+module _ (s : Session) (w : List Step) where
   abbrev many : ℕ
   many = splits_by (heads_of w)
 
@@ -89,19 +87,19 @@ module _ (s : Session) (w : Way) where
 
   stuck_full : true ≡ stuck_by w many → no_room_by w many free ≡ true
   unfolding no_room_by
-  stuck_full h = rw (← h) (or_true (ltb (length free) (need_by w.len many)))
+  stuck_full h = rw (← h) (or_true (ltb (length free) (need_by (length w) many)))
 
-  few-full : ltb (length free) (need_by w.len many) ≡ true → no_room_by w many free ≡ true
+  few-full : ltb (length free) (need_by (length w) many) ≡ true → no_room_by w many free ≡ true
   unfolding no_room_by
   few-full h = rw h refl
 
-  room-left : ltb (length free) (need_by w.len many) ≡ false → false ≡ stuck_by w many → no_room_by w many free ≡ false
+  room-left : ltb (length free) (need_by (length w) many) ≡ false → false ≡ stuck_by w many → no_room_by w many free ≡ false
   unfolding no_room_by
   room-left h q = rw h (sym q)
 
-  fewer : (x : Chosen) → x ≡ chosen_by s w → ltb x.count (need_by w.len many) ≡ ltb (length free) (need_by w.len many)
+  fewer : (x : List ℕ) → x ≡ chosen_by s w → ltb (length x) (need_by (length w) many) ≡ ltb (length free) (need_by (length w) many)
   unfolding chosen_by
-  fewer x f = ap (λ (y : Chosen). ltb y.count (need_by w.len many)) f ∙ lowest_fewer (need_by w.len many) free
+  fewer x f = ap (λ (y : List ℕ). ltb (length y) (need_by (length w) many)) f ∙ lowest_fewer (need_by (length w) many) free
 
   pub plan-present : Planned.Present ≡ plan_by s true w
   unfolding plan_by
@@ -123,23 +121,23 @@ module _ (s : Session) (w : Way) where
     pub plan_stuck : true ≡ stuck_by w many → Planned.Full ≡ plan_by s false w
     plan_stuck h = plan-full (stuck_full h)
 
-    module _ (x : Chosen) (f : x ≡ chosen_by s w) where
-      pub plan-few : x.count < need_by w.len many → Planned.Full ≡ plan_by s false w
-      plan-few l = plan-full (few-full (sym (fewer x f) ∙ lt-ltb x.count (need_by w.len many) l))
+    module _ (x : List ℕ) (f : x ≡ chosen_by s w) where
+      pub plan-few : length x < need_by (length w) many → Planned.Full ≡ plan_by s false w
+      plan-few l = plan-full (few-full (sym (fewer x f) ∙ lt-ltb (length x) (need_by (length w) many) l))
 
-      pub plan_go : false ≡ stuck_by w many → need_by w.len many ≤ x.count → Planned.Go ≡ plan_by s false w
-      plan_go h l = plan-room (room-left (sym (fewer x f) ∙ le-ltb x.count (need_by w.len many) l) h)
+      pub plan_go : false ≡ stuck_by w many → need_by (length w) many ≤ length x → Planned.Go ≡ plan_by s false w
+      plan_go h l = plan-room (room-left (sym (fewer x f) ∙ le-ltb (length x) (need_by (length w) many) l) h)
 
 -- ── The numbers ─────────────────────────────────────────────────────────────────────────────────────────────────
 
-module _ (s : Session) (w : Way) where
-  pub chosen-asks : s.n ≤ most_pages → w.len ≤ 3 → (k : ℕ) → k ≡ splits_by (heads_of w) → (x : Entered) → x ≡ entered_of w → (need : ℕ)
-      → need ≡ need_by w.len k → (s.n ≤ most_pages) × ((x.count ≤ 3) × (need ≤ 7))
-  chosen-asks a b k e x f need g =
-      let z = splits-within w b k e in
-      (a, (omega (arith, ap (λ (y : Entered). y.count) f), omega (arith, g, need-few w.len k (omega arith))))
+module _ (s : Session) (w : List Step) where
+  pub chosen-asks : s.n ≤ most_pages → length w ≤ 3 → (k : ℕ) → k ≡ splits_by (heads_of w) → (need : ℕ)
+      → need ≡ need_by (length w) k → (s.n ≤ most_pages) × (need ≤ most_new)
+  chosen-asks a b k e need g =
+      let z = splits-within w k e in
+      (a, omega (arith, g, need-few (length w) k (omega arith)))
 
-  pub chosen_of : (k : ℕ) → k ≡ splits_by (heads_of w) → (x : Entered) → x ≡ entered_of w → (need : ℕ) → need ≡ need_by w.len k
-      → lowest_of need (free_pages s (entered_by x)) ≡ chosen_by s w
+  pub chosen_of : (k : ℕ) → k ≡ splits_by (heads_of w) → (x : List ℕ) → x ≡ numbers_of w → (need : ℕ) → need ≡ need_by (length w) k
+      → take need (free_pages s x) ≡ chosen_by s w
   unfolding chosen_by
   chosen_of k e x f need g = rw (g, e, f)

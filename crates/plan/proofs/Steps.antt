@@ -3,17 +3,18 @@ use Prim.Native.Nat.{ℕ, ◌≤◌, ◌<◌}
 use native.Mathlib.Omega.{arith}
 use mathlib.Core.Path.{◌≡◌, sym, ap, ◌∙◌}
 use mathlib.Core.Bool.{Bool, true, false}
-use lib.ListN.{take}
-use Rattle.marks.specs.declared.Chosen.{Chosen}
-use Rattle.way.specs.declared.Way.{Way}
+use mathlib.Core.List.{List}
+use lib.ListN.{length, take}
+use Rattle.way.specs.declared.Step.{Step}
+use Rattle.way.proofs.Descent.{length-way}
 use Rattle.plan.specs.declared.Planned.{Planned}
 use Rattle.plan.specs.Plan.{heads_of, splits_by, too_soon_by, need_by, stuck_by, plan_by, Planning, plan_of}
 use Rattle.plan.proofs.Plans.{plan-present, plan_soon, plan_stuck, plan-few, plan_go}
 use Rattle.plan.proofs.Pages.{plan-is}
 
-module _ {c : ℕ} {w : Way} {x : Chosen} (p : Planning c w x) where
-  pub few : w.len ≤ 3
-  few = omega (arith, ap (λ (v : Way). v.len) p.headed.way, p.headed.few)
+module _ {c : ℕ} {w : List Step} {x : List ℕ} (p : Planning c w x) where
+  pub few : length w ≤ 3
+  few = omega (arith, ap length p.headed.way, length-way p.steps, p.headed.few)
 
   by_pages : (present b : Bool) → present ≡ b → (r : Planned) → r ≡ plan_by p.session b w → r ≡ plan_of p.session present p.steps
   by_pages present b e r q = q ∙ (plan-is p.headed p.session b ∙ ap (λ (d : Bool). plan_of p.session d p.steps) (sym e))
@@ -39,16 +40,16 @@ module _ {c : ℕ} {w : Way} {x : Chosen} (p : Planning c w x) where
       pub stuck_planned : stuck ≡ true → Planned.Full ≡ plan_of p.session present p.steps
       stuck_planned o = by_pages present false e Planned.Full (plan_stuck p.session w (sym l ∙ late_is) (sym o ∙ stuck_is))
 
-      module _ (o : stuck ≡ false) (need : ℕ) (n : need ≡ need_by w.len k) where
-        need-is : need ≡ need_by w.len (splits_by (heads_of w))
-        need-is = n ∙ ap (need_by w.len) g
+      module _ (o : stuck ≡ false) (need : ℕ) (n : need ≡ need_by (length w) k) where
+        need-is : need ≡ need_by (length w) (splits_by (heads_of w))
+        need-is = n ∙ ap (need_by (length w)) g
 
-        pub few_planned : x.count < need → Planned.Full ≡ plan_of p.session present p.steps
+        pub few_planned : length x < need → Planned.Full ≡ plan_of p.session present p.steps
         few_planned b =
             by_pages present false e Planned.Full
             (plan-few p.session w (sym l ∙ late_is) x p.chosen (omega (arith, need-is)))
 
-        pub go_planned : need ≤ x.count → Planned.Go ≡ plan_of p.session present p.steps
+        pub go_planned : need ≤ length x → Planned.Go ≡ plan_of p.session present p.steps
         go_planned b =
             by_pages present false e Planned.Go
             (plan_go p.session w (sym l ∙ late_is) x p.chosen (sym o ∙ stuck_is) (omega (arith, need-is)))

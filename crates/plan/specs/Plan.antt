@@ -9,17 +9,15 @@ use Rattle.rules.specs.declared.Session.{Session}
 use Rattle.rules.proofs.Bytes.All.{All}
 use Rattle.rules.proofs.Entries.Views.{Shaped}
 use Rattle.head.specs.declared.Head.{Head}
-use Rattle.marks.specs.Lowest.{lowest_of}
-use Rattle.marks.specs.declared.Entered.{Entered}
-use Rattle.marks.specs.declared.Chosen.{Chosen}
-use Rattle.way.specs.declared.Way.{Way}
+use Rattle.way.specs.declared.Step as way
 use Rattle.way.specs.Ways.{way_for}
 use Rattle.plan.specs.declared.Planned.{Planned}
 
 -- ── By headers ──────────────────────────────────────────────────────────────────────────────────────────────────
 
-abbrev pub heads_of : Way → List Head
-heads_of w = take w.len (w.leaf.head ∷ (w.parent.head ∷ (w.top.head ∷ [])))
+abbrev pub heads_of : List way.Step → List Head
+heads_of [] = []
+heads_of (x ∷ xs) = x.head ∷ heads_of xs
 
 unfoldable pub full_by : Head → Bool
 full_by h = elim (eqb h.kind leaf_kind) [ true ↦ leb leaf_room h.count | false ↦ leb inner_room h.count ]
@@ -48,32 +46,27 @@ too_high_by hs = eqb (last_kind 0 hs) top_kind
 -- ── The whole plan ──────────────────────────────────────────────────────────────────────────────────────────────
 
 -- the numbers of the pages on the way
-abbrev pub numbers_of : Way → List ℕ
-numbers_of w = take w.len (w.leaf.place.child ∷ (w.parent.place.child ∷ (w.top.place.child ∷ [])))
-
-abbrev pub entered_of : Way → Entered
-entered_of w = record {
-  pages = w.leaf.place.child ∷ (w.parent.place.child ∷ (w.top.place.child ∷ []));
-  count = w.len;
-}
+abbrev pub numbers_of : List way.Step → List ℕ
+numbers_of [] = []
+numbers_of (x ∷ xs) = x.place.child ∷ numbers_of xs
 
 -- how many new pages so many splits need
 unfoldable pub need_by : ℕ → ℕ → ℕ
 need_by len k = 2 * k + elim (eqb k len) [ true ↦ 1 | false ↦ 0 ]
 
 -- every page splits, and the root can't
-unfoldable pub stuck_by : Way → ℕ → Bool
-stuck_by w k = eqb k w.len && too_high_by (heads_of w)
+unfoldable pub stuck_by : List way.Step → ℕ → Bool
+stuck_by w k = eqb k (length w) && too_high_by (heads_of w)
 
-unfoldable pub no_room_by : Way → ℕ → List ℕ → Bool
-no_room_by w k free = ltb (length free) (need_by w.len k) || stuck_by w k
+unfoldable pub no_room_by : List way.Step → ℕ → List ℕ → Bool
+no_room_by w k free = ltb (length free) (need_by (length w) k) || stuck_by w k
 
 -- the numbers for new pages
-unfoldable pub chosen_by : Session → Way → Chosen
-chosen_by s w = lowest_of (need_by w.len (splits_by (heads_of w))) (free_pages s (numbers_of w))
+unfoldable pub chosen_by : Session → List way.Step → List ℕ
+chosen_by s w = take (need_by (length w) (splits_by (heads_of w))) (free_pages s (numbers_of w))
 
 -- 5, then 6, then 7, or go on
-unfoldable pub plan_by : Session → Bool → Way → Planned
+unfoldable pub plan_by : Session → Bool → List way.Step → Planned
 plan_by s present w =
     elim present [
       | true ↦ Planned.Present
@@ -87,18 +80,18 @@ plan_by s present w =
 -- ── By the rules ────────────────────────────────────────────────────────────────────────────────────────────────
 
 -- a way as the code has it, and the rules' steps that it stands for
-pub record Headed (w : Way) (steps : List Step) : Type 0 where
+pub record Headed (w : List way.Step) (steps : List Step) : Type 0 where
   pub way : w ≡ way_for steps
   pub few : length steps ≤ 3
   pub shaped : All (λ (s : Step). Shaped s.page.view) steps
 
 -- what a plan is made of: a session with this counter, steps for the way, and the session's lowest free numbers
-pub record Planning (c : ℕ) (w : Way) (x : Chosen) : Type 0 where
+pub record Planning (c : ℕ) (w : List way.Step) (x : List ℕ) : Type 0 where
   pub session : Session
   pub steps : List Step
   pub counter : session.c ≡ c
   pub headed : Headed w steps
-  pub some_page : 1 ≤ w.len
+  pub some_page : 1 ≤ length w
   pub chosen : x ≡ chosen_by session w
 
 -- the rules' refusals of an insert, in their order

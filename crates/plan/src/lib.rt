@@ -8,14 +8,15 @@
 
 #![tactic(auto)]
 
-ghost use Rattle.std.specs.Prelude.{◌≡◌, ◌≤◌, ◌<◌, take, get_or};
-ghost use Rattle.rules.specs.Layout.{most_pages};
-ghost use Rattle.plan.specs.Plan.{heads_of, full_by, splits_by, late_by, too_soon_by, entered_of, need_by, stuck_by, chosen_by, Planning, plan_of};
+ghost use Rattle.std.specs.Prelude.{◌≡◌, ◌≤◌, ◌<◌, length};
+ghost use Rattle.rules.specs.Layout.{most_pages, top_kind};
+ghost use Rattle.plan.specs.Plan.{heads_of, full_by, splits_by, late_by, too_soon_by, numbers_of, need_by, stuck_by, chosen_by, Planning, plan_of};
 
+use few::Few;
 use head::Head;
-use marks::{Chosen, Entered};
-use rules::{INNER_ROOM, LEAF, LEAF_ROOM, Session, TOP};
-use way::Way;
+use marks::NEW;
+use rules::{INNER_ROOM, LEAF, LEAF_ROOM, LEVELS, Session, TOP};
+use way::Step;
 
 #[derive(Clone, Copy)]
 pub enum Planned {
@@ -35,121 +36,84 @@ pub fn is_full(head: Head) -> bool
     head.count >= INNER_ROOM
 }
 
-// The header of a page on the way, the leaf's first.
-fn head_on(way: Way, i: usize) -> Head
-    requires { (i < way.len) × (way.len ≤ 3) }
-    ensures { (d : Head) → result ≡ get_or (heads_of way) i d }
+// How many pages split: the full ones from the leaf up.
+pub fn splits(way: &[Step]) -> usize
+    ensures { result ≡ splits_by (heads_of way.now) }
 {
-    if i == 0 {
-        return way.leaf.head;
-    }
-    if i == 1 {
-        return way.parent.head;
-    }
-    way.top.head
-}
-
-// How many pages split.
-pub fn splits(way: Way) -> usize
-    requires { way.len ≤ 3 }
-    ensures { result ≡ splits_by (heads_of way) }
-{
-    let mut i = 0;
-    while i < way.len {
-        if !is_full(head_on(way, i)) {
-            return i;
-        }
-        i += 1;
-    }
-    i
+    way.iter().take_while(|step| is_full(step.head)).count()
 }
 
 // An inner page that must not split before the next sync.
 fn is_late(c: u32, head: Head) -> bool
     ensures { result ≡ late_by c head }
 {
-    if head.kind == LEAF {
-        return false;
-    }
-    head.touched == c
+    head.kind != LEAF && head.touched == c
 }
 
-// One of the first pages of the way must not split yet.
-fn too_soon(c: u32, way: Way, splits: usize) -> bool
-    requires { (splits ≤ way.len) × (way.len ≤ 3) }
-    ensures { result ≡ too_soon_by c (take splits (heads_of way)) }
+// One of the pages that split must not split yet.
+fn too_soon(c: u32, splitting: &[Step]) -> bool
+    ensures { result ≡ too_soon_by c (heads_of splitting.now) }
 {
-    let mut i = 0;
-    while i < splits {
-        if is_late(c, head_on(way, i)) {
-            return true;
-        }
-        i += 1;
-    }
-    false
+    splitting.iter().any(|step| is_late(c, step.head))
 }
 
 // Every page of the way splits, and the root has the highest kind.
-fn is_stuck(way: Way, splits: usize) -> bool
-    requires { (1 ≤ way.len) × (way.len ≤ 3) }
-    ensures { result ≡ stuck_by way splits }
+fn is_stuck(way: &[Step], splits: usize) -> bool
+    requires { 1 ≤ length way.now }
+    ensures { result ≡ stuck_by way.now splits }
 {
-    if splits == way.len {
-        let root = head_on(way, way.len - 1);
-        return root.kind == TOP;
-    }
-    false
+    splits == way.len() && way[splits - 1].head.kind == TOP
 }
 
 // How many new pages there will be: two for each that splits, and a new root.
-fn need(way: Way, splits: usize) -> usize
-    requires { splits ≤ 3 }
-    ensures { result ≡ need_by way.len splits }
+fn need(way: &[Step], splits: usize) -> usize
+    requires { splits ≤ top_kind }
+    ensures { result ≡ need_by (length way.now) splits }
 {
-    if splits == way.len {
+    if splits == way.len() {
         return 2 * splits + 1;
     }
     2 * splits
 }
 
-// The pages that were entered.
-fn entered(way: Way) -> Entered
-    ensures { result ≡ entered_of way }
+// The numbers of the pages that were entered.
+fn entered(way: &[Step]) -> Few<u16, LEVELS>
+    requires { length way.now ≤ top_kind }
+    ensures { result ≡ numbers_of way.now }
 {
-    let leaf = way.leaf.place.child;
-    let parent = way.parent.place.child;
-    let top = way.top.place.child;
-    Entered {
-        pages: [leaf, parent, top],
-        count: way.len,
+    let mut numbers = Few::new();
+    for step in way {
+        numbers.push(step.place.child);
     }
+    numbers
 }
 
 // The numbers of the new pages, lowest first; fewer than are needed where fewer are free.
-pub fn choose(session: Session, way: Way) -> Chosen
-    requires { (session.n ≤ most_pages) × (way.len ≤ 3) }
-    ensures { result ≡ chosen_by session way }
+pub fn choose(session: Session, way: &[Step]) -> Few<u16, NEW>
+    requires { (session.n ≤ most_pages) × (length way.now ≤ top_kind) }
+    ensures { result ≡ chosen_by session way.now }
 {
     let many = splits(way);
-    marks::lowest(session, entered(way), need(way, many))
+    let entered = entered(way);
+    marks::lowest(session, entered.as_slice(), need(way, many))
 }
 
 // Refused, or to go on. Of the session the counter is enough: the free pages are known by the numbers chosen.
-pub fn plan(c: u32, way: Way, present: bool, chosen: Chosen) -> Planned
-    requires { Planning c way chosen }
-    ensures { (p : Planning c way chosen) → result ≡ plan_of p.session present p.steps }
+pub fn plan(c: u32, way: &[Step], present: bool, chosen: &[u16]) -> Planned
+    requires { Planning c way.now chosen.now }
+    ensures { (p : Planning c way.now chosen.now) → result ≡ plan_of p.session present p.steps }
 {
     if present {
         return Planned::Present;
     }
     let many = splits(way);
-    if too_soon(c, way, many) {
+    if too_soon(c, &way[..many]) {
         return Planned::SyncFirst;
     }
     if is_stuck(way, many) {
         return Planned::Full;
     }
-    if chosen.count < need(way, many) {
+    if chosen.len() < need(way, many) {
         return Planned::Full;
     }
     Planned::Go

@@ -107,7 +107,7 @@ pub const LAST_NUMBER: u32 = 4294967293;
 
 // A place: what a parent's entry asks of its child. want is the kind asked for; 0 asks for any, as page 0 does of the
 // root.
-#[derive(Clone, Copy)]
+#[derive(Clone, Copy, Default)]
 pub struct Place {
     pub child: u16,
     pub previous: u16,

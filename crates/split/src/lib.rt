@@ -6,8 +6,8 @@
 // for here, that the page is full and the pages above and new ones are others, the caller knows from the way that it
 // walked and from the choice of free numbers.
 //
-// Below stand `build`, which makes the new pages, `edit`, which makes one entry two, `head`, which names the new root
-// in page 0, and the session's own moves.
+// Below stand `way`, whose steps are split, `build`, which makes the new pages, `edit`, which makes one entry two, `head`,
+// which names the new root in page 0, and the session's own moves.
 
 #![tactic(auto)]
 
@@ -20,39 +20,42 @@ ghost use Rattle.split.specs.Split.{step_at, heirs_by, previous_by, frees_by, re
 
 use edit::Half;
 use head::Head;
-use rules::{LEAF, Place, Session};
+use rules::{LEAF, Session};
+use way::Step;
+
+// The numbers of the pages that the two halves of a page take.
+#[derive(Clone, Copy)]
+pub struct Twins {
+    pub lower: u16,
+    pub upper: u16,
+}
 
 // A leaf that was built since the last sync or opening is nobody's previous page.
 fn heirs(c: u32, head: Head) -> bool
     ensures { result ≡ heirs_by c head }
 {
-    if head.kind == LEAF {
-        return head.built == c;
-    }
-    false
+    head.kind == LEAF && head.built == c
 }
 
 // The previous page of both halves.
-fn previous_of(c: u32, e: Place, head: Head) -> u16
-    ensures { result ≡ previous_by c e head }
+fn previous_of(c: u32, step: Step) -> u16
+    ensures { result ≡ previous_by c step.place step.head }
 {
-    if heirs(c, head) {
-        return e.previous;
+    if heirs(c, step.head) {
+        return step.place.previous;
     }
-    e.child
+    step.place.child
 }
 
 // A split page that was born and built since the last sync or opening is in no stable table's way.
 fn frees(c: u32, head: Head) -> bool
     ensures { result ≡ frees_by c head }
 {
-    if heirs(c, head) {
-        return head.birth == c;
-    }
-    false
+    heirs(c, head) && head.birth == c
 }
 
-// The split page is free at once, or waits for the next sync.
+// The split page is free at once, or waits for the next sync. The mark is written in place: by the session's own methods an
+// insert would take more than 2 KiB of the stack.
 fn retire(session: Session, c: u32, child: u16, head: Head) -> Session
     requires { child < most_pages }
     ensures { result ≡ retire_by c child head session }
@@ -67,50 +70,42 @@ fn retire(session: Session, c: u32, child: u16, head: Head) -> Session
 }
 
 // The halves' pages are taken, then the split page retires.
-pub fn mark(session: Session, c: u32, child: u16, head: Head, lower: u16, upper: u16) -> Session
-    requires { (child < most_pages) × (lower < most_pages) × (upper < most_pages) }
-    ensures { result ≡ retire_by c child head (taken upper (taken lower session)) }
+pub fn mark(session: Session, c: u32, step: Step, twins: Twins) -> Session
+    requires { (step.place.child < most_pages) × (twins.lower < most_pages) × (twins.upper < most_pages) }
+    ensures { result ≡ retire_by c step.place.child step.head (taken twins.upper (taken twins.lower session)) }
 {
-    let lower_taken = session.take(lower as usize);
-    let both_taken = lower_taken.take(upper as usize);
-    retire(both_taken, c, child, head)
+    let lower_taken = session.take(twins.lower as usize);
+    let both_taken = lower_taken.take(twins.upper as usize);
+    retire(both_taken, c, step.place.child, step.head)
 }
 
 // The half whose range holds a key.
-fn side(key: u64, middle: u64, lower: u16, upper: u16) -> u16
-    ensures { result ≡ side_of key middle lower upper }
+fn side(key: u64, middle: u64, twins: Twins) -> u16
+    ensures { result ≡ side_of key middle twins.lower twins.upper }
 {
     if key < middle {
-        return lower;
+        return twins.lower;
     }
-    upper
+    twins.upper
 }
 
 // A full page becomes two on new pages, its entry in the page above becomes two, and the way goes on in one of them.
-pub fn halve(
-    table: &mut [u8],
-    c: u32,
-    key: u64,
-    e: Place,
-    head: Head,
-    lower: u16,
-    upper: u16,
-    at: u16,
-) -> u16
-    requires { Halves table.old e head lower upper at }
-    ensures { (s : Session) → making table.new (retire_by c e.child head (taken upper (taken lower s))) result
-        ≡ halve c key (step_at table.old e) lower upper (making table.old s at) }
+pub fn halve(table: &mut [u8], c: u32, key: u64, step: Step, twins: Twins, at: u16) -> u16
+    requires { Halves table.old step.place step.head twins.lower twins.upper at }
+    ensures { (s : Session)
+        → making table.new (retire_by c step.place.child step.head (taken twins.upper (taken twins.lower s))) result
+        ≡ halve c key (step_at table.old step.place) twins.lower twins.upper (making table.old s at) }
 {
-    let from = e.child as usize;
+    let from = step.place.child as usize;
     let middle = build::middle_at(table, from);
-    build::build_lower(table, lower as usize, from, c);
-    build::build_upper(table, upper as usize, from, c);
+    build::build_lower(table, twins.lower as usize, from, c);
+    build::build_upper(table, twins.upper as usize, from, c);
     let first = Half {
-        child: lower,
-        low: head.low,
+        child: twins.lower,
+        low: step.head.low,
     };
     let second = Half {
-        child: upper,
+        child: twins.upper,
         low: middle,
     };
     edit::put_twins(
@@ -118,28 +113,28 @@ pub fn halve(
         at as usize,
         first,
         second,
-        previous_of(c, e, head),
+        previous_of(c, step),
         c,
     );
-    side(key, middle, lower, upper)
+    side(key, middle, twins)
 }
 
 // Page 0's previous: the old root, or what stands there if that was built since the last sync or opening.
-fn root_previous(c: u32, e: Place, head: Head) -> u16
-    ensures { result ≡ root_previous_by c e head }
+fn root_previous(c: u32, root: Step) -> u16
+    ensures { result ≡ root_previous_by c root.place root.head }
 {
-    if head.built == c {
-        return e.previous;
+    if root.head.built == c {
+        return root.place.previous;
     }
-    e.child
+    root.place.child
 }
 
 // A new root, one kind higher, at first over the old root alone, named in page 0.
-pub fn grow(table: &mut [u8], c: u32, e: Place, head: Head, new: u16)
-    requires { Grows table.old e head new }
+pub fn grow(table: &mut [u8], c: u32, root: Step, new: u16)
+    requires { Grows table.old root.place root.head new }
     ensures { (s : Session) → making table.new (taken new s) new
-        ≡ grow c (step_at table.old e) new (making table.old s 0) }
+        ≡ grow c (step_at table.old root.place) new (making table.old s 0) }
 {
-    build::build_root(table, new as usize, c, head.kind + 1, e);
-    head::set_root(table, new, root_previous(c, e, head), c);
+    build::build_root(table, new as usize, c, root.head.kind + 1, root.place);
+    head::set_root(table, new, root_previous(c, root), c);
 }

@@ -4,9 +4,9 @@ use mathlib.Core.Path.{◌≡◌, refl, sym, ap, ◌∙◌, subst}
 use mathlib.Core.Bool.{true, false}
 use mathlib.Core.List.{List, [], ◌∷◌}
 use mathlib.Core.Option.{some, none}
+use Rattle.std.specs.Prelude.{Option, Some, None}
 use Prim.Native.Nat.{ℕ, suc, ◌+◌, ◌-◌, ◌*◌, ◌^◌, ◌≤◌, ◌<◌}
 use native.Mathlib.Omega.{arith}
-use native.Mathlib.Numerals.{add-one}
 use lib.ListN.{length}
 use borrow.Author.Tests.{ne_eqb}
 use Rattle.fields.specs.Field.{Bytes}
@@ -29,8 +29,8 @@ use Rattle.rules.proofs.Demand1.WalkSteps.{descend-damaged, descend-ends, descen
 use Rattle.enter.specs.Entering as enters
 use Rattle.enter.specs.declared.Above.{Above}
 use Rattle.enter.proofs.Told.{enter-same, told-table, told-page, told-damaged}
-use Rattle.way.specs.Ways.{places_below, Leads, Holds, step_of, way_for, then_of, above_in, walking, way_or, told, reported, went}
-use Rattle.way.specs.declared.Way.{Way}
+use Rattle.way.specs.Ways.{places_below, Leads, Holds, way_for, above_in, walking, way_or, told, reported, went}
+use Rattle.way.specs.declared.Step.{Step}
 use Rattle.way.proofs.Inner.{places-kids}
 use Rattle.way.proofs.Stood.{Ready, ready-root, ready-next, Stood, stood-here}
 
@@ -44,13 +44,9 @@ numbers-above (s ∷ []) i h o = rw (ne_eqb i 0 (λ q. omega arith))
 numbers-above (s ∷ (u ∷ [])) i h o = refl
 numbers-above (s ∷ (u ∷ (v ∷ ss))) i h o = absurd (omega arith)
 
--- one step more of the rules' is one step more of the code's
-then_for : (ss : List rules.Step) (s : rules.Step) → then_of (way_for ss) (step_of s) ≡ way_for (s ∷ ss)
-then_for ss s = rw add-one
-
 -- ── Where the loop stands ───────────────────────────────────────────────────────────────────────────────────────
 
-pub record Descent (n c k : ℕ) (t₀ t : List ℕ) (w : Way) (e : Place) (level : ℕ) (x₀ x : Report) : Type 0 where
+pub record Descent (n c k : ℕ) (t₀ t : List ℕ) (w : List Step) (e : Place) (level : ℕ) (x₀ x : Report) : Type 0 where
   pub above : List rules.Step
   pub way : w ≡ way_for above
   pub rest : rules.way_of n c k t₀ ≡ rules.descend level n c k above t e
@@ -58,15 +54,23 @@ pub record Descent (n c k : ℕ) (t₀ t : List ℕ) (w : Way) (e : Place) (leve
   pub deep : level + length above ≡ 3
   pub ready : Ready n c k t e
 
+pub length-way : (ss : List rules.Step) → length (way_for ss) ≡ length ss
+length-way [] = refl
+length-way (s ∷ ss) = ap suc (length-way ss)
+
+pub way-long : {n c k : ℕ} {t₀ t : List ℕ} {w : List Step} {e : Place} {level : ℕ} {x₀ x : Report}
+    → Descent n c k t₀ t w e level x₀ x → level + length w ≡ 3
+way-long d = omega (arith, d.deep, ap length d.way, length-way d.above)
+
 -- what the code hands back with a report is what the rules do
-abbrev pub Handed : ℕ → ℕ → ℕ → List ℕ → Report → List ℕ → Way → Report → Type 0
+abbrev pub Handed : ℕ → ℕ → ℕ → List ℕ → Report → List ℕ → Option (List Step) → Report → Type 0
 Handed n c k t₀ x₀ u w x = went u (record { way = w; report = x }) ≡ reported (told (rules.way_of n c k t₀)) (rules.way_report n c k t₀ x₀)
 
 both : {A : Type 0} {a b : A} {x y : Report} → a ≡ b → x ≡ y → reported a x ≡ reported b y
 both p q = cc
 
 -- at the root
-pub begins : (n c k : ℕ) (t : List ℕ) (e : Place) (w : Way) (x₀ x : Report) → length t ≡ n * page_size → fit0 n t ≡ true → Bytes t
+pub begins : (n c k : ℕ) (t : List ℕ) (e : Place) (w : List Step) (x₀ x : Report) → length t ≡ n * page_size → fit0 n t ≡ true → Bytes t
     → e ≡ root_place t → w ≡ way_for [] → x ≡ x₀ → c < 256 ^ 4 → k ≤ last_key → Descent n c k t t w e 3 x₀ x
 unfolding rules.way_of rules.way_report
 begins n c k t e w x₀ x l f b g v y m h = record {
@@ -79,7 +83,7 @@ begins n c k t e w x₀ x l f b g v y m h = record {
 }
 
 -- below the last level, where nothing can stand
-module _ {n c k : ℕ} {t₀ t : List ℕ} {w : Way} {e : Place} {level : ℕ} {x₀ x : Report} (d : Descent n c k t₀ t w e level x₀ x) (z : level ≡ 0) where
+module _ {n c k : ℕ} {t₀ t : List ℕ} {w : List Step} {e : Place} {level : ℕ} {x₀ x : Report} (d : Descent n c k t₀ t w e level x₀ x) (z : level ≡ 0) where
   pub out-way : rules.way_of n c k t₀ ≡ rules.no_way t
   unfolding rules.descend
   out-way = d.rest ∙ ap (λ (l : ℕ). rules.descend l n c k d.above t e) z
@@ -88,16 +92,16 @@ module _ {n c k : ℕ} {t₀ t : List ℕ} {w : Way} {e : Place} {level : ℕ} {
   unfolding rules.descend_report
   out-report = d.reports ∙ ap (λ (l : ℕ). rules.descend_report l n c k d.above t e x) z
 
-  runs_out : walking t (way_for []) ≡ told (rules.way_of n c k t₀)
+  runs_out : walking t None ≡ told (rules.way_of n c k t₀)
   unfolding told way_or
   runs_out = sym (ap told out-way)
 
-  pub runs_out-reported : Handed n c k t₀ x₀ t (way_for []) x
+  pub runs_out-reported : Handed n c k t₀ x₀ t None x
   runs_out-reported = both runs_out (sym out-report)
 
 -- ── One turn of the loop ────────────────────────────────────────────────────────────────────────────────────────
 
-module _ {n c k : ℕ} {t₀ t : List ℕ} {w : Way} {e : Place} {level : ℕ} {x₀ x : Report} (d : Descent n c k t₀ t w e level x₀ x) (o : 0 < level) (a : Above) (g : a ≡ above_in w) where
+module _ {n c k : ℕ} {t₀ t : List ℕ} {w : List Step} {e : Place} {level : ℕ} {x₀ x : Report} (d : Descent n c k t₀ t w e level x₀ x) (o : 0 < level) (a : Above) (g : a ≡ above_in w) where
   -- what the code enters by is what the rules enter by
   as_rules : entry.enter n c (enters.above_of a) t e ≡ entry.enter n c (rules.numbers d.above) t e
   as_rules =
@@ -119,7 +123,7 @@ module _ {n c k : ℕ} {t₀ t : List ℕ} {w : Way} {e : Place} {level : ℕ} {
         d.rest
         ∙ (one-level ∙ (descend-damaged (level - 1) n c k d.above t e (told-damaged (reason_at n t e) y i) ∙ ap rules.no_way (sym (told-table (reason_at n t e) y i))))
 
-    damaged : walking u (way_for []) ≡ told (rules.way_of n c k t₀)
+    damaged : walking u None ≡ told (rules.way_of n c k t₀)
     unfolding told way_or
     damaged = sym (ap told damaged-way)
 
@@ -130,7 +134,7 @@ module _ {n c k : ℕ} {t₀ t : List ℕ} {w : Way} {e : Place} {level : ℕ} {
         ∙ report-damaged (level - 1) n c k d.above t e x
         (told-damaged (reason_at n t e) (entry.enter n c (rules.numbers d.above) t e) (h ∙ ap (enters.told (reason_at n t e)) as_rules)))
 
-    pub damaged-reported : Handed n c k t₀ x₀ u (way_for []) x
+    pub damaged-reported : Handed n c k t₀ x₀ u None x
     damaged-reported = both damaged (sym damaged-report)
 
   module _ (u : List ℕ) (h : Head) (why : Why) (f : enters.entering u (enters.found h why) ≡ enters.told (reason_at n t e) (entry.enter n c (enters.above_of a) t e)) where
@@ -154,11 +158,8 @@ module _ {n c k : ℕ} {t₀ t : List ℕ} {w : Way} {e : Place} {level : ℕ} {
     unfolding head_of
     kind-here = ap (λ (x : Head). x.kind) page.2
 
-    then-here : then_of w (record { place = e; head = h }) ≡ way_for (record { place = e; page = read u e.child } ∷ d.above)
-    then-here =
-        ap (λ (x : Way). then_of x (record { place = e; head = h })) d.way
-        ∙ (ap (λ (x : Head). then_of (way_for d.above) (record { place = e; head = x })) head-here
-        ∙ then_for d.above (record { place = e; page = read u e.child }))
+    then-here : record { place = e; head = h } ∷ w ≡ way_for (record { place = e; page = read u e.child } ∷ d.above)
+    then-here = rw (d.way, head-here)
 
     -- what is reported with this page
     pub more : (y : Report) → y ≡ adds why x → y ≡ adds (reason_at n t e) x
@@ -179,14 +180,14 @@ module _ {n c k : ℕ} {t₀ t : List ℕ} {w : Way} {e : Place} {level : ℕ} {
         ∙ (ap (λ (x : List ℕ). record { table = x; steps = some (record { place = e; page = page.0 } ∷ d.above) }) (sym table)
         ∙ ap (λ (x : Page). record { table = u; steps = some (record { place = e; page = x } ∷ d.above) }) (sym here))))
 
-    ends : h.kind ≡ leaf_kind → walking u (then_of w (record { place = e; head = h })) ≡ told (rules.way_of n c k t₀)
+    ends : h.kind ≡ leaf_kind → walking u (Some (record { place = e; head = h } ∷ w)) ≡ told (rules.way_of n c k t₀)
     unfolding told way_or
-    ends q = ap (walking u) then-here ∙ sym (ap told (leaf-way q))
+    ends q = ap (λ (v : List Step). walking u (Some v)) then-here ∙ sym (ap told (leaf-way q))
 
     pub leaf-report : h.kind ≡ leaf_kind → rules.way_report n c k t₀ x₀ ≡ adds (reason_at n t e) x
     leaf-report q = d.reports ∙ (report-level ∙ report-ends (level - 1) n c k d.above t e page.0 page.1 x (no_kid q))
 
-    pub ends-reported : h.kind ≡ leaf_kind → (y : Report) → y ≡ adds why x → Handed n c k t₀ x₀ u (then_of w (record { place = e; head = h })) y
+    pub ends-reported : h.kind ≡ leaf_kind → (y : Report) → y ≡ adds why x → Handed n c k t₀ x₀ u (Some (record { place = e; head = h } ∷ w)) y
     ends-reported q y g = both (ends q) (more y g ∙ sym (leaf-report q))
 
     pub holds : h.kind ≡ leaf_kind → Holds (read u e.child).view
@@ -230,7 +231,7 @@ module _ {n c k : ℕ} {t₀ t : List ℕ} {w : Way} {e : Place} {level : ℕ} {
           subst (λ (x : Page). Leads k h x.view) (sym here) l
 
       pub goes_on : (b : Place) → pick k (places_below h (read u e.child).view) ≡ some b
-          → (y : Report) → y ≡ adds why x → Descent n c k t₀ u (then_of w (record { place = e; head = h })) b (level - 1) x₀ y
+          → (y : Report) → y ≡ adds why x → Descent n c k t₀ u (record { place = e; head = h } ∷ w) b (level - 1) x₀ y
       goes_on b r y v =
           let q' : pick k (kids e page.0.view) ≡ some b = ap (λ (x : Page). pick k (kids e x.view)) (sym here)
           ∙ (ap (pick k) (sym (places-kids e h (read u e.child).view high-here)) ∙ r) in

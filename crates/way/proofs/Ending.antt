@@ -1,7 +1,7 @@
 -- The descent that keeps the leaf alone: beside it runs the whole way, of which it keeps the end. Assumes nothing.
 use mathlib.Core.Path.{◌≡◌, refl, sym, ap, ◌∙◌}
 use mathlib.Core.Bool.{true}
-use mathlib.Core.List.{List, []}
+use mathlib.Core.List.{List, [], ◌∷◌}
 use mathlib.Core.Option.{some}
 use Prim.Native.Nat.{ℕ, suc, ◌+◌, ◌-◌, ◌*◌, ◌^◌, ◌≤◌, ◌<◌}
 use native.Mathlib.Omega.{arith}
@@ -19,13 +19,13 @@ use Rattle.rules.specs.declared.Report.{Report}
 use Rattle.head.specs.declared.Head.{Head}
 use Rattle.enter.specs.Entering as enters
 use Rattle.enter.specs.declared.Above.{Above}
-use Rattle.way.specs.Ways.{places_below, way_for, then_of, above_in, spot_at, ending, end_or, end_in, Ending, reported, ended}
-use Rattle.way.specs.declared.Way.{Way}
+use Rattle.way.specs.Ways.{places_below, way_for, above_in, spot_at, ending, end_or, end_in, Ending, reported, ended}
+use Rattle.way.specs.declared.Step.{Step}
 use Rattle.way.specs.declared.End.{End}
 use Rattle.way.proofs.Descent as way
 
 pub record Seeking (n c k : ℕ) (t₀ t : List ℕ) (a : Above) (e : Place) (level : ℕ) (x₀ x : Report) : Type 0 where
-  pub whole : Way
+  pub whole : List Step
   pub descent : way.Descent n c k t₀ t whole e level x₀ x
   pub above : a ≡ above_in whole
 
@@ -77,7 +77,7 @@ module _ {n c k : ℕ} {t₀ t : List ℕ} {a : Above} {e : Place} {level : ℕ}
       pub goes_on : (h.kind ≡ leaf_kind → ⊥) → (b : Place) → pick k (places_below h (read u e.child).view) ≡ some b
           → Seeking n c k t₀ u (record { parent = e.child; top = a.parent }) b (level - 1) x₀ y
       goes_on q b r = record {
-        whole = then_of s.whole (record { place = e; head = h });
+        whole = record { place = e; head = h } ∷ s.whole;
         descent = way.goes_on s.descent o a s.above u h why f q b r y v;
         above = ap (λ (z : Above). record { parent = e.child; top = z.parent }) s.above;
       }

@@ -17,11 +17,11 @@ use Rattle.head.proofs.Headers.{head_of}
 use Rattle.entries.specs.Spot.{keys_in, spot_of}
 use Rattle.enter.specs.declared.Above.{Above}
 use Rattle.way.specs.declared.Step.{Step}
-use Rattle.way.specs.declared.Way.{Way}
 use Rattle.way.specs.declared.End.{End}
 use Rattle.way.specs.declared.Went.{Went}
 use Rattle.way.specs.declared.Ended.{Ended}
 
+-- no page
 abbrev pub no_step : Step
 no_step = record {
   place = record { child = 0; previous = 0; birth = 0; low = 0; high = 0; want = 0 };
@@ -31,39 +31,37 @@ no_step = record {
 abbrev pub step_of : rules.Step → Step
 step_of s = record { place = s.place; head = head_of s.page }
 
-abbrev pub first_of : List rules.Step → Step
-first_of [] = no_step
-first_of (s ∷ ss) = step_of s
-
-abbrev pub rest_of : List rules.Step → List rules.Step
-rest_of [] = []
-rest_of (s ∷ ss) = ss
-
 -- steps, leaf first
-abbrev pub way_for : List rules.Step → Way
-way_for ss = record { len = length ss; leaf = first_of ss; parent = first_of (rest_of ss); top = first_of (rest_of (rest_of ss)) }
+abbrev pub way_for : List rules.Step → List Step
+way_for [] = []
+way_for (s ∷ ss) = step_of s ∷ way_for ss
 
--- one step more
-abbrev pub then_of : Way → Step → Way
-then_of w s = record { len = w.len + 1; leaf = s; parent = w.leaf; top = w.parent }
+abbrev pub rest_of : {A : Type 0} → List A → List A
+rest_of [] = []
+rest_of (x ∷ xs) = xs
+
+-- the number of the first page, or 0
+abbrev pub first_child : List Step → ℕ
+first_child [] = 0
+first_child (s ∷ ss) = s.place.child
 
 -- what stands above the next step
-abbrev pub above_in : Way → Above
-above_in w = record { parent = w.leaf.place.child; top = w.parent.place.child }
+abbrev pub above_in : List Step → Above
+above_in w = record { parent = first_child w; top = first_child (rest_of w) }
 
 -- ── What is left and handed back ────────────────────────────────────────────────────────────────────────────────
 
 pub record Walking : Type 0 where
   pub table : List ℕ
-  pub way : Way
+  pub way : prelude.Option (List Step)
 
-abbrev pub walking : List ℕ → Way → Walking
+abbrev pub walking : List ℕ → prelude.Option (List Step) → Walking
 walking t w = record { table = t; way = w }
 
 -- no steps: a damaged place was met
-unfoldable pub way_or : Option (List rules.Step) → Way
-way_or none = way_for []
-way_or (some ss) = way_for ss
+unfoldable pub way_or : Option (List rules.Step) → prelude.Option (List Step)
+way_or none = None
+way_or (some ss) = Some (way_for ss)
 
 unfoldable pub told : rules.Way → Walking
 told w = record { table = w.table; way = way_or w.steps }

@@ -1,7 +1,7 @@
 // The way of one key: the pages that a call for one key enters, from the root to a leaf, mending as it goes.
 //
 // `way_of` leaves the table as the rules' `way_of` leaves it, and hands back each page entered: the place that asked for
-// it and its header, the leaf first. A way is at most three pages long. A way of no pages met a damaged place.
+// it and its header, the leaf first. A way is at most three pages long.
 //
 // Each page is searched before it is tested: the processor then searches while it tests, and a search is mostly waiting.
 // What such a search finds is a guess, and nothing is done by it until the page is known to be sound and the guess is
@@ -21,34 +21,28 @@ ghost use Rattle.rules.specs.Report.{nothing};
 ghost use Rattle.rules.specs.Walk.{way_of, way_report};
 ghost use Rattle.entries.specs.Spot.{keys_in, spot_of};
 ghost use Rattle.way.specs.Ahead.{ahead_of};
-ghost use Rattle.way.specs.Ways.{places_below, Leads, no_step, way_for, then_of, above_in, told, end_in, reported, went, ended};
+ghost use Rattle.way.specs.Ways.{places_below, Leads, above_in, told, end_in, reported, went, ended};
 
 use enter::Above;
 use entries::Entries;
+use few::Few;
 use head::Head;
 use rules::{AT_COUNT, AT_KIND, INNER_ROOM, LEAF, LEAF_ROOM, LEVELS, Place, Report};
 
 // A page entered: the place that asked for it, and its header.
-#[derive(Clone, Copy)]
+#[derive(Clone, Copy, Default)]
 pub struct Step {
     pub place: Place,
     pub head: Head,
 }
 
-// The pages entered, the last one first: a leaf at the end of a whole way, its parent, and the page above that. `len`
-// says how many there are.
-#[derive(Clone, Copy)]
-pub struct Way {
-    pub len: usize,
-    pub leaf: Step,
-    pub parent: Step,
-    pub top: Step,
-}
+// The pages entered, the last one first: a leaf at the end of a whole way, its parent, and the page above that.
+pub type Way = Few<Step, LEVELS>;
 
-// A way, and what was mended on it.
-#[derive(Clone, Copy)]
+// A way, unless it met a damaged place, and what was mended on it.
+#[derive(Drop)]
 pub struct Went {
-    pub way: Way,
+    pub way: Option<Way>,
     pub report: Report,
 }
 
@@ -67,65 +61,20 @@ pub struct Ended {
     pub report: Report,
 }
 
-fn no_step() -> Step
-    ensures { result ≡ no_step }
-{
-    Step {
-        place: Place {
-            child: 0,
-            previous: 0,
-            birth: 0,
-            low: 0,
-            high: 0,
-            want: 0,
-        },
-        head: Head {
-            kind: 0,
-            count: 0,
-            birth: 0,
-            built: 0,
-            touched: 0,
-            low: 0,
-            high: 0,
-        },
-    }
-}
-
-// A way of no pages.
-fn no_way() -> Way
-    ensures { result ≡ way_for [] }
-{
-    let none = no_step();
-    Way {
-        len: 0,
-        leaf: none,
-        parent: none,
-        top: none,
-    }
-}
-
-// One page more.
-fn then(way: Way, step: Step) -> Way
-    requires { way.len < 3 }
-    ensures { result ≡ then_of way step }
-{
-    let parent = way.leaf;
-    let top = way.parent;
-    Way {
-        len: way.len + 1,
-        leaf: step,
-        parent,
-        top,
-    }
-}
-
 // The pages above the next one.
-fn above(way: Way) -> Above
-    ensures { result ≡ above_in way }
+fn above(way: &[Step]) -> Above
+    ensures { result ≡ above_in way.now }
 {
-    Above {
-        parent: way.leaf.place.child,
-        top: way.parent.place.child,
+    match way {
+        [] => Above { parent: 0, top: 0 },
+        [parent] => Above {
+            parent: parent.place.child,
+            top: 0,
+        },
+        [parent, top, ..] => Above {
+            parent: parent.place.child,
+            top: top.place.child,
+        },
     }
 }
 
@@ -176,31 +125,27 @@ pub fn way_of(t: &mut [u8], n: usize, c: u32, key: u64) -> Went
     ensures { went t.new result
         ≡ reported (told (way_of n c key t.old)) (way_report n c key t.old nothing) }
 {
-    let mut way = no_way();
+    let mut way = Few::new();
     let mut report = Report::nothing();
     let mut e = head::root_place(t);
-    let mut level = LEVELS;
-    while 0 < level {
+    for _ in 0..LEVELS {
         let guess = look_ahead(t, e.child, key, key);
-        let Some(entered) = enter::enter(t, n, c, above(way), e) else {
-            return Went {
-                way: no_way(),
-                report,
-            };
+        let above = above(way.as_slice());
+        let Some(entered) = enter::enter(t, n, c, above, e) else {
+            return Went { way: None, report };
         };
         let head = entered.head;
-        way = then(way, Step { place: e, head });
+        way.push_front(Step { place: e, head });
         report = report.add(entered.reason);
         if head.kind == LEAF {
-            return Went { way, report };
+            return Went {
+                way: Some(way),
+                report,
+            };
         }
         e = place_below(t, e.child, head, key, guess);
-        level -= 1;
     }
-    Went {
-        way: no_way(),
-        report,
-    }
+    Went { way: None, report }
 }
 
 // The same way for those who want its leaf alone: of the pages above only the numbers are kept, since a way has 272

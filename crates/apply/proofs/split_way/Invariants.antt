@@ -11,6 +11,3 @@ use Rattle.apply.proofs.split_way.Given as goal
 
 abbrev pub invariant-loop-i : goal.invariant-loop-i
 invariant-loop-i l = (l.i ≤ l.many) × ((s : Session) → Asks l.c l.key l.way l.pages l.many (making l.initial.table s l.initial.at) → Turned l.c l.key l.way l.pages l.many (making l.initial.table s l.initial.at) l.i l.table l.at) × (length l.table ≡ length l.initial.table)
-
-abbrev pub decreases-loop-i : goal.decreases-loop-i
-decreases-loop-i l = l.i

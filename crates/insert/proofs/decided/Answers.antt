@@ -1,27 +1,20 @@
--- `insert::decided`: no pages, a damaged place; else what the plan answers.
+-- `insert::decided`: what the plan answers.
 -- Assumes nothing.
-use Rattle.insert.proofs.Along.{leaf-within, leaf-head, leaf-holds, planning, decided-nowhere, decided_planned}
+use native.Mathlib.Omega.{arith}
+use Rattle.insert.proofs.Along.{leaf-within, leaf-head, leaf-holds, planning, decided_planned}
 use Rattle.insert.proofs.decided.Goals as goal
 
-pub returns-then-way-eq0 : goal.returns-then-way-eq0
-returns-then-way-eq0 c =
-    let args = c.args in
-    λ d. decided-nowhere args.key d.session args.way args.t.now c.if-way-eq0.true
+pub bounds-way-0 : goal.bounds-way-0
+bounds-way-0 c = omega (arith, c.requires.walked.some_page)
 
 pub is_present-present-requires : goal.is_present-present-requires
 is_present-present-requires c =
-    let W = c.requires.walked c.if-way-eq0.false in
+    let W = c.requires.walked in
     (leaf-within W, leaf-head W, leaf-holds W)
 
 pub plan-requires : goal.plan-requires
-plan-requires c =
-    let pre = c.requires in
-    planning (pre.walked c.if-way-eq0.false) pre.counter pre.chosen
+plan-requires c = planning c.requires.walked c.requires.counter c.requires.chosen
 
 pub returns : goal.returns
 returns c =
-    let if1 = c.if-way-eq0 in
-    let is-present = c.is_present-present in
-    let plan = c.plan in
-    let answer-of = c.answer_of in
-    λ d. decided_planned (d.walked if1.false) if1.false is-present.result is-present.ensures plan.result (plan.ensures (planning (d.walked if1.false) d.counter d.chosen)) answer-of.result answer-of.ensures
+    λ d. decided_planned d.walked c.is_present-present.result c.is_present-present.ensures c.plan.result (c.plan.ensures (planning d.walked d.counter d.chosen)) c.answer_of.result c.answer_of.ensures

@@ -2,7 +2,6 @@
 -- Assumes nothing.
 use Prim.Native.Nat.{ℕ}
 use mathlib.Core.Path.{sym, ap, ◌∙◌}
-use borrow.Author.Tests.{not-true, not-false}
 use Rattle.rules.specs.Table.{fit0}
 use Rattle.insert.proofs.Call.{has-page, length-tested, key-tested, zero-tested, all_tested}
 use Rattle.insert.proofs.tested.Goals as goal

@@ -1,9 +1,7 @@
 -- `marks::counts`: the two tests, one after the other.
 -- Assumes nothing.
+use Rattle.marks.proofs.Member.{mem-any}
 use Rattle.marks.proofs.counts.Goals as goal
 
-pub returns-then-s-at : goal.returns-then-s-at
-returns-then-s-at c = rw (c.is_entered.ensures, c.if-s-at.true)
-
-pub returns : goal.returns
-returns c = rw c.if-s-at.false
+pub returns-then-s-i : goal.returns-then-s-i
+returns-then-s-i c = rw (c.contains.ensures.value, mem-any c.args.i c.args.entered.now, c.if-s-i.true)

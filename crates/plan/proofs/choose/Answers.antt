@@ -5,26 +5,14 @@ use native.Mathlib.Omega.{arith}
 use Rattle.plan.proofs.choose.Goals as goal
 
 pub need-requires : goal.need-requires
-need-requires c =
-    let pre = c.requires in
-    let splits = c.splits-many in
-    omega (arith, splits-within c.args.way pre.1 splits.result splits.ensures, pre.1)
+need-requires c = omega (arith, splits-within c.args.way.now c.splits-many.result c.splits-many.ensures, c.requires.1)
 
 pub lowest-requires : goal.lowest-requires
 lowest-requires c =
-    let args = c.args in
-    let pre = c.requires in
-    let splits = c.splits-many in
-    let entered = c.entered in
-    let need = c.need in
-    chosen-asks args.session args.way pre.0 pre.1 splits.result splits.ensures entered.result
-    entered.ensures need.result need.ensures
+    chosen-asks c.args.session c.args.way.now c.requires.0 c.requires.1 c.splits-many.result c.splits-many.ensures
+    c.need.result c.need.ensures
 
 pub returns : goal.returns
 returns c =
-    let args = c.args in
-    let splits = c.splits-many in
-    let entered = c.entered in
-    let need = c.need in
-    c.lowest.ensures ∙ chosen_of args.session args.way splits.result splits.ensures entered.result
-    entered.ensures need.result need.ensures
+    c.lowest.ensures ∙ chosen_of c.args.session c.args.way.now c.splits-many.result c.splits-many.ensures c.as_slice.result.now
+    (c.as_slice.ensures.items ∙ c.entered-entered.ensures) c.need.result c.need.ensures

@@ -1,11 +1,11 @@
 -- `plan::is_late`: a leaf is never late; of an inner page touched decides.
+use borrow.Author.Tests.{eq-eqb}
 use Rattle.plan.proofs.Heads.{late-leaf, late-inner}
 use Rattle.plan.proofs.is_late.Goals as goal
 
-pub returns-then-head-eq-LEAF : goal.returns-then-head-eq-LEAF
-returns-then-head-eq-LEAF c = late-leaf c.args.c c.args.head c.if-head-eq-LEAF.true
+pub returns-then-head-ne-LEAF : goal.returns-then-head-ne-LEAF
+returns-then-head-ne-LEAF c = late-inner c.args.c c.args.head c.if-head-ne-LEAF.true
 
-pub returns : goal.returns
-returns c =
-    let args = c.args in
-    late-inner args.c args.head c.if-head-eq-LEAF.false
+pub returns-else-head-ne-LEAF : goal.returns-else-head-ne-LEAF
+returns-else-head-ne-LEAF c =
+    rw (eq-eqb c.args.head.kind 1 c.if-head-ne-LEAF.false) (late-leaf c.args.c c.args.head c.if-head-ne-LEAF.false)

@@ -16,6 +16,6 @@ returns c =
     let build-root = c.build_root in
     let root_previous_lem = c.root_previous in
     let set-root = c.set_root in
-    λ s. grown args.c args.table.now args.e args.head args.new root_previous_lem.result s
+    λ s. grown args.c args.table.now args.root.place args.root.head args.new root_previous_lem.result s
     build-root.new.table set-root.new.table pre.head build-root.ensures
     root_previous_lem.ensures set-root.ensures

@@ -6,9 +6,9 @@ use Rattle.split.proofs.previous_of.Goals as goal
 pub returns-then-heirs : goal.returns-then-heirs
 returns-then-heirs c =
     let args = c.args in
-    previous_heir args.c args.e args.head (sym c.heirs.ensures ∙ c.if-heirs.true)
+    previous_heir args.c args.step.place args.step.head (sym c.heirs.ensures ∙ c.if-heirs.true)
 
 pub returns : goal.returns
 returns c =
     let args = c.args in
-    previous_self args.c args.e args.head (sym c.heirs.ensures ∙ c.if-heirs.false)
+    previous_self args.c args.step.place args.step.head (sym c.heirs.ensures ∙ c.if-heirs.false)

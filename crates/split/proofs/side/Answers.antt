@@ -5,9 +5,9 @@ use Rattle.split.proofs.side.Goals as goal
 pub returns-then-key-middle : goal.returns-then-key-middle
 returns-then-key-middle c =
     let args = c.args in
-    side-lower args.key args.middle args.lower args.upper c.if-key-middle.true
+    side-lower args.key args.middle args.twins.lower args.twins.upper c.if-key-middle.true
 
 pub returns : goal.returns
 returns c =
     let args = c.args in
-    side-upper args.key args.middle args.lower args.upper c.if-key-middle.false
+    side-upper args.key args.middle args.twins.lower args.twins.upper c.if-key-middle.false

@@ -9,7 +9,6 @@ use Rattle.rules.proofs.Bytes.Tables.{length-page_at}
 use Rattle.head.specs.Head.{nowhere}
 use Rattle.way.proofs.Inner.{leads-kind, leads-room, leads-rise, leads-spot, leads-places, entry-before, rising-keys_in, pick_in}
 use native.Mathlib.Omega.{arith}
-use borrow.Author.Rules.{rules}
 use Rattle.way.proofs.place_below.Goals as goal
 
 pub confirm-spot-requires : goal.confirm-spot-requires
