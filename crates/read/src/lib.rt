@@ -6,8 +6,7 @@
 //
 // The file is read where it lies: no list is made of it, and the loop is bounded by its certificates.
 //
-// Below stand `tables`, which tests lengths, `exchange`, which judges a file and finds its certificates, `insert`, and
-// `numbers`.
+// Below stand `tables`, which tests lengths, `exchange`, which judges a file and finds its certificates, and `insert`.
 
 #![tactic(auto)]
 
