@@ -163,6 +163,8 @@ fn items_judged(f: &[u8], s: Section, over: u32, begun: u32, count: u32, from: u
     requires { from ≤ length f.now }
     ensures { result ≡ items_judged s f.now over count from begun 0 }
 {
+    // The file goes with its byte and is not cut there, since the byte that is told counts from its start. `used` and
+    // `last` are no rank: before the first item they are that of none.
     let width = s.size();
     let mut at = from;
     let mut used = begun;
