@@ -1,8 +1,6 @@
 -- No second outcome satisfies the contract of `batch`, items included. What the contract says of an outcome is written out here too,
 -- and `ensures_is` says that it is the contract's. Assumes nothing.
 use mathlib.Core.Path.{◌≡◌, refl, sym, ◌∙◌}
-use Prim.Native.Nat.{ℕ}
-use mathlib.Core.List.{List}
 use seplogic.Ra.Ura.{Ura}
 use base.Logic.{SProp}
 use prog.Memory.{Memory}

@@ -47,32 +47,24 @@ fn tried(working: &mut [u8], stable: &[u8], made: Batching, item: Item) -> Turne
     ensures { turning result working.new
         ≡ tried_of stable.now (running made working.old) item }
 {
-    let session = made.session;
-    let before = made.report;
     let done = insert::insert(
         working,
         stable,
-        session,
+        made.session,
         item.model,
         item.serial,
         item.issue,
         item.value,
     );
-    let answer = done.answer;
-    let next = done.report;
-    let left = done.session;
     Turned {
         item: Item {
-            model: item.model,
-            serial: item.serial,
-            issue: item.issue,
-            value: item.value,
-            answer: numbers::number(answer),
+            answer: numbers::number(done.answer),
+            ..item
         },
         made: Batching {
             answer: Ok(()),
-            report: before.join(next),
-            session: left,
+            report: made.report.join(done.report),
+            session: done.session,
         },
     }
 }
@@ -82,8 +74,7 @@ fn turn(working: &mut [u8], stable: &[u8], made: Batching, item: Item) -> Turned
     ensures { turning result working.new
         ≡ turn_of stable.now (running made working.old) item }
 {
-    let answer = made.answer;
-    match answer {
+    match made.answer {
         Ok(()) => tried(working, stable, made, item),
         Err(_) => Turned { item, made },
     }
@@ -94,12 +85,10 @@ pub fn batch(working: &mut [u8], stable: &[u8], session: Session, items: &mut [I
         ≡ Batch.batch working.old stable.now session items.old }
 {
     let mut made = begin(working, stable, session);
-    let mut i = 0;
-    while i < items.len() {
+    for i in 0..items.len() {
         let turned = turn(working, stable, made, items[i]);
         items[i] = turned.item;
         made = turned.made;
-        i += 1;
     }
     made
 }

@@ -1,5 +1,5 @@
 -- `batch::batch`: a turn takes the item at its index (Turns); behind the last one the turns are the rules' batch.
-use Rattle.std.proofs.Common.{arith, ◌≡◌, ◌∙◌, sym, ap, length, length-set}
+use Rattle.std.proofs.Common.{arith, ◌<◌, ◌≡◌, ◌∙◌, sym, ap, length, length-set}
 use Rattle.batch.specs.Turns.{Running, running, turning, goes, fills}
 use Rattle.batch.proofs.Turns.{stands_next, filled_next, stands_all, filled_all, turns-batch}
 use Rattle.batch.proofs.batch.Goals as goal
@@ -8,7 +8,7 @@ pub loop-i-preserved : goal.loop-i-preserved
 loop-i-preserved c =
     let l = c.loop-i in
     let t = c.args.stable.now in
-    let below = c.loop-i-test.true in
+    let below : l.i < length l.items = omega (arith, c.loop-i-test.true, l.invariant.long) in
     let m = running l.made l.working in
     let r = turning c.turn-turned.result c.turn-turned.new.working in
     let e = c.turn-turned.ensures in

@@ -1,5 +1,5 @@
 -- `batch::batch`: what all turns make of the items is what stands now and what the turns to come make of those left.
-use Rattle.std.proofs.Common.{length, ◌-◌, ◌≡◌, ◌≤◌, ◌++◌, take, drop}
+use Rattle.std.proofs.Common.{length, ◌≡◌, ◌≤◌, ◌++◌, take, drop}
 use Rattle.batch.specs.Turns.{running, goes, fills}
 use Rattle.batch.proofs.batch.Given as goal
 
@@ -11,6 +11,3 @@ invariant-loop-i l = record {
   filled : fills l.stable (running l.initial.made l.initial.working) l.initial.items
       ≡ take l.i l.items ++ fills l.stable (running l.made l.working) (drop l.i l.items);
 }
-
-abbrev pub decreases-loop-i : goal.decreases-loop-i
-decreases-loop-i l = length l.initial.items - l.i

@@ -1,7 +1,6 @@
 -- `batch::begin`: the lengths, and nothing else.
 -- Assumes nothing.
 use mathlib.Core.Path.{refl, sym, ◌∙◌}
-use borrow.Author.Tests.{not-true, not-false}
 use Rattle.batch.specs.Turns.{begun}
 use Rattle.batch.proofs.begin.Goals as goal
 
