@@ -1,5 +1,5 @@
 -- What is planned along a way is what the rules' chain comes to, and where it is to go on all is ready. Assumes nothing.
-use Rattle.std.specs.Prelude.{Ok, Err}
+use Rattle.std.specs.Prelude.{Ok, Err, is_ok}
 use Prim.Native.Nat.{ℕ, ◌+◌, ◌*◌, ◌≤◌}
 use native.Mathlib.Omega.{arith}
 use mathlib.Core.Path.{◌≡◌, refl, sym, ap, ◌∙◌, subst}
@@ -28,31 +28,21 @@ use Rattle.way.specs.declared.Step.{Step}
 use Rattle.way.proofs.Descent.{length-way}
 use Rattle.lookup.specs.Looks.{looked_in}
 use Rattle.split.specs.Split.{step_at}
-use Rattle.plan.specs.declared.Planned.{Planned}
 use Rattle.plan.specs.Plan.{chosen_by, Planning, plan_of}
 use Rattle.plan.proofs.Pages.{chosen_is}
 use Rattle.apply.specs.Leads.{Stands, Leads, EndsInLeaf, HeadRead, step_on, steps_in, ReadyWay, done}
 use Rattle.apply.proofs.Going.{leads-first}
-use Rattle.insert.specs.Inserts.{left, present_in, answer_of, Walked, decided_on}
+use Rattle.insert.specs.Inserts.{left, present_in, Walked, decided_on}
 
 -- ── The rules' chain, by the plan ───────────────────────────────────────────────────────────────────────────────
 
-done-goes : (p : Planned) → answer_of p ≡ Ok tt → Planned.Go ≡ p
-unfolding answer_of
-done-goes Planned.Present e = let z : ◌≡◌ {A = ℕ} 0 1 = cc in absurd (omega arith)
-done-goes Planned.SyncFirst e = let z : ◌≡◌ {A = ℕ} 0 1 = cc in absurd (omega arith)
-done-goes Planned.Full e = let z : ◌≡◌ {A = ℕ} 0 1 = cc in absurd (omega arith)
-done-goes Planned.Go e = refl
-
 module _ (k x : ℕ) (s : Session) (steps : List rules.Step) (w t : List ℕ) where
-  abbrev planned : Planned
+  abbrev planned : Inserted
   planned = plan_of s (present_in (find k (certs_at steps))) steps
 
-  abbrev left_by : Planned → Left Inserted
-  left_by Planned.Present = insert_refused (Err InsertError.Present) s w t
-  left_by Planned.SyncFirst = insert_refused (Err InsertError.SyncFirst) s w t
-  left_by Planned.Full = insert_refused (Err InsertError.Full) s w t
-  left_by Planned.Go = insert_done k x (counted s) steps w t
+  abbrev left_by : Inserted → Left Inserted
+  left_by (Err e) = insert_refused (Err e) s w t
+  left_by (Ok u) = insert_done k x (counted s) steps w t
 
   along_planned : left_by planned ≡ insert_along k x s steps w t
   unfolding insert_along plan_of present_in
@@ -65,33 +55,31 @@ module _ (k x : ℕ) (s : Session) (steps : List rules.Step) (w t : List ℕ) wh
       go none f false q true r = rw (f, insert_along, q, r) (rw (plan_of, q, r))
       go none f false q false r = rw (f, insert_along, q, r) (rw (plan_of, q, r))
 
-  module _ (a : Inserted) (f : a ≡ answer_of planned) where
+  module _ (a : Inserted) (f : a ≡ planned) where
     pub refused_along : (a ≡ Ok tt → ⊥) → left a s w t ≡ insert_along k x s steps w t
-    unfolding insert_refused answer_of
-    refused_along n = ap (λ (b : Inserted). insert_refused b s w t) f ∙ (go planned (λ e. n (f ∙ e)) ∙ along_planned)
+    unfolding insert_refused
+    refused_along n = go a n ∙ (ap left_by f ∙ along_planned)
       where
-        go : (q : Planned) → (answer_of q ≡ Ok tt → ⊥) → insert_refused (answer_of q) s w t ≡ left_by q
-        go Planned.Present m = refl
-        go Planned.SyncFirst m = refl
-        go Planned.Full m = refl
-        go Planned.Go m = absurd (m refl)
+        go : (q : Inserted) → (q ≡ Ok tt → ⊥) → insert_refused q s w t ≡ left_by q
+        go (Err e) m = refl
+        go (Ok u) m = absurd (m refl)
 
     pub done_along : a ≡ Ok tt → (r : Session) (u : List ℕ) → done r u t ≡ insert_done k x (counted s) steps w t
         → left a r u t ≡ insert_along k x s steps w t
     done_along g r u d =
         ap (λ (b : Inserted). left b r u t) g
-        ∙ (d ∙ (ap left_by (done-goes planned (sym f ∙ g)) ∙ along_planned))
+        ∙ (d ∙ (ap left_by (sym g ∙ f) ∙ along_planned))
 
 module _ (s : Session) (steps : List rules.Step) where
-  never : Planned.Go ≡ Planned.Present → ⊥
+  never : ◌≡◌ {A = Inserted} (Ok tt) (Err InsertError.Present) → ⊥
   never e = let z : ◌≡◌ {A = ℕ} 0 1 = cc in omega arith
 
-  go_absent : (o : Option ℕ) → Planned.Go ≡ plan_of s (present_in o) steps → o ≡ none
+  go_absent : (o : Option ℕ) → (Ok tt) ≡ plan_of s (present_in o) steps → o ≡ none
   unfolding plan_of present_in
   go_absent none e = refl
   go_absent (some y) e = absurd (never e)
 
-  go_room : (b : Bool) → Planned.Go ≡ plan_of s b steps → no_room steps (free_pages s (numbers steps)) ≡ false
+  go_room : (b : Bool) → (Ok tt) ≡ plan_of s b steps → no_room steps (free_pages s (numbers steps)) ≡ false
   unfolding plan_of
   go_room true e = absurd (never e)
   go_room false e = go (too_soon s.c (splitting steps)) refl (no_room steps (free_pages s (numbers steps))) refl
@@ -104,15 +92,10 @@ module _ (s : Session) (steps : List rules.Step) where
 
 -- ── What a refusal is told by ───────────────────────────────────────────────────────────────────────────────────
 
-pub not_found : (o : Option ℕ) (r : Looked) → r ≡ looked_in o → ((x : ℕ) → r ≡ Ok x → ⊥) → false ≡ present_in o
+pub found-present : (o : Option ℕ) (r : Looked) → r ≡ looked_in o → is_ok r ≡ present_in o
 unfolding looked_in present_in
-not_found none r e h = refl
-not_found (some x) r e h = absurd (h x e)
-
-pub is_found_lem : (o : Option ℕ) (x : ℕ) → Ok x ≡ looked_in o → true ≡ present_in o
-unfolding looked_in present_in
-is_found_lem none x e = let z : ◌≡◌ {A = ℕ} 0 1 = cc in absurd (omega arith)
-is_found_lem (some y) x e = refl
+found-present none r e = rw e
+found-present (some x) r e = rw e
 
 -- ── The leaf at the end ─────────────────────────────────────────────────────────────────────────────────────────
 
@@ -167,14 +150,14 @@ module _ {k : ℕ} {t : List ℕ} {s : Session} {w : List Step} (W : Walked k t 
   }
 
   pub decided_planned : (present : Bool) → present ≡ present_in (find k (read t (leaf_of w).place.child).view.certs)
-      → (p : Planned) → p ≡ plan_of s present (steps_in t w) → (a : Inserted) → a ≡ answer_of p → a ≡ decided_on k s w t
+      → (p : Inserted) → p ≡ plan_of s present (steps_in t w) → p ≡ decided_on k s w t
   unfolding decided_on
-  decided_planned present e p h a f =
-      f ∙ ap answer_of (h ∙ ap (λ (b : Bool). plan_of s b (steps_in t w)) (e ∙ ap (λ (cs : List Cert). present_in (find k cs)) certs-leaf))
+  decided_planned present e p h =
+      h ∙ ap (λ (b : Bool). plan_of s b (steps_in t w)) (e ∙ ap (λ (cs : List Cert). present_in (find k cs)) certs-leaf)
 
   -- ── All is ready ──────────────────────────────────────────────────────────────────────────────────────────────
 
-  pub ready : (x : List ℕ) → x ≡ chosen_by s w → answer_of (plan_of s (present_in (find k (certs_at (steps_in t w)))) (steps_in t w)) ≡ Ok tt
+  pub ready : (x : List ℕ) → x ≡ chosen_by s w → plan_of s (present_in (find k (certs_at (steps_in t w)))) (steps_in t w) ≡ Ok tt
       → ReadyWay k t (counted s) w x
   unfolding free_pages
   ready x e d = record {
@@ -193,5 +176,5 @@ module _ {k : ℕ} {t : List ℕ} {s : Session} {w : List Step} (W : Walked k t 
     };
   }
     where
-      goes : Planned.Go ≡ plan_of s (present_in (find k (certs_at (steps_in t w)))) (steps_in t w)
-      goes = done-goes (plan_of s (present_in (find k (certs_at (steps_in t w)))) (steps_in t w)) d
+      goes : (Ok tt) ≡ plan_of s (present_in (find k (certs_at (steps_in t w)))) (steps_in t w)
+      goes = sym d

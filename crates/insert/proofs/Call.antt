@@ -31,7 +31,7 @@ use Rattle.way.proofs.Stood.{WayStands, way-stands}
 use Rattle.way.proofs.Linked.{WayLinked, way-linked}
 use Rattle.plan.specs.Plan.{chosen_by, plan_of}
 use Rattle.apply.specs.Leads.{steps_in, ReadyWay, done}
-use Rattle.insert.specs.Inserts.{left, leaving, present_in, answer_of, Walked, decided_on, Deciding, tested_by}
+use Rattle.insert.specs.Inserts.{left, leaving, present_in, Walked, decided_on, Deciding, tested_by}
 use Rattle.insert.proofs.Went.{Went, went, went-nowhere, steps-here, walked}
 use Rattle.insert.proofs.Along.{refused_along, done_along, ready}
 
@@ -80,7 +80,7 @@ module _ {k : ℕ} {s : Session} {t u : List ℕ} {w : List Step} (G : Going k s
   -- ── The answer ──────────────────────────────────────────────────────────────────────────────────────────────────
 
   module _ (a : Inserted) (f : a ≡ decided_on k s w u) where
-    by_plan : a ≡ answer_of (plan_of s (present_in (find k (certs_at (steps_in u w)))) (steps_in u w))
+    by_plan : a ≡ plan_of s (present_in (find k (certs_at (steps_in u w)))) (steps_in u w)
     unfolding decided_on
     by_plan = f
 

@@ -14,7 +14,6 @@ use Rattle.rules.specs.declared.Inserting.{Inserting}
 use Rattle.rules.proofs.Bytes.All.{All}
 use Rattle.way.specs.declared.Step as way
 use Rattle.plan.specs.Plan.{chosen_by, Headed, plan_of}
-use Rattle.plan.specs.declared.Planned.{Planned}
 use Rattle.apply.specs.Leads.{Whole, Leads, EndsInLeaf, HeadRead, steps_in}
 
 -- what is left, and with the report the whole of it
@@ -29,13 +28,6 @@ unfoldable pub present_in : Option ℕ → Bool
 present_in none = false
 present_in (some x) = true
 
--- the answer of an insert that was planned so
-unfoldable pub answer_of : Planned → Inserted
-answer_of Planned.Present = Err InsertError.Present
-answer_of Planned.SyncFirst = Err InsertError.SyncFirst
-answer_of Planned.Full = Err InsertError.Full
-answer_of Planned.Go = Ok tt
-
 -- a way walked to its end: its pages stand in the table, each below the one that asked for it, the first a leaf
 pub record Walked (k : ℕ) (t : List ℕ) (s : Session) (w : List way.Step) : Type 0 where
   pub whole : Whole s.n s.c t
@@ -49,7 +41,7 @@ pub record Walked (k : ℕ) (t : List ℕ) (s : Session) (w : List way.Step) : T
 
 -- along a way, by the plan. Done: it is to go on
 unfoldable pub decided_on : ℕ → Session → List way.Step → List ℕ → Inserted
-decided_on k s w t = answer_of (plan_of s (present_in (find k (certs_at (steps_in t w)))) (steps_in t w))
+decided_on k s w t = plan_of s (present_in (find k (certs_at (steps_in t w)))) (steps_in t w)
 
 -- what the decision is made of: a session with this counter, its lowest free numbers, and a way walked to its end
 pub record Deciding (c k : ℕ) (t : List ℕ) (w : List way.Step) (x : List ℕ) : Type 0 where

@@ -18,9 +18,8 @@ ghost use Rattle.rules.specs.Reports.{insert_reported};
 ghost use Rattle.rules.specs.declared.Session.{Session};
 ghost use Rattle.head.proofs.Headers.{head_of};
 ghost use Rattle.way.specs.Ways.{Holds};
-ghost use Rattle.insert.specs.Inserts.{leaving, present_in, answer_of, decided_on, Deciding, tested_by};
+ghost use Rattle.insert.specs.Inserts.{leaving, present_in, decided_on, Deciding, tested_by};
 
-use plan::Planned;
 use rules::{InsertError, Inserted, Inserting, Report, Session};
 use way::Step;
 
@@ -30,22 +29,7 @@ fn is_present(table: &[u8], leaf: Step, key: u64) -> bool
         × (leaf.head ≡ head_of (read table.now leaf.place.child)) × (Holds (read table.now leaf.place.child).view) }
     ensures { result ≡ present_in (find key (read table.now leaf.place.child).view.certs) }
 {
-    let Ok(_) = lookup::find_at(table, leaf, key) else {
-        return false;
-    };
-    true
-}
-
-// The answer of an insert that was planned so.
-fn answer_of(planned: Planned) -> Inserted
-    ensures { result ≡ answer_of planned }
-{
-    match planned {
-        Planned::Present => Err(InsertError::Present),
-        Planned::SyncFirst => Err(InsertError::SyncFirst),
-        Planned::Full => Err(InsertError::Full),
-        Planned::Go => Ok(()),
-    }
+    lookup::find_at(table, leaf, key).is_ok()
 }
 
 // The answer along a way, before anything is written: done where the insert is to go on.
@@ -54,7 +38,7 @@ fn decided(t: &[u8], c: u32, key: u64, way: &[Step], chosen: &[u16]) -> Inserted
     ensures { (d : Deciding c key t.now way.now chosen.now) → result ≡ decided_on key d.session way.now t.now }
 {
     let present = is_present(t, way[0], key);
-    answer_of(plan::plan(c, way, present, chosen))
+    plan::plan(c, way, present, chosen)
 }
 
 // The answer of the tests that come before the walk: done where all pass.

@@ -1,4 +1,5 @@
 -- What the headers of a way decide is what the rules decide by its pages. Assumes nothing.
+use Rattle.std.specs.Prelude.{Ok, Err}
 use Prim.Native.Nat.{ℕ, suc}
 use native.Mathlib.Nat.{add-zero, zero-add}
 use mathlib.Core.Path.{◌≡◌, refl, sym, ap, ◌∙◌, subst}
@@ -12,6 +13,8 @@ use Rattle.rules.specs.Page.{View, Page, is_leaf, count}
 use Rattle.rules.specs.Marks.{free_pages}
 use Rattle.rules.specs.Walk.{Step, numbers}
 use Rattle.rules.specs.Insert.{full, splitting, too_soon, root_splits, new_pages, too_high, no_room}
+use Rattle.rules.specs.Answer.{Inserted}
+use Rattle.rules.specs.declared.InsertError.{InsertError}
 use Rattle.rules.specs.declared.Session.{Session}
 use Rattle.rules.proofs.Bytes.All.{All, nil, cons}
 use Rattle.rules.proofs.Entries.Views.{view_of, same_view, Shaped, leaf_kind_lem, inner-kind}
@@ -20,7 +23,6 @@ use Rattle.head.proofs.Headers.{head_of}
 use Rattle.way.specs.Ways.{way_for}
 use Rattle.way.specs.declared.Step as way
 use Rattle.way.proofs.Descent.{length-way}
-use Rattle.plan.specs.declared.Planned.{Planned}
 use Rattle.plan.specs.Plan.{heads_of, full_by, splits_by, late_by, too_soon_by, last_kind, too_high_by, numbers_of, need_by, stuck_by, no_room_by, chosen_by, plan_by, Headed, plan_of}
 use Rattle.plan.proofs.Heads.{full-leaf, full-inner}
 
@@ -106,9 +108,9 @@ high_by (s ∷ ss) = last_by 0 s ss
 
 -- ── The plan ────────────────────────────────────────────────────────────────────────────────────────────────────
 
-abbrev chain : Bool → Bool → Planned
+abbrev chain : Bool → Bool → Inserted
 chain soon short =
-    elim soon [ true ↦ Planned.SyncFirst | false ↦ elim short [ true ↦ Planned.Full | false ↦ Planned.Go ] ]
+    elim soon [ true ↦ Err InsertError.SyncFirst | false ↦ elim short [ true ↦ Err InsertError.Full | false ↦ Ok tt ] ]
 
 module _ {w : List way.Step} {steps : List Step} (h : Headed w steps) where
   heads-are : heads_of w ≡ heads steps

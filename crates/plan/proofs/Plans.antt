@@ -1,4 +1,5 @@
 -- The answers of a plan, one after the other. Assumes nothing.
+use Rattle.std.specs.Prelude.{Ok, Err}
 use Prim.Native.Nat.{ℕ, suc, ◌+◌, ◌-◌, ◌*◌, ◌≤◌, ◌<◌}
 use native.Mathlib.Omega.{arith}
 use mathlib.Core.Path.{◌≡◌, refl, sym, ap, ◌∙◌}
@@ -9,12 +10,12 @@ use lib.ListN.{length, take, get_or}
 use borrow.Author.Tests.{eq-eqb, ne_eqb, lt-ltb, le-ltb}
 use Rattle.rules.specs.Layout.{most_pages, top_kind}
 use Rattle.rules.specs.Marks.{free_pages}
+use Rattle.rules.specs.declared.InsertError.{InsertError}
 use Rattle.rules.specs.declared.Session.{Session}
 use Rattle.head.specs.declared.Head.{Head}
 use Rattle.marks.specs.Lowest.{most_new}
 use Rattle.marks.proofs.Needed.{lowest_fewer}
 use Rattle.way.specs.declared.Step.{Step}
-use Rattle.plan.specs.declared.Planned.{Planned}
 use Rattle.plan.specs.Plan.{heads_of, full_by, splits_by, too_soon_by, last_kind, too_high_by, numbers_of, need_by, stuck_by, no_room_by, chosen_by, plan_by}
 use Rattle.plan.proofs.Heads.{length-heads, head-at}
 
@@ -101,31 +102,31 @@ module _ (s : Session) (w : List Step) where
   unfolding chosen_by
   fewer x f = ap (λ (y : List ℕ). ltb (length y) (need_by (length w) many)) f ∙ lowest_fewer (need_by (length w) many) free
 
-  pub plan-present : Planned.Present ≡ plan_by s true w
+  pub plan-present : (Err InsertError.Present) ≡ plan_by s true w
   unfolding plan_by
   plan-present = refl
 
-  pub plan_soon : true ≡ too_soon_by s.c (take many (heads_of w)) → Planned.SyncFirst ≡ plan_by s false w
+  pub plan_soon : true ≡ too_soon_by s.c (take many (heads_of w)) → (Err InsertError.SyncFirst) ≡ plan_by s false w
   unfolding plan_by
   plan_soon q = rw (← q, plan_by)
 
   module _ (q : false ≡ too_soon_by s.c (take many (heads_of w))) where
-    plan-full : no_room_by w many free ≡ true → Planned.Full ≡ plan_by s false w
+    plan-full : no_room_by w many free ≡ true → (Err InsertError.Full) ≡ plan_by s false w
     unfolding plan_by
     plan-full n = rw (← q, n, plan_by)
 
-    plan-room : no_room_by w many free ≡ false → Planned.Go ≡ plan_by s false w
+    plan-room : no_room_by w many free ≡ false → (Ok tt) ≡ plan_by s false w
     unfolding plan_by
     plan-room n = rw (← q, n, plan_by)
 
-    pub plan_stuck : true ≡ stuck_by w many → Planned.Full ≡ plan_by s false w
+    pub plan_stuck : true ≡ stuck_by w many → (Err InsertError.Full) ≡ plan_by s false w
     plan_stuck h = plan-full (stuck_full h)
 
     module _ (x : List ℕ) (f : x ≡ chosen_by s w) where
-      pub plan-few : length x < need_by (length w) many → Planned.Full ≡ plan_by s false w
+      pub plan-few : length x < need_by (length w) many → (Err InsertError.Full) ≡ plan_by s false w
       plan-few l = plan-full (few-full (sym (fewer x f) ∙ lt-ltb (length x) (need_by (length w) many) l))
 
-      pub plan_go : false ≡ stuck_by w many → need_by (length w) many ≤ length x → Planned.Go ≡ plan_by s false w
+      pub plan_go : false ≡ stuck_by w many → need_by (length w) many ≤ length x → (Ok tt) ≡ plan_by s false w
       plan_go h l = plan-room (room-left (sym (fewer x f) ∙ le-ltb (length x) (need_by (length w) many) l) h)
 
 -- ── The numbers ─────────────────────────────────────────────────────────────────────────────────────────────────

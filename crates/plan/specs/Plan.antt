@@ -1,17 +1,18 @@
 -- What an insert has to do, decided before anything is written by the headers of the pages on the key's way, leaf first.
 -- The laws beside it say that this is what the rules decide by the pages themselves.
-use Rattle.std.specs.Prelude.{ℕ, suc, ◌+◌, ◌*◌, ◌≤◌, ◌≡◌, Bool, true, false, not, ◌&&◌, ◌||◌, List, [], ◌∷◌, leb, ltb, eqb, length, take}
+use Rattle.std.specs.Prelude.{ℕ, suc, ◌+◌, ◌*◌, ◌≤◌, ◌≡◌, Bool, true, false, not, ◌&&◌, ◌||◌, List, [], ◌∷◌, leb, ltb, eqb, length, take, Ok, Err}
 use Rattle.rules.specs.Layout.{leaf_room, inner_room, leaf_kind, top_kind}
 use Rattle.rules.specs.Marks.{free_pages}
 use Rattle.rules.specs.Walk.{Step, numbers}
 use Rattle.rules.specs.Insert.{splitting, too_soon, no_room}
+use Rattle.rules.specs.Answer.{Inserted}
+use Rattle.rules.specs.declared.InsertError.{InsertError}
 use Rattle.rules.specs.declared.Session.{Session}
 use Rattle.rules.proofs.Bytes.All.{All}
 use Rattle.rules.proofs.Entries.Views.{Shaped}
 use Rattle.head.specs.declared.Head.{Head}
 use Rattle.way.specs.declared.Step as way
 use Rattle.way.specs.Ways.{way_for}
-use Rattle.plan.specs.declared.Planned.{Planned}
 
 -- ── By headers ──────────────────────────────────────────────────────────────────────────────────────────────────
 
@@ -66,14 +67,14 @@ unfoldable pub chosen_by : Session → List way.Step → List ℕ
 chosen_by s w = take (need_by (length w) (splits_by (heads_of w))) (free_pages s (numbers_of w))
 
 -- 5, then 6, then 7, or go on
-unfoldable pub plan_by : Session → Bool → List way.Step → Planned
+unfoldable pub plan_by : Session → Bool → List way.Step → Inserted
 plan_by s present w =
     elim present [
-      | true ↦ Planned.Present
+      | true ↦ Err InsertError.Present
       | false ↦ elim (too_soon_by s.c (take (splits_by (heads_of w)) (heads_of w))) [
-        | true ↦ Planned.SyncFirst
+        | true ↦ Err InsertError.SyncFirst
         | false ↦ elim (no_room_by w (splits_by (heads_of w)) (free_pages s (numbers_of w)))
-            [ true ↦ Planned.Full | false ↦ Planned.Go ]
+            [ true ↦ Err InsertError.Full | false ↦ Ok tt ]
       ]
     ]
 
@@ -95,12 +96,12 @@ pub record Planning (c : ℕ) (w : List way.Step) (x : List ℕ) : Type 0 where
   pub chosen : x ≡ chosen_by session w
 
 -- the rules' refusals of an insert, in their order
-unfoldable pub plan_of : Session → Bool → List Step → Planned
+unfoldable pub plan_of : Session → Bool → List Step → Inserted
 plan_of s present steps =
     elim present [
-      | true ↦ Planned.Present
+      | true ↦ Err InsertError.Present
       | false ↦ elim (too_soon s.c (splitting steps)) [
-        | true ↦ Planned.SyncFirst
-        | false ↦ elim (no_room steps (free_pages s (numbers steps))) [ true ↦ Planned.Full | false ↦ Planned.Go ]
+        | true ↦ Err InsertError.SyncFirst
+        | false ↦ elim (no_room steps (free_pages s (numbers steps))) [ true ↦ Err InsertError.Full | false ↦ Ok tt ]
       ]
     ]

@@ -15,16 +15,8 @@ ghost use Rattle.plan.specs.Plan.{heads_of, full_by, splits_by, late_by, too_soo
 use few::Few;
 use head::Head;
 use marks::NEW;
-use rules::{INNER_ROOM, LEAF, LEAF_ROOM, LEVELS, Session, TOP};
+use rules::{INNER_ROOM, InsertError, Inserted, LEAF, LEAF_ROOM, LEVELS, Session, TOP};
 use way::Step;
-
-#[derive(Clone, Copy)]
-pub enum Planned {
-    Present,
-    SyncFirst,
-    Full,
-    Go,
-}
 
 // A page that has no room for one entry more.
 pub fn is_full(head: Head) -> bool
@@ -99,22 +91,22 @@ pub fn choose(session: Session, way: &[Step]) -> Few<u16, NEW>
 }
 
 // Refused, or to go on. Of the session the counter is enough: the free pages are known by the numbers chosen.
-pub fn plan(c: u32, way: &[Step], present: bool, chosen: &[u16]) -> Planned
+pub fn plan(c: u32, way: &[Step], present: bool, chosen: &[u16]) -> Inserted
     requires { Planning c way.now chosen.now }
     ensures { (p : Planning c way.now chosen.now) → result ≡ plan_of p.session present p.steps }
 {
     if present {
-        return Planned::Present;
+        return Err(InsertError::Present);
     }
     let many = splits(way);
     if too_soon(c, &way[..many]) {
-        return Planned::SyncFirst;
+        return Err(InsertError::SyncFirst);
     }
     if is_stuck(way, many) {
-        return Planned::Full;
+        return Err(InsertError::Full);
     }
     if chosen.len() < need(way, many) {
-        return Planned::Full;
+        return Err(InsertError::Full);
     }
-    Planned::Go
+    Ok(())
 }

@@ -17,4 +17,4 @@ plan-requires c = planning c.requires.walked c.requires.counter c.requires.chose
 
 pub returns : goal.returns
 returns c =
-    λ d. decided_planned d.walked c.is_present-present.result c.is_present-present.ensures c.plan.result (c.plan.ensures (planning d.walked d.counter d.chosen)) c.answer_of.result c.answer_of.ensures
+    λ d. decided_planned d.walked c.is_present-present.result c.is_present-present.ensures c.plan.result (c.plan.ensures (planning d.walked d.counter d.chosen))
