@@ -81,7 +81,7 @@ pub fn insert(
     let key = keys::key_of(model, serial, issue);
     let went = way::way_of(working, session.n as usize, session.c, key);
     let report = went.report;
-    let Some(way) = went.way else {
+    let Some(way) = &went.way else {
         return Inserting {
             answer: Err(InsertError::Damaged),
             report,
@@ -89,7 +89,7 @@ pub fn insert(
         };
     };
     let steps = way.as_slice();
-    let chosen = plan::choose(session, steps);
+    let chosen = plan::choose(&session, steps);
     let pages = chosen.as_slice();
     let answer = decided(working, session.c, key, steps, pages);
     let Ok(()) = answer else {

@@ -73,17 +73,17 @@ pub fn opened(n: u16, c: u32, total: u32, children: [bool; MOST], spared: [bool;
 }
 
 // Whether a page counts as free: it is, and was not entered.
-fn counts(s: Session, entered: &[u16], i: u16) -> bool
+fn counts(s: &Session, entered: &[u16], i: u16) -> bool
     requires { i < most_pages }
-    ensures { result ≡ counts_free s entered.now i }
+    ensures { result ≡ counts_free s.now entered.now i }
 {
     s.free[i as usize] && !entered.contains(&i)
 }
 
 // The lowest free page at or above a number.
-pub fn first_free(s: Session, entered: &[u16], from: u16) -> Option<u16>
-    requires { s.n ≤ most_pages }
-    ensures { result ≡ first_of (free_from s entered.now from) }
+pub fn first_free(s: &Session, entered: &[u16], from: u16) -> Option<u16>
+    requires { s.now.n ≤ most_pages }
+    ensures { result ≡ first_of (free_from s.now entered.now from) }
 {
     for i in from..s.n {
         if counts(s, entered, i) {
@@ -94,9 +94,9 @@ pub fn first_free(s: Session, entered: &[u16], from: u16) -> Option<u16>
 }
 
 // The numbers for the new pages of one insert, lowest first: as many as are needed, or as are there.
-pub fn lowest(s: Session, entered: &[u16], need: usize) -> Few<u16, NEW>
-    requires { (s.n ≤ most_pages) × (need ≤ most_new) }
-    ensures { result ≡ take need (free_pages s entered.now) }
+pub fn lowest(s: &Session, entered: &[u16], need: usize) -> Few<u16, NEW>
+    requires { (s.now.n ≤ most_pages) × (need ≤ most_new) }
+    ensures { result ≡ take need (free_pages s.now entered.now) }
 {
     let mut pages = Few::new();
     let mut from = 1;

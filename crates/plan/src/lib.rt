@@ -81,9 +81,9 @@ fn entered(way: &[Step]) -> Few<u16, LEVELS>
 }
 
 // The numbers of the new pages, lowest first; fewer than are needed where fewer are free.
-pub fn choose(session: Session, way: &[Step]) -> Few<u16, NEW>
-    requires { (session.n ≤ most_pages) × (length way.now ≤ top_kind) }
-    ensures { result ≡ chosen_by session way.now }
+pub fn choose(session: &Session, way: &[Step]) -> Few<u16, NEW>
+    requires { (session.now.n ≤ most_pages) × (length way.now ≤ top_kind) }
+    ensures { result ≡ chosen_by session.now way.now }
 {
     let many = splits(way);
     let entered = entered(way);

@@ -70,7 +70,7 @@ known c p =
     let l = lengths_for_true args.session args.working.now args.stable.now p.lengths in
     let u = c.way_of-went.new.t in
     let way-is = ap (λ (y : Reported Walking). y.left) c.way_of-went.ensures in
-    let same = ap Some (c.as_slice-steps.ensures.items ∙ c.in-Some.way-is) ∙ sym c.in-Some.is in
+    let same = ap Some c.as_slice-steps.ensures.items ∙ sym c.in-Some.is in
     going c.key_of-key.result args.session args.working.now l.working p.zero c.slice_known-1.given (omega (arith, c.well_formed))
     (omega (arith, c.key_of-key.type_inv)) u c.as_slice-steps.result.now (ap (walking u) same ∙ way-is) l.most
     (omega (arith, c.way_of-went.auto.t, l.working)) c.slice_known-2-1.given

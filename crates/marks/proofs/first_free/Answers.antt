@@ -14,13 +14,13 @@ returns-then-counts c =
     let args = c.args in
     let loop = c.loop-i in
     rw
-    (loop.invariant, free-here args.s args.entered.now loop.i c.loop-i-test.true (sym c.counts.ensures ∙ c.if-counts.true))
+    (loop.invariant, free-here args.s.now args.entered.now loop.i c.loop-i-test.true (sym c.counts.ensures ∙ c.if-counts.true))
 
 pub loop-i-preserved : goal.loop-i-preserved
 loop-i-preserved c =
     let args = c.args in
     let loop = c.loop-i in
-    loop.invariant ∙ free-later args.s args.entered.now loop.i c.loop-i-test.true
+    loop.invariant ∙ free-later args.s.now args.entered.now loop.i c.loop-i-test.true
     (sym c.counts.ensures ∙ c.if-counts.false)
 
 pub returns : goal.returns
@@ -28,4 +28,4 @@ unfolding first_of
 returns c =
     let args = c.args in
     let loop = c.loop-i in
-    rw (loop.invariant, free-end args.s args.entered.now loop.i c.loop-i-test.false)
+    rw (loop.invariant, free-end args.s.now args.entered.now loop.i c.loop-i-test.false)

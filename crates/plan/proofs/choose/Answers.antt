@@ -9,10 +9,10 @@ need-requires c = omega (arith, splits-within c.args.way.now c.splits-many.resul
 
 pub lowest-requires : goal.lowest-requires
 lowest-requires c =
-    chosen-asks c.args.session c.args.way.now c.requires.0 c.requires.1 c.splits-many.result c.splits-many.ensures
+    chosen-asks c.args.session.now c.args.way.now c.requires.0 c.requires.1 c.splits-many.result c.splits-many.ensures
     c.need.result c.need.ensures
 
 pub returns : goal.returns
 returns c =
-    c.lowest.ensures ∙ chosen_of c.args.session c.args.way.now c.splits-many.result c.splits-many.ensures c.as_slice.result.now
+    c.lowest.ensures ∙ chosen_of c.args.session.now c.args.way.now c.splits-many.result c.splits-many.ensures c.as_slice.result.now
     (c.as_slice.ensures.items ∙ c.entered-entered.ensures) c.need.result c.need.ensures
