@@ -80,7 +80,9 @@ fn entered(way: &[Step]) -> Few<u16, LEVELS>
     numbers
 }
 
-// The numbers of the new pages, lowest first; fewer than are needed where fewer are free.
+// The numbers of the new pages, lowest first; fewer than are needed where fewer are free. It is a function of its own in the
+// object code, as `way_of` is: in line, its lists would lie on an insert's stack too.
+#[inline(never)]
 pub fn choose(session: &Session, way: &[Step]) -> Few<u16, NEW>
     requires { (session.now.n ≤ most_pages) × (length way.now ≤ top_kind) }
     ensures { result ≡ chosen_by session.now way.now }

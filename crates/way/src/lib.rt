@@ -120,6 +120,9 @@ pub fn spot_at(table: &[u8], i: u16, count: u16, key: u64, guess: usize) -> usiz
     seek::confirm(page, Entries::certs(count as usize), key, guess)
 }
 
+// A function of its own in the object code: in line, the way that it makes would lie on an insert's stack beside the one that
+// it hands back.
+#[inline(never)]
 pub fn way_of(t: &mut [u8], n: usize, c: u32, key: u64) -> Went
     requires { (length t.old ≡ n * page_size) × (fit0 n t.old ≡ true) }
     ensures { went t.new result
