@@ -18,7 +18,24 @@
 //     write_file  the exchange file of all certificates, into a lent output
 //     sync      stable becomes a copy of working
 //
-// What the answers mean; where more than one would do, the one named first is given:
+// Each answer is a `Result`. `Err` holds why a call is refused, by an error enum that has the refusals of this call and
+// no others; `Ok` holds what a call that is done tells. The enums are declared in `rules`, `ReadError` in `exchange`
+// and `WriteError` in `write`. `format` hands back its answer alone, every other call a struct: its `answer`, the
+// session and, if it walks, the report of what it mended.
+//
+//     format, batch             Ok(()), or LengthError: Length
+//     open                      Ok(()), or OpenError: Length, Damaged, Spent
+//     insert                    Ok(()), or InsertError: Length, BadKey, Damaged, Present, SyncFirst, Full
+//     withdraw                  Ok(()), or FindError: Length, BadKey, Damaged, Missing
+//     lookup                    Ok(record), or FindError
+//     newest                    Ok(Latest), the issue and the record, or FindError
+//     has_any                   Ok(true) or Ok(false), or AnyError: Length, BadKey, Damaged
+//     list                      Ok(count) of the places filled, or ListError: Length, Damaged
+//     read_file                 Ok(count) of the certificates done, or ReadError: Length, File(byte)
+//     write_file                Ok(length) of the file, or WriteError: Length, Damaged, Short
+//     sync                      Ok(()), or SyncError: Length, Spent
+//
+// What the refusals mean; where more than one would do, the one named first is given:
 //
 //     Length     a table's length is wrong, the two differ, or the session is that of other tables
 //     File       read_file: the bytes are not the file of any set of certificates; nothing is inserted
@@ -30,7 +47,6 @@
 //     Full       insert: too few pages are free; sync, and try again
 //     Spent      open, sync: the counter is at its end
 //     Short      write_file: the output cannot hold the file
-//     Done, Found, Yes, No, Filled   none of these: the call did what it is for
 //
 // What a refused call leaves: the session as it was handed in, the stable table, the lists and the output as they were,
 // and in the working table nothing changed but pages that the call mended on its way; a mended page holds those entries
@@ -38,8 +54,9 @@
 // `open`, and at a crash.
 //
 // Each contract is one equation with the rule of that name: answer, session and every byte lent are the rule's. What
-// the rules promise of crashes is the theorem `demand3` of `rules`. Stack: no function takes more than 2 KiB, as `tools/frames`
-// reads off the object code, and no call holds more in local arrays but `batch`, whose functions keep eleven sessions' marks.
+// the rules promise of crashes is the theorem `demand3` of `rules`. Stack: no function takes more than 2 KiB, as
+// `tools/frames` reads off the object code, and no call holds more in local arrays but `batch`, whose functions' frames
+// have room for eleven sessions' marks at most.
 //
 // Of a session a call that only reads needs two numbers, n and c, and hands it back as it came. Its lean form,
 // `lean_lookup` and so on, takes them instead and hands no session back. It promises of every session with these
@@ -78,7 +95,7 @@ use rules::{
 };
 use write::Writing;
 
-// Answers Done or Length. The working table is only measured.
+// `Ok(())`, or `LengthError`: `Length`. The working table is only measured.
 pub fn format(working: &[u8], stable: &mut [u8]) -> Formatted
     ensures { Formats.formatting result stable.new
         ≡ Format.format working.now stable.old }
@@ -86,8 +103,8 @@ pub fn format(working: &[u8], stable: &mut [u8]) -> Formatted
     format::format(working, stable)
 }
 
-// Answers Done, Length, Damaged or Spent. A refused opening hands out the session of nobody, with which every other call
-// answers Length.
+// `Ok(())`, or `OpenError`: `Length`, `Damaged` or `Spent`. A refused opening hands out the session of nobody, with
+// which every call that takes a session is refused for `Length`.
 pub fn open(working: &mut [u8], stable: &mut [u8]) -> Opening
     ensures { Opens.left result working.new stable.new
         ≡ Open.opening working.old stable.old }
@@ -95,7 +112,7 @@ pub fn open(working: &mut [u8], stable: &mut [u8]) -> Opening
     opening::open(working, stable)
 }
 
-// Answers Done, Length, BadKey, Damaged, Present, SyncFirst or Full.
+// `Ok(())`, or `InsertError`: `Length`, `BadKey`, `Damaged`, `Present`, `SyncFirst` or `Full`.
 pub fn insert(
     working: &mut [u8],
     stable: &[u8],
@@ -111,7 +128,7 @@ pub fn insert(
     insert::insert(working, stable, session, model, serial, issue, value)
 }
 
-// Answers Done, Length, BadKey, Damaged or Missing.
+// `Ok(())`, or `FindError`: `Length`, `BadKey`, `Damaged` or `Missing`.
 pub fn withdraw(
     working: &mut [u8],
     stable: &[u8],
@@ -126,8 +143,8 @@ pub fn withdraw(
     withdraw::withdraw(working, stable, session, model, serial, issue)
 }
 
-// Answers Done or Length. Done: each item has got the answer that an insert of it would give, as a number, 1 never
-// among them.
+// `Ok(())`, or `LengthError`: `Length`. If it is done, each item has got the answer that an insert of it would give, as
+// a number, 1 never among them.
 pub fn batch(working: &mut [u8], stable: &[u8], session: Session, items: &mut [Item]) -> Batching
     ensures { Turns.leaving result working.new stable.now items.new
         ≡ Batch.batch working.old stable.now session items.old }
@@ -135,8 +152,8 @@ pub fn batch(working: &mut [u8], stable: &[u8], session: Session, items: &mut [I
     batch::batch(working, stable, session, items)
 }
 
-// Answers Done with how many certificates of the file were done, Length, or File with the byte where its first bad item
-// begins.
+// `Ok` with how many certificates of the file were done, or `ReadError`: `Length`, or `File` with the byte where its
+// first bad item begins.
 pub fn read_file(working: &mut [u8], stable: &[u8], session: Session, file: &[u8]) -> Reading
     ensures { Readings.leaving result working.new stable.now
         ≡ read_file working.old stable.now session file.now }
@@ -144,7 +161,7 @@ pub fn read_file(working: &mut [u8], stable: &[u8], session: Session, file: &[u8
     read::read_file(working, stable, session, file)
 }
 
-// Answers Found with the record, Length, BadKey, Damaged or Missing.
+// `Ok` with the record, or `FindError`: `Length`, `BadKey`, `Damaged` or `Missing`.
 pub fn lookup(
     working: &mut [u8],
     stable: &[u8],
@@ -159,7 +176,7 @@ pub fn lookup(
     lookup::lookup(working, stable, session, model, serial, issue)
 }
 
-// Answers Found with the issue and the record, Length, BadKey, Damaged or Missing.
+// `Ok` with the largest issue and its record, a `Latest`, or `FindError`: `Length`, `BadKey`, `Damaged` or `Missing`.
 pub fn newest(
     working: &mut [u8],
     stable: &[u8],
@@ -173,8 +190,8 @@ pub fn newest(
     newest::newest(working, stable, session, model, serial)
 }
 
-// Answers Yes, No, Length, BadKey or Damaged. Provisional certificates count; what lies beyond the first one found is not
-// looked at.
+// `Ok(true)` or `Ok(false)`, or `AnyError`: `Length`, `BadKey` or `Damaged`. Provisional certificates count; what lies
+// beyond the first one found is not looked at.
 pub fn has_any(
     working: &mut [u8],
     stable: &[u8],
@@ -188,8 +205,8 @@ pub fn has_any(
     any::has_any(working, stable, session, model, serial)
 }
 
-// Answers Filled with how many places of both lists it filled, Length or Damaged. A start is any number: a key is model
-// times 2^48, serial times 2^16 and issue.
+// `Ok` with how many places of both lists it filled, or `ListError`: `Length` or `Damaged`. A start is any number: a
+// key is model times 2^48, serial times 2^16 and issue.
 pub fn list(
     working: &mut [u8],
     stable: &[u8],
@@ -204,7 +221,7 @@ pub fn list(
     list::list(working, stable, session, start, keys, records)
 }
 
-// Answers Done with the file's length, Length, Damaged or Short.
+// `Ok` with the file's length, or `WriteError`: `Length`, `Damaged` or `Short`.
 pub fn write_file(working: &mut [u8], stable: &[u8], session: Session, out: &mut [u8]) -> Writing
     ensures { Calls.leaving result working.new stable.now out.new
         ≡ write_reported working.old stable.now session out.old }
@@ -212,7 +229,7 @@ pub fn write_file(working: &mut [u8], stable: &[u8], session: Session, out: &mut
     write::write_file(working, stable, session, out)
 }
 
-// Answers Done, Length or Spent.
+// `Ok(())`, or `SyncError`: `Length` or `Spent`.
 pub fn sync(working: &mut [u8], stable: &mut [u8], session: Session) -> Syncing
     ensures { Syncs.left result working.new stable.new
         ≡ Sync.sync working.old stable.old session }
