@@ -5,8 +5,8 @@
 // is one equation with specs/Acts.antt, which says a line's effect in the rules' words: what is to be printed, session
 // and every byte of both tables.
 //
-// Below stand `lines`, which reads, `words`, for what is to be printed, `numbers`, for the number of an answer, `tables`
-// and the calls insert, lookup, sync and open.
+// Below stand `lines`, which reads, `words`, for what is to be printed, `numbers`, for the number of an answer, `head`,
+// for a page of a table, and the calls insert, lookup, sync and open.
 
 #![tactic(auto)]
 

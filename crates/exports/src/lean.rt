@@ -6,7 +6,8 @@
 // Each contract is that of the call: for every session with these numbers, what is handed back, with that session beside
 // it, and every byte lent are the rule's.
 //
-// Below stand `store`, `numbers`, `write` for the numbers of its answers, and `rules`.
+// Below stand `store`, `numbers`, for the number of an answer and those beside it, `write`, for a file's length, and
+// `rules`.
 ghost use Rattle.std.specs.Prelude.{◌≡◌};
 ghost use Rattle.rules.specs.Reports.{lookup_reported, newest_reported, has_any_reported, list_reported};
 ghost use Rattle.rules.specs.declared.Session.{Session};

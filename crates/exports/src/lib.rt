@@ -12,7 +12,8 @@
 //
 // `kh_batch` is lent a slice of structs: it hands its slices on and leaves the numbers to `delivered`.
 //
-// Below stand `store`, `insert`, `numbers`, `write` and `read` for the numbers of their answers, and `rules`.
+// Below stand `store`, `insert`, `numbers`, for the number of an answer and those beside it, `write`, for a file's
+// length, `read`, for how many were done and for a byte's place, and `rules`.
 
 #![tactic(auto)]
 
