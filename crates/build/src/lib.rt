@@ -88,7 +88,7 @@ fn run_in(page: &[u8], low: u64, high: u64) -> Run
     }
 }
 
-// How many entries of a full page of this kind its lower half takes.
+// How many entries of a full page of this kind its lower half takes. By the kind's number, as the rules have it.
 fn half_of(kind: u16) -> usize
     ensures { result ≡ half_of kind }
 {

@@ -109,6 +109,7 @@ pub fn count_of(table: Table<'_>) -> Result<Tally, Tally>
     let mut at = Cursor::AtRoot;
     let mut tally = Tally::default();
     let mut mended = [false; MOST];
+    // No index: each leaf adds what it has, and the walk ends when there is no more room.
     while tally.certs < a.room {
         let Ok(next) = dry::next_leaf(table, a, at, &mut mended) else {
             return Err(tally);

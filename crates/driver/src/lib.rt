@@ -30,7 +30,8 @@ pub type Table = [u8; BYTES];
 
 const NEWLINE: u8 = b'\n';
 
-// What a line leaves beside the tables: what is to be printed, and the session.
+// What a line leaves beside the tables: what is to be printed, and the session. `Turn` and `Step` are two structs,
+// since the theorems read them by these names.
 #[derive(Clone, Copy)]
 pub struct Turn {
     pub reply: Reply,
@@ -94,7 +95,7 @@ fn crash_line(
     }
 }
 
-// One line's effect: the call that it asks for.
+// One line's effect: the call that it asks for. Tables and session go apart, as every call takes them.
 pub fn act(working: &mut Table, stable: &mut Table, session: Session, line: Line) -> Turn
     ensures { turn_left result working.new stable.new
         ≡ acted line session working.old stable.old }

@@ -106,6 +106,7 @@ pub struct LeafAt {
 // A place that is next: its level, counted as kinds are, the root's 3; the pages above it; and the way behind it.
 #[derive(Clone, Copy)]
 pub struct Spot {
+    // A number, since the rules count it down.
     pub level: usize,
     pub parent: u16,
     pub top: u16,
@@ -402,6 +403,7 @@ pub fn dry_of(table: Table<'_>, a: Asked) -> Result<Dry, Dry>
     let mut at = Cursor::AtRoot;
     let mut count = 0;
     let mut mended = [false; MOST];
+    // No index: each leaf adds what it has, and the walk ends when there is no more room.
     while count < a.room {
         let Ok(next) = next_leaf(table, a, at, &mut mended) else {
             return Err(Dry { count, mended });

@@ -41,7 +41,7 @@ pub fn clear(bytes: &mut [u8], at: usize, end: usize)
     bytes[at..end].fill(0);
 }
 
-// An entry of a leaf.
+// An entry of a leaf. Two numbers that nobody holds as one value.
 pub fn write_cert(page: &mut [u8], at: usize, key: u64, value: u32)
     requires { at + cert_size ≤ length page.old }
     ensures { page.new ≡ sets page.old at (cert_bytes (new_cert key value)) }

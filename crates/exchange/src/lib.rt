@@ -97,7 +97,8 @@ impl Rank {
     }
 }
 
-// The file's sections, in its order.
+// The file's sections, in its order. An enum and no trait: one loop walks all three, and wants an item's size and rank
+// of each.
 #[derive(Clone, Copy, PartialEq, Eq, Debug)]
 pub enum Section {
     Models,

@@ -63,7 +63,8 @@ fn start(page: &[u8], count: usize, low: u64) -> usize
     spot(page, count, low - 1)
 }
 
-// So many certificates of a leaf, from one on, into the lists behind those found.
+// So many certificates of a leaf, from one on, into the lists behind those found. By index: one page fills two lists at
+// one offset.
 fn copy(
     page: &[u8],
     first: usize,
@@ -116,6 +117,7 @@ pub fn fill_known(t: Table<'_>, a: Asked, keys: &mut [u64], records: &mut [u32])
     let mut at = Cursor::AtRoot;
     let mut filled = 0;
     let mut mended = [false; MOST];
+    // No index: each leaf adds what it has, and the walk ends when there is no more room.
     while filled < a.room {
         let Some(leaf) = dry::next_known(t, a, at, &mut mended) else {
             return filled;
@@ -144,6 +146,7 @@ pub fn fill(
 {
     let mut walk = Leaves::over(a.low, a.high);
     let mut filled = 0;
+    // No index: each leaf adds what it has, and the walk ends when there is no more room.
     while filled < a.room {
         let Some(Ok(leaf)) = walk.next(t, n, c) else {
             break;

@@ -83,6 +83,7 @@ pub fn page_at(table: &[u8], i: usize) -> &[u8]
     &table[from..from + PAGE]
 }
 
+// Each field at its offset: no derive reads bytes.
 pub fn read_head(page: &[u8]) -> Head
     requires { common_header ≤ length page.now }
     ensures { result ≡ head_in page.now }

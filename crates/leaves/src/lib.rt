@@ -40,7 +40,7 @@ pub struct Leaf {
     pub report: Report,
 }
 
-// The cursor of a first step: nothing is kept.
+// The cursor of a first step: nothing is kept. Named, since the contracts call it no_cursor.
 pub fn start() -> Above
     ensures { result ≡ no_cursor }
 {

@@ -41,7 +41,7 @@ pub fn turn(s: Session) -> Session
     t.raise()
 }
 
-// What a refused opening hands out.
+// What a refused opening hands out. No Default: std has none for arrays of 128.
 pub fn nobody() -> Session
     ensures { result ≡ Rattle.rules.specs.Marks.nobody }
 {
@@ -55,7 +55,8 @@ pub fn nobody() -> Session
 }
 
 // What an opening hands out, from the number of certificates and the marks of the numbers that its tree names: as child,
-// and as the previous page of a lost entry.
+// and as the previous page of a lost entry. Two arrays by page number, as the walk notes them and the session has them:
+// there is no heap.
 pub fn opened(n: u16, c: u32, total: u32, children: [bool; MOST], spared: [bool; MOST]) -> Session
     ensures { result ≡ opened_by n c total children spared }
 {

@@ -92,7 +92,8 @@ pub fn choose(session: &Session, way: &[Step]) -> Few<u16, NEW>
     marks::lowest(session, entered.as_slice(), need(way, many))
 }
 
-// Refused, or to go on. Of the session the counter is enough: the free pages are known by the numbers chosen.
+// Refused, or to go on. Of the session the counter is enough: the free pages are known by the numbers chosen. The way
+// is what was walked, the numbers are what was chosen.
 pub fn plan(c: u32, way: &[Step], present: bool, chosen: &[u16]) -> Inserted
     requires { Planning c way.now chosen.now }
     ensures { (p : Planning c way.now chosen.now) → result ≡ plan_of p.session present p.steps }

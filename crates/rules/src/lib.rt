@@ -106,7 +106,7 @@ pub const LARGEST_ISSUE: u16 = 65535;
 pub const LAST_NUMBER: u32 = 4294967293;
 
 // A place: what a parent's entry asks of its child. want is the kind asked for; 0 asks for any, as page 0 does of the
-// root.
+// root. A kind is a number, as in a page's header: any two bytes may stand there until the page is tested.
 #[derive(Clone, Copy, Default)]
 pub struct Place {
     pub child: u16,
@@ -142,6 +142,7 @@ pub struct Report {
 }
 
 impl Report {
+    // Its own word and no Default: contracts and theorems speak of it.
     pub fn nothing() -> Self
         ensures { result ≡ nothing }
     {

@@ -30,6 +30,7 @@ use std::num::wrapping_add_u32;
 pub struct Seen {
     pub whole: bool,
     pub total: u32,
+    // Both by page number, of fixed size: there is no heap.
     pub children: [bool; MOST],
     pub spared: [bool; MOST],
 }
@@ -117,6 +118,7 @@ pub fn marked(marks: &[bool], i: usize) -> bool
     marks.get(i).copied().unwrap_or(false)
 }
 
+// By index: behind a slice's get_mut a proof knows its length and no element.
 pub fn mark(marks: &mut [bool], i: usize)
     ensures { marks.new ≡ slice_set marks.old i true }
 {

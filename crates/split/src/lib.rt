@@ -30,7 +30,8 @@ pub struct Twins {
     pub upper: u16,
 }
 
-// A leaf that was built since the last sync or opening is nobody's previous page.
+// A leaf that was built since the last sync or opening is nobody's previous page. The counter is the session's, the
+// header the page's: no one value holds both.
 fn heirs(c: u32, head: Head) -> bool
     ensures { result ≡ heirs_by c head }
 {

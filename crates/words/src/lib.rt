@@ -20,6 +20,7 @@ pub type Text = Few<u8, TEXT_SIZE>;
 
 // What is to be printed: nothing, the word of an answer, `done` with a record, or `line`. An answer stands here as its
 // number, since document 01 chooses the nine words by it; nothing is a reply too, which `spell` has a text for.
+// No Display: `spell` says the lines, and has the contract.
 #[derive(Clone, Copy)]
 pub enum Reply {
     Silent,
