@@ -21,8 +21,9 @@ use Rattle.rules.specs.declared.AnyError.{AnyError}
 use Rattle.rules.specs.declared.Asked.{Asked}
 use Rattle.rules.specs.declared.Report.{Report}
 use Rattle.rules.proofs.Demand1.Tested.{tested-length, tested-key, tested-zero, tested-done}
-use Rattle.any.specs.declared.Sought.{Sought}
-use Rattle.any.specs.Anys.{leaving, first, answer_of, Seen, seeing, seen}
+use Rattle.any.specs.Anys.{Sought}
+use Rattle.rules.specs.Handing.{leaving}
+use Rattle.any.specs.Anys.{first, answer_of, Seen, seeing, seen}
 
 -- ── The keys of a meter ─────────────────────────────────────────────────────────────────────────────────────────
 

@@ -8,21 +8,13 @@ use Rattle.rules.specs.declared.Session.{Session}
 use Rattle.rules.specs.declared.Asked.{Asked}
 use Rattle.rules.specs.Answer.{Any}
 use Rattle.rules.specs.declared.AnyError.{AnyError}
-use Rattle.rules.specs.declared.AnyOf.{AnyOf}
 use Rattle.rules.specs.declared.Report.{Report}
 use Rattle.head.specs.Head.{cert_at}
-use Rattle.any.specs.declared.Sought.{Sought}
+use Rattle.rules.specs.declared.Sought as sought
 
--- with a session beside it
-abbrev pub beside : Session → Sought → AnyOf
-beside s r = record { answer = r.answer; report = r.report; session = s }
-
--- the whole of it
-abbrev pub leaving : AnyOf → List ℕ → List ℕ → Reported (Left Any)
-leaving r w t = record {
-  left = record { answer = r.answer; session = r.session; working = w; stable = t };
-  report = r.report;
-}
+-- what is sought
+abbrev pub Sought : Type 0
+Sought = sought.Sought Any
 
 -- the asked range: from one key up to another, with room for one certificate
 abbrev pub first : ℕ → ℕ → Asked

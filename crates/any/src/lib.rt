@@ -21,7 +21,8 @@ ghost use Rattle.rules.specs.Table.{page_at, fit0};
 ghost use Rattle.rules.specs.Walk.{walk_of};
 ghost use Rattle.rules.specs.Reports.{has_any_reported};
 ghost use Rattle.rules.specs.declared.Session.{Session};
-ghost use Rattle.any.specs.Anys.{beside, leaving, first, holds_in, seeing, seen};
+ghost use Rattle.rules.specs.Handing.{beside, leaving};
+ghost use Rattle.any.specs.Anys.{first, holds_in, seeing, seen};
 
 use leaves::Leaves;
 use rules::{Any, AnyError, AnyOf, LARGEST_ISSUE, Report, Session};
@@ -38,11 +39,7 @@ fn holds(t: &[u8], i: u16, spot: usize, low: u64) -> bool
 }
 
 // What a walk up to the first certificate comes to: the answer, and what was mended.
-#[derive(Clone, Copy)]
-pub struct Sought {
-    pub answer: Any,
-    pub report: Report,
-}
+pub type Sought = rules::Sought<Any>;
 
 // Leaf after leaf of a range, up to the first that holds a key of it.
 fn look(t: &mut [u8], n: usize, c: u32, low: u64, high: u64) -> Sought

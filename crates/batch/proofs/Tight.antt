@@ -11,7 +11,7 @@ use contract.Monad.{Fun, fact}
 use denote.Triple.Entry.{Args}
 use denote.Triple.Clauses.{Lasts, at_exit}
 use Rattle.rules.specs.Batch as rules
-use Rattle.rules.specs.declared.Batching.{Batching}
+use Rattle.rules.specs.Handing.{Batching}
 use Rattle.tight.specs.Tight.{Tight}
 use Rattle.batch.specs.Turns.{leaving}
 use Rattle.batch.specs.contracts.batch as stated

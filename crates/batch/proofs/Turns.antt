@@ -13,11 +13,11 @@ use Rattle.rules.specs.Batch.{Between, between, insert_item, joins, after_item, 
 use Rattle.rules.specs.declared.Session.{Session}
 use Rattle.rules.specs.declared.Item.{Item}
 use Rattle.rules.specs.declared.Report.{Report}
-use Rattle.rules.specs.declared.Inserting.{Inserting}
+use Rattle.rules.specs.Handing.{Inserting}
 use Rattle.rules.specs.Answer.{Batched}
 use Rattle.rules.specs.declared.LengthError.{LengthError}
-use Rattle.rules.specs.declared.Batching.{Batching}
-use Rattle.insert.specs.Inserts.{leaving as inserted}
+use Rattle.rules.specs.Handing.{Batching}
+use Rattle.rules.specs.Handing.{leaving as inserted}
 use Rattle.rules.proofs.Demand1.Batches.{batch_refused, batch-done}
 use Rattle.batch.specs.Turns.{Running, Turning, running, turning, leaving, standing, begun, tried_of, turn_of, goes, fills}
 

@@ -7,7 +7,7 @@ use Rattle.rules.specs.declared.Session.{Session}
 use Rattle.rules.specs.declared.Item.{Item}
 use Rattle.rules.specs.Answer.{Batched}
 use Rattle.rules.specs.declared.LengthError.{LengthError}
-use Rattle.rules.specs.declared.Batching.{Batching}
+use Rattle.rules.specs.Handing.{Batching}
 use Rattle.batch.specs.declared.Turned.{Turned}
 
 -- what the call would hand back now, and the working table

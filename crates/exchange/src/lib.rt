@@ -60,12 +60,7 @@ impl Refusal for ReadError {
 pub type Read = Result<u32, ReadError>;
 
 // What that call hands back.
-#[derive(Clone, Copy)]
-pub struct Reading {
-    pub answer: Read,
-    pub report: Report,
-    pub session: Session,
-}
+pub type Reading = rules::Reporting<Read>;
 
 // A section's count, and an item of each section, in bytes.
 pub const COUNT: usize = 4;

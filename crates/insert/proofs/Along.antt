@@ -32,7 +32,8 @@ use Rattle.plan.specs.Plan.{chosen_by, Planning, plan_of}
 use Rattle.plan.proofs.Pages.{chosen_is}
 use Rattle.apply.specs.Leads.{Stands, Leads, EndsInLeaf, HeadRead, step_on, steps_in, ReadyWay, done}
 use Rattle.apply.proofs.Going.{leads-first}
-use Rattle.insert.specs.Inserts.{left, present_in, Walked, decided_on}
+use Rattle.rules.specs.Handing.{left_as as left}
+use Rattle.insert.specs.Inserts.{present_in, Walked, decided_on}
 
 -- ── The rules' chain, by the plan ───────────────────────────────────────────────────────────────────────────────
 

@@ -31,7 +31,8 @@ use Rattle.way.proofs.Stood.{WayStands, way-stands}
 use Rattle.way.proofs.Linked.{WayLinked, way-linked}
 use Rattle.plan.specs.Plan.{chosen_by, plan_of}
 use Rattle.apply.specs.Leads.{steps_in, ReadyWay, done}
-use Rattle.insert.specs.Inserts.{left, leaving, present_in, Walked, decided_on, Deciding, tested_by}
+use Rattle.rules.specs.Handing.{left_as as left, leaving}
+use Rattle.insert.specs.Inserts.{present_in, Walked, decided_on, Deciding, tested_by}
 use Rattle.insert.proofs.Went.{Went, went, went-nowhere, steps-here, walked}
 use Rattle.insert.proofs.Along.{refused_along, done_along, ready}
 

@@ -10,18 +10,10 @@ use Rattle.rules.specs.Call.{Left, lengths_for}
 use Rattle.rules.specs.declared.Session.{Session}
 use Rattle.rules.specs.Answer.{Inserted}
 use Rattle.rules.specs.declared.InsertError.{InsertError}
-use Rattle.rules.specs.declared.Inserting.{Inserting}
 use Rattle.rules.proofs.Bytes.All.{All}
 use Rattle.way.specs.declared.Step as way
 use Rattle.plan.specs.Plan.{chosen_by, Headed, plan_of}
 use Rattle.apply.specs.Leads.{Whole, Leads, EndsInLeaf, HeadRead, steps_in}
-
--- what is left, and with the report the whole of it
-abbrev pub left : Inserted → Session → List ℕ → List ℕ → Left Inserted
-left answer s w t = record { answer = answer; session = s; working = w; stable = t }
-
-abbrev pub leaving : Inserting → List ℕ → List ℕ → Reported (Left Inserted)
-leaving r w t = record { left = left r.answer r.session w t; report = r.report }
 
 -- the key is there, any record
 unfoldable pub present_in : Option ℕ → Bool

@@ -18,7 +18,8 @@ ghost use Rattle.rules.specs.Reports.{insert_reported};
 ghost use Rattle.rules.specs.declared.Session.{Session};
 ghost use Rattle.head.proofs.Headers.{head_of};
 ghost use Rattle.way.specs.Ways.{Holds};
-ghost use Rattle.insert.specs.Inserts.{leaving, present_in, decided_on, Deciding, tested_by};
+ghost use Rattle.rules.specs.Handing.{leaving};
+ghost use Rattle.insert.specs.Inserts.{present_in, decided_on, Deciding, tested_by};
 
 use rules::{InsertError, Inserted, Inserting, Report, Session};
 use way::Step;

@@ -21,7 +21,7 @@ use Rattle.rules.specs.declared.Report.{Report}
 use Rattle.rules.proofs.Demand1.Tested.{tested-length, tested-zero, tested-done}
 use Rattle.fill.specs.Fills.{Roomy}
 use Rattle.list.specs.Lists.{Told, telling, sought, told}
-use Rattle.list.specs.declared.Sought.{Sought}
+use Rattle.list.specs.Lists.{Sought}
 
 -- an answer with the session and the stable table as they came
 abbrev pub left : Session → List ℕ → Told → rules.ListLeft

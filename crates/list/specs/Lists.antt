@@ -8,13 +8,13 @@ use Rattle.rules.specs.List.{ListLeft, records_of}
 use Rattle.rules.specs.declared.Session.{Session}
 use Rattle.rules.specs.Answer.{Listed}
 use Rattle.rules.specs.declared.ListError.{ListError}
-use Rattle.rules.specs.declared.Listing.{Listing}
+use Rattle.rules.specs.Handing.{Listing}
 use Rattle.rules.specs.declared.Report.{Report}
-use Rattle.list.specs.declared.Sought.{Sought}
+use Rattle.rules.specs.declared.Sought as handed
 
--- with a session beside it
-abbrev pub beside : Session → Sought → Listing
-beside s r = record { answer = r.answer; report = r.report; session = s }
+-- what is sought
+abbrev pub Sought : Type 0
+Sought = handed.Sought Listed
 
 -- the whole of it
 abbrev pub leaving : Listing → List ℕ → List ℕ → List ℕ → List ℕ → Reported ListLeft

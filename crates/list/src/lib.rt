@@ -20,18 +20,15 @@ ghost use Rattle.rules.specs.Walk.{walk_of};
 ghost use Rattle.rules.specs.Reports.{list_reported};
 ghost use Rattle.rules.specs.declared.Session.{Session};
 ghost use Rattle.fill.specs.Fills.{Roomy};
-ghost use Rattle.list.specs.Lists.{beside, leaving, telling, told};
+ghost use Rattle.rules.specs.Handing.{beside};
+ghost use Rattle.list.specs.Lists.{leaving, telling, told};
 
 use head::Table;
 use rules::{Asked, LAST_KEY, ListError, Listed, Listing, Report, Session};
 use std::cmp::min;
 
 // An answer, and what was mended on the way.
-#[derive(Clone, Copy)]
-pub struct Sought {
-    pub answer: Listed,
-    pub report: Report,
-}
+pub type Sought = rules::Sought<Listed>;
 
 // The asked range: from the start upwards, while the shorter list has room.
 fn up_from(start: u64, keys: usize, records: usize) -> Asked

@@ -18,8 +18,9 @@ use Rattle.rules.specs.Answer.{Looked}
 use Rattle.rules.specs.declared.FindError.{FindError}
 use Rattle.rules.proofs.Demand1.Tested.{tested-length, tested-key, tested-zero, tested-done}
 use Rattle.way.specs.Ways.{reported}
-use Rattle.lookup.specs.declared.Sought.{Sought}
-use Rattle.lookup.specs.Looks.{leaving, looking, answer_on, looked_along, Look}
+use Rattle.lookup.specs.Looks.{Sought}
+use Rattle.rules.specs.Handing.{leaving}
+use Rattle.lookup.specs.Looks.{looking, answer_on, looked_along, Look}
 
 -- what is left and what is reported, together
 told : {w t : List ℕ} {s : Session} {r : Looked} {x : Report} (model serial issue : ℕ) (w₀ : List ℕ)

@@ -8,20 +8,12 @@ use Rattle.rules.specs.Lookup.{found_in}
 use Rattle.rules.specs.declared.Session.{Session}
 use Rattle.rules.specs.Answer.{Looked}
 use Rattle.rules.specs.declared.FindError.{FindError}
-use Rattle.rules.specs.declared.Looking.{Looking}
 use Rattle.head.specs.Head.{cert_at}
-use Rattle.lookup.specs.declared.Sought.{Sought}
+use Rattle.rules.specs.declared.Sought as sought
 
--- with a session beside it
-abbrev pub beside : Session → Sought → Looking
-beside s r = record { answer = r.answer; report = r.report; session = s }
-
--- the whole of it
-abbrev pub leaving : Looking → List ℕ → List ℕ → Reported (Left Looked)
-leaving r w t = record {
-  left = record { answer = r.answer; session = r.session; working = w; stable = t };
-  report = r.report;
-}
+-- what is sought
+abbrev pub Sought : Type 0
+Sought = sought.Sought Looked
 
 -- what was found in a leaf
 unfoldable pub looked_in : Option ℕ → Looked

@@ -25,7 +25,8 @@ ghost use Rattle.rules.specs.Reports.{lookup_reported};
 ghost use Rattle.rules.specs.declared.Session.{Session};
 ghost use Rattle.head.proofs.Headers.{head_of};
 ghost use Rattle.way.specs.Ways.{Holds, reported};
-ghost use Rattle.lookup.specs.Looks.{found_before, looked_in, beside, leaving, looking, looked_along};
+ghost use Rattle.rules.specs.Handing.{beside, leaving};
+ghost use Rattle.lookup.specs.Looks.{found_before, looked_in, looking, looked_along};
 
 use entries::Entries;
 use rules::{FindError, Looked, Looking, Report, Session};
@@ -58,11 +59,7 @@ pub fn find_at(table: &[u8], leaf: Step, key: u64) -> Looked
 }
 
 // What a search along a way comes to: the answer, and what was mended.
-#[derive(Clone, Copy)]
-pub struct Sought {
-    pub answer: Looked,
-    pub report: Report,
-}
+pub type Sought = rules::Sought<Looked>;
 
 // A key looked for along its way.
 fn look(t: &mut [u8], n: usize, c: u32, key: u64) -> Sought

@@ -21,8 +21,9 @@ use Rattle.rules.specs.declared.FindError.{FindError}
 use Rattle.rules.specs.declared.Asked.{Asked}
 use Rattle.rules.specs.declared.Report.{Report}
 use Rattle.rules.proofs.Demand1.Tested.{tested-length, tested-key, tested-zero, tested-done}
-use Rattle.newest.specs.declared.Sought.{Sought}
-use Rattle.newest.specs.Newests.{leaving, range, answer_of, Seen, seeing, seen}
+use Rattle.newest.specs.Newests.{Sought}
+use Rattle.rules.specs.Handing.{leaving}
+use Rattle.newest.specs.Newests.{range, answer_of, Seen, seeing, seen}
 
 -- ── The keys of a meter ─────────────────────────────────────────────────────────────────────────────────────────
 

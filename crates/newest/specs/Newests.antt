@@ -11,21 +11,13 @@ use Rattle.rules.specs.declared.Session.{Session}
 use Rattle.rules.specs.declared.Asked.{Asked}
 use Rattle.rules.specs.Answer.{Newest, newest_is}
 use Rattle.rules.specs.declared.FindError.{FindError}
-use Rattle.rules.specs.declared.NewestOf.{NewestOf}
 use Rattle.rules.specs.declared.Report.{Report}
 use Rattle.head.specs.Head.{cert_at}
-use Rattle.newest.specs.declared.Sought.{Sought}
+use Rattle.rules.specs.declared.Sought as sought
 
--- with a session beside it
-abbrev pub beside : Session → Sought → NewestOf
-beside s r = record { answer = r.answer; report = r.report; session = s }
-
--- the whole of it
-abbrev pub leaving : NewestOf → List ℕ → List ℕ → Reported (Left Newest)
-leaving r w t = record {
-  left = record { answer = r.answer; session = r.session; working = w; stable = t };
-  report = r.report;
-}
+-- what is sought
+abbrev pub Sought : Type 0
+Sought = sought.Sought Newest
 
 -- the asked range: from one key up to another, with more room than there are keys
 abbrev pub range : ℕ → ℕ → Asked

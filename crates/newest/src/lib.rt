@@ -21,7 +21,8 @@ ghost use Rattle.rules.specs.Table.{fit0};
 ghost use Rattle.rules.specs.Walk.{walk_of};
 ghost use Rattle.rules.specs.Reports.{newest_reported};
 ghost use Rattle.rules.specs.declared.Session.{Session};
-ghost use Rattle.newest.specs.Newests.{beside, leaving, range, last_in, seeing, seen};
+ghost use Rattle.rules.specs.Handing.{beside, leaving};
+ghost use Rattle.newest.specs.Newests.{range, last_in, seeing, seen};
 
 use leaves::Leaves;
 use rules::{FindError, LAST_FINAL, Latest, Newest, NewestOf, Report, Session};
@@ -49,11 +50,7 @@ fn last_in(page: &[u8], spot: usize, low: u64, newest: Newest) -> Newest
 }
 
 // What a walk over a range comes to: the answer, and what was mended.
-#[derive(Clone, Copy)]
-pub struct Sought {
-    pub answer: Newest,
-    pub report: Report,
-}
+pub type Sought = rules::Sought<Newest>;
 
 // The newest certificate of a range, leaf after leaf. A leaf without one leaves what an earlier one gave.
 fn look(t: &mut [u8], n: usize, c: u32, low: u64, high: u64) -> Sought

@@ -20,7 +20,8 @@ use Rattle.marks.proofs.Opening.{opened_by-opened}
 use Rattle.seen.specs.Note.{note, nothing, good_marks}
 use Rattle.seen.specs.declared.Seen.{Seen}
 use Rattle.seen.proofs.Wholes.{good_notes, noted-child, noted-spared, noted-total, within-tree_of}
-use Rattle.opening.specs.Opens.{left, refused_with}
+use Rattle.rules.specs.Handing.{left}
+use Rattle.opening.specs.Opens.{refused_with}
 
 module _ (w s : List ℕ) where
   pub wrong-length : good_lengths w s ≡ false → left (refused_with (Err OpenError.Length)) w s ≡ opening w s

@@ -3,11 +3,8 @@ use Rattle.std.specs.Prelude.{ℕ, List}
 use Rattle.rules.specs.Marks.{nobody}
 use Rattle.rules.specs.Call.{Left}
 use Rattle.rules.specs.Answer.{Opened}
-use Rattle.rules.specs.declared.Opening.{Opening}
+use Rattle.rules.specs.Handing.{Opening}
 
 -- what a refused opening hands back
 abbrev pub refused_with : Opened → Opening
 refused_with answer = record { answer = answer; session = nobody }
-
-abbrev pub left : Opening → List ℕ → List ℕ → Left Opened
-left r working stable = record { answer = r.answer; session = r.session; working = working; stable = stable }

@@ -12,7 +12,8 @@ ghost use Rattle.std.specs.Prelude.{◌≡◌, ◌≤◌};
 ghost use Rattle.rules.specs.Layout.{most_pages};
 ghost use Rattle.rules.specs.Open.{opening};
 ghost use Rattle.marks.specs.Opened.{opened_by};
-ghost use Rattle.opening.specs.Opens.{left, refused_with};
+ghost use Rattle.rules.specs.Handing.{left};
+ghost use Rattle.opening.specs.Opens.{refused_with};
 
 use head::Table;
 use rules::{LAST_NUMBER, OpenError, Opened, Opening, PAGE, Session};

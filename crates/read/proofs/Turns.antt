@@ -19,8 +19,8 @@ use Rattle.rules.specs.declared.Session.{Session}
 use Rattle.rules.specs.declared.Item.{Item}
 use Rattle.rules.specs.declared.Report.{Report}
 use Rattle.rules.specs.declared.InsertError.{InsertError}
-use Rattle.rules.specs.declared.Inserting.{Inserting}
-use Rattle.insert.specs.Inserts.{leaving as inserted}
+use Rattle.rules.specs.Handing.{Inserting}
+use Rattle.rules.specs.Handing.{leaving as inserted}
 use Rattle.exchange.specs.Item.{count_width}
 use Rattle.exchange.specs.Judged.{certs_at, judged, checked}
 use Rattle.exchange.specs.Told.{certs_in, cert_in, meters_in}

@@ -6,11 +6,11 @@ use Rattle.rules.specs.Batch.{Between, between, item_no, after_item}
 use Rattle.rules.specs.declared.Session.{Session}
 use Rattle.rules.specs.declared.Item.{Item}
 use Rattle.exchange.specs.ReadFile.{Read}
-use Rattle.exchange.specs.declared.Reading.{Reading}
+use Rattle.rules.specs.declared.Reporting.{Reporting}
 use Rattle.read.specs.declared.Made.{Made}
 
 -- what the call leaves
-abbrev pub leaving : Reading → List ℕ → List ℕ → Reported (Left Read)
+abbrev pub leaving : Reporting Read → List ℕ → List ℕ → Reported (Left Read)
 leaving r w t = record {
   left = record { answer = r.answer; session = r.session; working = w; stable = t };
   report = r.report;

@@ -18,6 +18,7 @@ pub mod Tree
 pub mod Marks
 pub mod Answer
 pub mod Call
+pub mod Handing
 pub mod Format
 pub mod Open
 pub mod Insert

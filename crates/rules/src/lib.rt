@@ -340,62 +340,39 @@ pub type Synced = Result<(), SyncError>;
 // What a call hands back: its answer and the session, and a call that walks its report.
 
 #[derive(Clone, Copy)]
-pub struct Opening {
-    pub answer: Opened,
+pub struct Handed<A> {
+    pub answer: A,
     pub session: Session,
 }
 
 #[derive(Clone, Copy)]
-pub struct Inserting {
-    pub answer: Inserted,
+pub struct Reporting<A> {
+    pub answer: A,
     pub report: Report,
     pub session: Session,
 }
 
+// What a call that walks comes to, before the session is handed back beside it.
 #[derive(Clone, Copy)]
-pub struct Withdrawing {
-    pub answer: Withdrawn,
+pub struct Sought<A> {
+    pub answer: A,
     pub report: Report,
-    pub session: Session,
 }
 
-#[derive(Clone, Copy)]
-pub struct Batching {
-    pub answer: Batched,
-    pub report: Report,
-    pub session: Session,
-}
+pub type Opening = Handed<Opened>;
 
-#[derive(Clone, Copy)]
-pub struct Looking {
-    pub answer: Looked,
-    pub report: Report,
-    pub session: Session,
-}
+pub type Syncing = Handed<Synced>;
 
-#[derive(Clone, Copy)]
-pub struct NewestOf {
-    pub answer: Newest,
-    pub report: Report,
-    pub session: Session,
-}
+pub type Inserting = Reporting<Inserted>;
 
-#[derive(Clone, Copy)]
-pub struct AnyOf {
-    pub answer: Any,
-    pub report: Report,
-    pub session: Session,
-}
+pub type Withdrawing = Reporting<Withdrawn>;
 
-#[derive(Clone, Copy)]
-pub struct Listing {
-    pub answer: Listed,
-    pub report: Report,
-    pub session: Session,
-}
+pub type Batching = Reporting<Batched>;
 
-#[derive(Clone, Copy)]
-pub struct Syncing {
-    pub answer: Synced,
-    pub session: Session,
-}
+pub type Looking = Reporting<Looked>;
+
+pub type NewestOf = Reporting<Newest>;
+
+pub type AnyOf = Reporting<Any>;
+
+pub type Listing = Reporting<Listed>;

@@ -13,7 +13,7 @@ use contract.Lifetimes.{Lfts}
 use contract.Monad.{Fun, fact}
 use denote.Triple.Entry.{Args}
 use denote.Triple.Clauses.{Lasts, at_exit}
-use Rattle.rules.specs.declared.Batching.{Batching}
+use Rattle.rules.specs.Handing.{Batching}
 use Rattle.tight.specs.Tight.{Tight}
 use Rattle.batch.proofs.Tight as below
 use Rattle.store.specs.contracts.batch as stated

@@ -15,7 +15,7 @@ use Rattle.rules.specs.Sync.{sync_refused, sync_done, sync}
 use Rattle.rules.specs.declared.Session.{Session}
 use Rattle.rules.specs.declared.SyncError.{SyncError}
 use Rattle.rules.proofs.Bytes.Lengths.{lengths_for_true}
-use Rattle.sync.specs.Syncs.{left}
+use Rattle.rules.specs.Handing.{left}
 
 module _ (w t : List ℕ) (s : Session) where
   pub refused : lengths_for s w t ≡ false → left (record { answer = Err SyncError.Length; session = s }) w t ≡ sync w t s

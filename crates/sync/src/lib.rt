@@ -9,7 +9,7 @@
 
 ghost use Rattle.std.specs.Prelude.{◌≡◌};
 ghost use Rattle.rules.specs.Sync;
-ghost use Rattle.sync.specs.Syncs.{left};
+ghost use Rattle.rules.specs.Handing.{left};
 
 use rules::{AT_NUMBER, LAST_NUMBER, Session, SyncError, Syncing};
 

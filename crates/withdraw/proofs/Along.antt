@@ -32,7 +32,7 @@ use Rattle.lookup.specs.Looks.{found_before, looked_in}
 use Rattle.lookup.proofs.Leaf.{spot-room, found-leaf}
 use Rattle.edit.specs.Takes.{HasCert}
 use Rattle.edit.proofs.Callers.{has_cert}
-use Rattle.withdraw.specs.Withdraws.{left}
+use Rattle.rules.specs.Handing.{left_as as left}
 
 -- what is left and what is reported, together
 pub reported_too : {a b : Left Withdrawn} {x y : Report} → x ≡ y → a ≡ b → reported a x ≡ reported b y

@@ -15,10 +15,10 @@ use Rattle.rules.specs.declared.Session.{Session}
 use Rattle.rules.specs.declared.Report.{Report}
 use Rattle.rules.specs.Answer.{Withdrawn}
 use Rattle.rules.specs.declared.FindError.{FindError}
-use Rattle.rules.specs.declared.Withdrawing.{Withdrawing}
+use Rattle.rules.specs.Handing.{Withdrawing}
 use Rattle.rules.proofs.Demand1.Tested.{tested-length, tested-key, tested-zero, tested-done}
 use Rattle.way.specs.Ways.{reported}
-use Rattle.withdraw.specs.Withdraws.{leaving}
+use Rattle.rules.specs.Handing.{leaving}
 
 module _ (w t : List ℕ) (s : Session) (model serial issue : ℕ) where
   along : Report

@@ -19,7 +19,7 @@ ghost use Rattle.rules.specs.Walk.{way_report};
 ghost use Rattle.rules.specs.Withdraw.{withdraw_key};
 ghost use Rattle.rules.specs.Reports.{withdraw_reported};
 ghost use Rattle.way.specs.Ways.{reported};
-ghost use Rattle.withdraw.specs.Withdraws.{leaving};
+ghost use Rattle.rules.specs.Handing.{leaving};
 
 use rules::{FindError, Report, Session, Withdrawing};
 

@@ -19,7 +19,7 @@ use Rattle.counts.specs.Tally.{everything}
 use Rattle.write.specs.WriteFile.{Written, WriteLeft, write_refused, write_done, write_whole, write_walked, write_file, write_reported}
 use Rattle.write.specs.declared.WriteError.{WriteError}
 use Rattle.write.specs.Calls.{Told, telling, told}
-use Rattle.write.specs.declared.Sought.{Sought}
+use Rattle.write.specs.Calls.{Sought}
 
 -- an answer with the session and the stable table as they came
 abbrev left : Session → List ℕ → Told → WriteLeft

@@ -27,7 +27,7 @@ use Rattle.sections.specs.Puts.{starts_of, put_counts, put_all, Lies}
 use Rattle.write.specs.Calls.{telling, telled, told, Wrote, wrote, wrote_in}
 use Rattle.write.specs.WriteFile.{Written}
 use Rattle.write.specs.declared.WriteError.{WriteError}
-use Rattle.write.specs.declared.Sought.{Sought}
+use Rattle.write.specs.Calls.{Sought}
 use Rattle.sections.specs.declared.Starts.{Starts}
 use Rattle.write.proofs.Extends.{walk-few}
 use Rattle.write.proofs.Listing.{listing-set}

@@ -11,14 +11,17 @@ use Rattle.sections.specs.Puts.{put_all}
 use Rattle.sections.specs.declared.Starts.{Starts}
 use Rattle.write.specs.WriteFile.{Written, WriteLeft}
 use Rattle.write.specs.declared.WriteError.{WriteError}
-use Rattle.write.specs.declared.Writing.{Writing}
-use Rattle.write.specs.declared.Sought.{Sought}
+use Rattle.rules.specs.declared.Reporting.{Reporting}
+use Rattle.rules.specs.declared.Sought as sought
 
--- with a session beside it
-abbrev pub beside : Session → Sought → Writing
-beside s r = record { answer = r.answer; report = r.report; session = s }
+-- what is sought
+abbrev pub Sought : Type 0
+Sought = sought.Sought Written
 
 -- the whole of it
+abbrev pub Writing : Type 0
+Writing = Reporting Written
+
 abbrev pub leaving : Writing → List ℕ → List ℕ → List ℕ → Reported WriteLeft
 leaving r w t out = record {
   left = record {

@@ -24,7 +24,8 @@ ghost use Rattle.fill.specs.Fills.{HasRoom};
 ghost use Rattle.counts.specs.Tally.{everything, no_tally, counted_all};
 ghost use Rattle.write.specs.WriteFile.{write_reported, write_error_no, written_length};
 ghost use Rattle.sections.specs.Puts.{Lies};
-ghost use Rattle.write.specs.Calls.{beside, leaving, telling, told, wrote, wrote_in};
+ghost use Rattle.rules.specs.Handing.{beside};
+ghost use Rattle.write.specs.Calls.{leaving, telling, told, wrote, wrote_in};
 
 use counts::{Tally, everything};
 use dry::KeyRange;
@@ -59,19 +60,10 @@ impl Refusal for WriteError {
 pub type Written = Result<usize, WriteError>;
 
 // What the call hands back.
-#[derive(Clone, Copy)]
-pub struct Writing {
-    pub answer: Written,
-    pub report: Report,
-    pub session: Session,
-}
+pub type Writing = rules::Reporting<Written>;
 
 // An answer, and what was mended on the way.
-#[derive(Clone, Copy)]
-pub struct Sought {
-    pub answer: Written,
-    pub report: Report,
-}
+pub type Sought = rules::Sought<Written>;
 
 // The file's length, 0 beside a refusal.
 #[tactic(auto, unfolding(crate::specs::WriteFile::written_length))]

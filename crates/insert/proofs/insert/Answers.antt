@@ -17,7 +17,7 @@ use Rattle.rules.specs.declared.Session.{Session}
 use Rattle.rules.proofs.Bytes.Lengths.{lengths_for_true}
 use Rattle.way.specs.Ways.{Walking, walking}
 use Rattle.plan.specs.Plan.{splits_by, heads_of, chosen_by}
-use Rattle.insert.specs.Inserts.{left, leaving}
+use Rattle.rules.specs.Handing.{left_as as left, leaving}
 use Rattle.apply.specs.Leads.{marks_by, ReadySession, done}
 use Rattle.insert.proofs.Along.{few}
 use Rattle.insert.proofs.Call.{Passed, told_too, passed-report, nothing-told, test_refused, test_passed, Going, going, key-nowhere, deciding, key-refused, key-ready, key-done}

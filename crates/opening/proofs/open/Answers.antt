@@ -2,8 +2,8 @@
 -- Assumes nothing.
 use mathlib.Core.Path.{ap, sym, ◌∙◌}
 use Rattle.rules.specs.Table.{pages}
-use Rattle.rules.specs.declared.Opening.{Opening}
-use Rattle.opening.specs.Opens.{left}
+use Rattle.rules.specs.Handing.{Opening}
+use Rattle.rules.specs.Handing.{left}
 use Rattle.opening.proofs.Ways.{wrong-length, same, whole, few, some, unfit, damaged, spent, done}
 use native.Mathlib.Omega.{arith}
 use Rattle.opening.proofs.open.Goals as goal
