@@ -109,14 +109,7 @@ pub fn halve(table: &mut [u8], c: u32, key: u64, step: Step, twins: Twins, at: u
         child: twins.upper,
         low: middle,
     };
-    edit::put_twins(
-        table,
-        at as usize,
-        first,
-        second,
-        previous_of(c, step),
-        c,
-    );
+    edit::put_twins(table, at as usize, first, second, previous_of(c, step), c);
     side(key, middle, twins)
 }
 

@@ -4,4 +4,3 @@ use Rattle.rules.specs.Report.{Reported}
 use Rattle.rules.specs.Call.{Left}
 use Rattle.rules.specs.declared.Session.{Session}
 use Rattle.rules.specs.Answer.{Withdrawn}
-
