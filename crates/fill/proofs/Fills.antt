@@ -19,11 +19,12 @@ use Rattle.head.specs.declared.Head.{Head}
 use Rattle.head.proofs.Headers.{head_of}
 use Rattle.entries.specs.Spot.{keys_in}
 use Rattle.climbs.specs.Ground.{Ground}
+use Rattle.climbs.proofs.Ends.{rest_ended}
 use Rattle.leaves.specs.Walks.{walk_over, stepping, step_of, keys_left}
 use Rattle.leaves.specs.declared.Leaf.{Leaf}
 use Rattle.leaves.specs.declared.Leaves.{Leaves}
 use Rattle.leaves.proofs.Loops.{Reached}
-use Rattle.leaves.proofs.Walks.{walked_to, from, Walking, more, walking-begins, walking-full, walking-room, walking-done, walking-damaged, walking-reached, walking-on, walking-less}
+use Rattle.leaves.proofs.Walks.{walked_to, from, Walking, more, walking-begins, walking-full, walking-room, walking-done, walking-damaged, walking-reached, passed, walking-on, walking-less}
 use Rattle.fill.specs.Fills.{Lists, listing, lists_of, filling, filled_in, mending, mended_in, Roomy, HasRoom, certs_from, listed, asked, Sorted}
 use Rattle.fill.proofs.Copies.{lists-none, lists-count, lists-more}
 use Rattle.fill.proofs.Leaves as leaf
@@ -151,6 +152,12 @@ module _ {n c : ℕ} {a : Asked} {o : List ℕ} where
     mending-stops x e = ap mended_in (walking-damaged y.walking f has_room_lem x e)
 
     module _ (l : Leaf) (e : r ≡ Some (Ok l)) where
+      -- the leaf at the end of the range is the last
+      pub mending-ends : a.high ≤ l.high → mending u l.report ≡ mended_in (walk_of n c a o)
+      mending-ends h =
+          let walked = walked_to u (y.found ++ more a u l y.found) l.report in
+          ap mended_in (sym (rest_ended n c l.high (from l.from a) walked h) ∙ passed y.walking f has_room_lem l e)
+
       pub mending_on : Mending n c a o u v
       mending_on = record { found = _; walking = walking-on y.walking f has_room_lem l e }
 

@@ -190,7 +190,8 @@ module _ {n c : ℕ} {a : Asked} {o : List ℕ} where
           pub walking-from : w.key ≡ Some l.from
           walking-from = taken.key ∙ ap Some (sym reached-by.from)
 
-          passed : rest n c (after l.high (from l.from a)) (walked_to u (found ++ more a u l found) l.report) ≡ walk_of n c a o
+          -- what is left of the walk behind the leaf
+          pub passed : rest n c (after l.high (from l.from a)) (walked_to u (found ++ more a u l found) l.report) ≡ walk_of n c a o
           unfolding finds
           passed =
               let g = walking-reached in
