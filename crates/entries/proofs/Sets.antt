@@ -9,7 +9,7 @@ use native.Mathlib.Numerals.{add-one}
 use native.Mathlib.Omega.{arith}
 use borrow.Author.Tests.{ltb-true, ltb-false}
 use lib.Dec.{ltb}
-use lib.ListN.{length, take, drop, get_or, set, length-drop, take-append-drop}
+use lib.ListN.{length, take, drop, get_or, set, replicate, length-drop, length-replicate, replicate-append-replicate, take-append-drop}
 use lib.Seq.{sets, sets-eq, set_comm, take-suc, get_or-set_other, get_or-drop, drop-drop, paste, length-take-le}
 use Rattle.std.specs.List.{copy_within}
 use Rattle.fields.specs.Field.{Bytes, le_at, put_at}
@@ -92,3 +92,10 @@ copied_more b l to from len k h m apart e =
     let f : length (take k (drop from b)) ≡ k = length_part k from b (omega arith) in
     let g = copied-from b to from k (omega arith) (λ (u : from < to). omega (arith, apart u)) in
     rw (e, g, ← get_or-drop from b k 0, add-one, take-suc (drop from b) k 0 long, sets_append, f)
+
+pub cleared_more : (b l : List ℕ) (at k : ℕ) → at ≤ k → l ≡ sets b at (replicate (k - at) 0)
+    → set l k 0 ≡ sets b at (replicate (k + 1 - at) 0)
+cleared_more b l at k h e =
+    let f : k + 1 - at ≡ (k - at) + 1 = omega arith in
+    let g : at + (k - at) ≡ k = omega arith in
+    rw (e, f, ← replicate-append-replicate {A = ℕ} (k - at) 1 0, sets_append, length-replicate, g)
