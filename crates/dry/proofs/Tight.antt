@@ -1,4 +1,7 @@
 -- No second outcome satisfies a contract of this crate. Assumes nothing.
+use Prim.Native.Nat.{ℕ}
+use mir.Syntax.{w8}
+use mir.Val.{Fits}
 use mathlib.Core.Path.{◌≡◌, refl, sym, ◌∙◌}
 use Rattle.std.specs.Prelude.{Option, Result, Ok}
 use Rattle.tight.specs.Tight.{Tight}
@@ -8,6 +11,12 @@ use Rattle.dry.proofs as this
 
 pub dry_of_tight : Tight this.dry_of.Kinds.ps this.dry_of.Kinds.r this.dry_of.Reads.Pre this.dry_of.Reads.Post
 dry_of_tight κs a pre z z' l l' p q = (p ∙ sym q, refl)
+
+pub next_tight : (KNOWN : ℕ) (fits : Fits w8 KNOWN)
+    → Tight (this.next.Kinds.ps KNOWN fits) (this.next.Kinds.r KNOWN fits) (this.next.Reads.Pre KNOWN fits) (this.next.Reads.Post KNOWN fits)
+next_tight KNOWN fits κs a pre z z' l l' p q =
+    let e = p ∙ sym q in
+    ((λ i. (e i).step), (λ i. (l.0, (l.1.0, (l.1.1.0, ((e i).marks, l.1.1.1.1))))))
 
 pub next_leaf_tight : Tight this.next_leaf.Kinds.ps this.next_leaf.Kinds.r this.next_leaf.Reads.Pre this.next_leaf.Reads.Post
 next_leaf_tight κs a pre z z' l l' p q =

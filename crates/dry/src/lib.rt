@@ -329,7 +329,7 @@ fn settle(s: Spot, met: Met) -> Result<Step, Damaged>
 }
 
 // One step: the next place of the way. Where it is known that every place ahead fits, no page is tested again.
-fn next<const KNOWN: bool>(
+pub fn next<const KNOWN: bool>(
     table: Table<'_>,
     a: Asked,
     c: Cursor,
