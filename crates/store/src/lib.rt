@@ -69,24 +69,18 @@
 ghost use Rattle.std.specs.Prelude.{◌≡◌};
 ghost use Rattle.rules.specs.Batch;
 ghost use Rattle.rules.specs.Format;
+ghost use Rattle.rules.specs.Handing;
 ghost use Rattle.rules.specs.Open;
 ghost use Rattle.rules.specs.Reports.{insert_reported, withdraw_reported, lookup_reported, newest_reported, has_any_reported, list_reported};
 ghost use Rattle.rules.specs.Sync;
 ghost use Rattle.rules.specs.declared.Session.{Session};
 ghost use Rattle.format.specs.Formats;
-ghost use Rattle.opening.specs.Opens;
-ghost use Rattle.insert.specs.Inserts;
-ghost use Rattle.withdraw.specs.Withdraws;
 ghost use Rattle.batch.specs.Turns;
 ghost use Rattle.exchange.specs.ReadFile.{read_file};
 ghost use Rattle.read.specs.Readings;
-ghost use Rattle.lookup.specs.Looks;
-ghost use Rattle.newest.specs.Newests;
-ghost use Rattle.any.specs.Anys;
 ghost use Rattle.list.specs.Lists;
 ghost use Rattle.write.specs.WriteFile.{write_reported};
 ghost use Rattle.write.specs.Calls;
-ghost use Rattle.sync.specs.Syncs;
 
 use exchange::Reading;
 use rules::{
@@ -106,7 +100,7 @@ pub fn format(working: &[u8], stable: &mut [u8]) -> Formatted
 // `Ok(())`, or `OpenError`: `Length`, `Damaged` or `Spent`. A refused opening hands out the session of nobody, with
 // which every call that takes a session is refused for `Length`.
 pub fn open(working: &mut [u8], stable: &mut [u8]) -> Opening
-    ensures { Opens.left result working.new stable.new
+    ensures { Handing.left result working.new stable.new
         ≡ Open.opening working.old stable.old }
 {
     opening::open(working, stable)
@@ -122,7 +116,7 @@ pub fn insert(
     issue: u16,
     value: u32,
 ) -> Inserting
-    ensures { Inserts.leaving result working.new stable.now
+    ensures { Handing.leaving result working.new stable.now
         ≡ insert_reported working.old stable.now session model serial issue value }
 {
     insert::insert(working, stable, session, model, serial, issue, value)
@@ -137,7 +131,7 @@ pub fn withdraw(
     serial: u32,
     issue: u16,
 ) -> Withdrawing
-    ensures { Withdraws.leaving result working.new stable.now
+    ensures { Handing.leaving result working.new stable.now
         ≡ withdraw_reported working.old stable.now session model serial issue }
 {
     withdraw::withdraw(working, stable, session, model, serial, issue)
@@ -170,7 +164,7 @@ pub fn lookup(
     serial: u32,
     issue: u16,
 ) -> Looking
-    ensures { Looks.leaving result working.new stable.now
+    ensures { Handing.leaving result working.new stable.now
         ≡ lookup_reported working.old stable.now session model serial issue }
 {
     lookup::lookup(working, stable, session, model, serial, issue)
@@ -184,7 +178,7 @@ pub fn newest(
     model: u16,
     serial: u32,
 ) -> NewestOf
-    ensures { Newests.leaving result working.new stable.now
+    ensures { Handing.leaving result working.new stable.now
         ≡ newest_reported working.old stable.now session model serial }
 {
     newest::newest(working, stable, session, model, serial)
@@ -199,7 +193,7 @@ pub fn has_any(
     model: u16,
     serial: u32,
 ) -> AnyOf
-    ensures { Anys.leaving result working.new stable.now
+    ensures { Handing.leaving result working.new stable.now
         ≡ has_any_reported working.old stable.now session model serial }
 {
     any::has_any(working, stable, session, model, serial)
@@ -231,7 +225,7 @@ pub fn write_file(working: &mut [u8], stable: &[u8], session: Session, out: &mut
 
 // `Ok(())`, or `SyncError`: `Length` or `Spent`.
 pub fn sync(working: &mut [u8], stable: &mut [u8], session: Session) -> Syncing
-    ensures { Syncs.left result working.new stable.new
+    ensures { Handing.left result working.new stable.new
         ≡ Sync.sync working.old stable.old session }
 {
     sync::sync(working, stable, session)
@@ -247,7 +241,7 @@ pub fn lean_lookup(
     serial: u32,
     issue: u16,
 ) -> lookup::Sought
-    ensures { (s : Session) → s.n ≡ n → s.c ≡ c → Looks.leaving (Looks.beside s result) working.new stable.now
+    ensures { (s : Session) → s.n ≡ n → s.c ≡ c → Handing.leaving (Handing.beside s result) working.new stable.now
         ≡ lookup_reported working.old stable.now s model serial issue }
 {
     lookup::lean(working, stable, n, c, model, serial, issue)
@@ -262,7 +256,7 @@ pub fn lean_newest(
     model: u16,
     serial: u32,
 ) -> newest::Sought
-    ensures { (s : Session) → s.n ≡ n → s.c ≡ c → Newests.leaving (Newests.beside s result) working.new stable.now
+    ensures { (s : Session) → s.n ≡ n → s.c ≡ c → Handing.leaving (Handing.beside s result) working.new stable.now
         ≡ newest_reported working.old stable.now s model serial }
 {
     newest::lean(working, stable, n, c, model, serial)
@@ -277,7 +271,7 @@ pub fn lean_has_any(
     model: u16,
     serial: u32,
 ) -> any::Sought
-    ensures { (s : Session) → s.n ≡ n → s.c ≡ c → Anys.leaving (Anys.beside s result) working.new stable.now
+    ensures { (s : Session) → s.n ≡ n → s.c ≡ c → Handing.leaving (Handing.beside s result) working.new stable.now
         ≡ has_any_reported working.old stable.now s model serial }
 {
     any::lean(working, stable, n, c, model, serial)
@@ -294,7 +288,7 @@ pub fn lean_list(
     records: &mut [u32],
 ) -> list::Sought
     ensures { (s : Session) → s.n ≡ n → s.c ≡ c
-        → Lists.leaving (Lists.beside s result) working.new stable.now keys.new records.new
+        → Lists.leaving (Handing.beside s result) working.new stable.now keys.new records.new
         ≡ list_reported working.old stable.now s start keys.old records.old }
 {
     list::lean(working, stable, n, c, start, keys, records)
@@ -309,7 +303,7 @@ pub fn lean_write_file(
     out: &mut [u8],
 ) -> write::Sought
     ensures { (s : Session) → s.n ≡ n → s.c ≡ c
-        → Calls.leaving (Calls.beside s result) working.new stable.now out.new
+        → Calls.leaving (Handing.beside s result) working.new stable.now out.new
         ≡ write_reported working.old stable.now s out.old }
 {
     write::lean(working, stable, n, c, out)
