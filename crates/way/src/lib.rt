@@ -21,11 +21,11 @@ ghost use Rattle.rules.specs.Report.{nothing};
 ghost use Rattle.rules.specs.Walk.{way_of, way_report};
 ghost use Rattle.entries.specs.Spot.{keys_in, spot_of};
 ghost use Rattle.way.specs.Ahead.{ahead_of};
-ghost use Rattle.way.specs.Ways.{places_below, Leads, above_in, told, end_in, reported, went, ended};
+ghost use Rattle.way.specs.Ways.{no_step, places_below, Leads, above_in, told, end_in, reported, went, ended};
 
 use enter::Above;
 use entries::Entries;
-use few::Few;
+use few::{Few, Spare};
 use head::Head;
 use rules::{AT_COUNT, AT_KIND, INNER_ROOM, LEAF, LEAF_ROOM, LEVELS, Place, Report};
 
@@ -36,11 +36,19 @@ pub struct Step {
     pub head: Head,
 }
 
+impl Spare for Step {
+    ghost spare_is = { no_step };
+
+    fn spare() -> Step {
+        Step::default()
+    }
+}
+
 // The pages entered, the last one first: a leaf at the end of a whole way, its parent, and the page above that.
 pub type Way = Few<Step, LEVELS>;
 
 // A way, unless it met a damaged place, and what was mended on it.
-#[derive(Drop)]
+#[derive(Clone, Copy)]
 pub struct Went {
     pub way: Option<Way>,
     pub report: Report,
