@@ -1,9 +1,8 @@
 -- One mark, and the two tests that it decides; whether any is set. Assumes nothing.
 use Prim.Native.Nat.{ℕ, zero, suc}
-use mathlib.Core.Path.{◌≡◌, refl}
-use mathlib.Core.Bool.{Bool, true, false, not, beq}
-use Rattle.std.specs.List.{list_any}
-use mathlib.Core.List.{List, [], ◌∷◌}
+use mathlib.Core.Path.{◌≡◌, refl, ap, sym, ◌∙◌}
+use mathlib.Core.Bool.{Bool, true, false, not, ◌&&◌, ◌||◌}
+use mathlib.Core.List.{List, [], ◌∷◌, ◌++◌}
 use borrow.Author.Tests.{not-true}
 use Rattle.rules.specs.Table.{read}
 use Rattle.rules.specs.Place.{fits, mendable}
@@ -30,12 +29,18 @@ module _ (n : ℕ) (t : List ℕ) (m : List Bool) (e : Place) where
 
 -- ── All of them ─────────────────────────────────────────────────────────────────────────────────────────────────
 
--- none is marked where none of them is true
-pub none_marked-any : (m : List Bool) → not (list_any (λ (x : Bool). beq x true) m) ≡ none_marked m
+-- none is marked, with one more at the end
+push : (m : List Bool) (x : Bool) → none_marked (m ++ (x ∷ [])) ≡ (none_marked m && not x)
 unfolding none_marked
-none_marked-any [] = refl
-none_marked-any (true ∷ m) = refl
-none_marked-any (false ∷ m) = none_marked-any m
+push [] true = refl
+push [] false = refl
+push (true ∷ m) x = refl
+push (false ∷ m) x = push m x
+
+-- and whether some is
+pub none_marked-more : (a : Bool) (m : List Bool) (x : Bool) → not a ≡ none_marked m → not (a || x) ≡ none_marked (m ++ (x ∷ []))
+none_marked-more true m x e = ap (λ (b : Bool). b && not x) e ∙ sym (push m x)
+none_marked-more false m x e = ap (λ (b : Bool). b && not x) e ∙ sym (push m x)
 
 pub none_marked_lem : (m : List Bool) → none_marked m ≡ true → (i : ℕ) → marked m i ≡ false
 unfolding none_marked marked

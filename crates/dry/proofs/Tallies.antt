@@ -1,7 +1,7 @@
 -- Certificates counted one by one come to what the rules find on a page. Assumes nothing.
 use Prim.Native.Nat.{ℕ, suc, min, max, ◌+◌, ◌*◌, ◌-◌, ◌≤◌, ◌<◌}
 use native.Mathlib.Omega.{arith}
-use native.Mathlib.Nat.{le-min, max-le, le-max_left, le-max_right, min-le_left, min-le_right, min-eq_left, min-eq_right, min_comm}
+use native.Mathlib.Nat.{le-min, max-le, le-max_left, le-max_right, min-le_left, min-le_right, min_comm}
 use mathlib.Core.Path.{◌≡◌, refl, ap, sym, ◌∙◌}
 use mathlib.Core.Bool.{Bool, true, false, ◌&&◌}
 use mathlib.Core.List.{List, [], ◌∷◌}
