@@ -104,14 +104,15 @@ module _ {n : ℕ} {a : Asked} {t : List ℕ} where
         unfolding Reached
         leaf_less = leaf.1
 
-        pub leaf-shown : LeafShown n t marks l
+        -- by the marks before the step that came to it
+        pub leaf-shown : (before : List Bool) × LeafShown n t before marks l
         unfolding Reached
         leaf-shown = leaf.2
 
         leaf_sourced : Sourced n t l.page
         leaf_sourced =
-            let x = leaf-shown in
-            sourced n t y.long (x.parent ∷ x.top ∷ []) x.before l.place l.page x.source_is
+            let x = leaf-shown.1 in
+            sourced n t y.long (x.parent ∷ x.top ∷ []) leaf-shown.0 l.place l.page x.source_is
 
         pub leaf-below : l.page < n
         leaf-below = leaf_sourced.inside
@@ -120,7 +121,7 @@ module _ {n : ℕ} {a : Asked} {t : List ℕ} where
         leaf-inside = source-inside n t y.long l.page leaf_sourced
 
         pub leaf_there : (h : Head) → h ≡ head_in (page_at t l.page) → Leaf t l.page h
-        leaf_there h f = source-leaf n t y.long l.page leaf_sourced h f (head-kind t l.page h f ∙ leaf-shown.kind)
+        leaf_there h f = source-leaf n t y.long l.page leaf_sourced h f (head-kind t l.page h f ∙ leaf-shown.1.kind)
 
         tallied : (k : ℕ) → k ≡ tally_at t l.page a l.place count → length (seen ++ leaf_view t a l seen) ≡ k
         unfolding tally_at tally asks

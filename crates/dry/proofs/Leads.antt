@@ -27,21 +27,20 @@ use Rattle.dry.specs.declared.Step.{Step}
 use Rattle.dry.proofs.Goes.{Sourced, sourced, source-lies, source_names}
 
 -- a leaf's source, by the marks before it and after
-pub record LeafShown (n : ℕ) (t : List ℕ) (marks : List Bool) (l : LeafAt) : Type 0 where
-  pub before : List Bool
+pub record LeafShown (n : ℕ) (t : List ℕ) (m marks : List Bool) (l : LeafAt) : Type 0 where
   pub parent : ℕ
   pub top : ℕ
-  pub source_is : source n (parent ∷ top ∷ []) t before l.place ≡ Some l.page
-  pub marks_are : marks ≡ marked_by l.page l.place before
+  pub source_is : source n (parent ∷ top ∷ []) t m l.place ≡ Some l.page
+  pub marks_are : marks ≡ marked_by l.page l.place m
   pub names : Names n l.place
   pub kind : kind_at t l.page ≡ leaf_kind
 
 -- what is known behind a step
-unfoldable pub Good : ℕ → List ℕ → ℕ → Result Step Damaged → List Bool → Type 0
-Good n t left (Ok (Step.On c)) marks = Leads n t c × (way_left c < left)
-Good n t left (Ok (Step.Leaf l)) marks = Leads n t l.after × (way_left l.after < left) × LeafShown n t marks l
-Good n t left (Ok Step.End) marks = Unit {0}
-Good n t left (Err x) marks = Unit {0}
+unfoldable pub Good : ℕ → List ℕ → List Bool → ℕ → Result Step Damaged → List Bool → Type 0
+Good n t m left (Ok (Step.On c)) marks = Leads n t c × (way_left c < left)
+Good n t m left (Ok (Step.Leaf l)) marks = Leads n t l.after × (way_left l.after < left) × LeafShown n t m marks l
+Good n t m left (Ok Step.End) marks = Unit {0}
+Good n t m left (Err x) marks = Unit {0}
 
 no_places : (n : ℕ) (t : List ℕ) (high : ℕ) → All (Names n) (places t high no_run)
 unfolding no_run
@@ -75,9 +74,9 @@ module _ (n : ℕ) (t : List ℕ) where
 
   module _ (a : Asked) (m : List Bool) (long : length t ≡ n * page_size) where
     module _ (left : ℕ) (s : Spot) (leads : LeadsUnder n t s.rest) (less : way_left (Cursor.Under s.rest) < left) (names : Names n s.place)
-        (under : (r : Run) (marks : List Bool) → Lies n r → All (Names n) (places t s.place.high r) → Good n t left (under_of s r) marks) where
+        (under : (r : Run) (marks : List Bool) → Lies n r → All (Names n) (places t s.place.high r) → Good n t m left (under_of s r) marks) where
       shown : (i : ℕ) → source n (s.parent ∷ s.top ∷ []) t m s.place ≡ Some i
-          → Good n t left (settle_of s (met_page t s.place i)) (marked_by i s.place m)
+          → Good n t m left (settle_of s (met_page t s.place i)) (marked_by i s.place m)
       unfolding met_page settle_of Good
       shown i p = go (eqb (kind_at t i) leaf_kind) refl
         where
@@ -85,9 +84,8 @@ module _ (n : ℕ) (t : List ℕ) where
           here = sourced n t long (s.parent ∷ s.top ∷ []) m s.place i p
 
           leaf : eqb (kind_at t i) leaf_kind ≡ true
-              → LeafShown n t (marked_by i s.place m) (record { page = i; place = s.place; after = Cursor.Under s.rest })
+              → LeafShown n t m (marked_by i s.place m) (record { page = i; place = s.place; after = Cursor.Under s.rest })
           leaf q = record {
-            before = m;
             parent = s.parent;
             top = s.top;
             source_is = p;
@@ -96,7 +94,7 @@ module _ (n : ℕ) (t : List ℕ) where
             kind = eqb-true (kind_at t i) leaf_kind q;
           }
 
-          go : (b : Bool) → eqb (kind_at t i) leaf_kind ≡ b → Good n t left (settle_of s (met_page t s.place i)) (marked_by i s.place m)
+          go : (b : Bool) → eqb (kind_at t i) leaf_kind ≡ b → Good n t m left (settle_of s (met_page t s.place i)) (marked_by i s.place m)
           go true q = rw (met_page, q) (leads, less, leaf q)
           go false q =
               rw (met_page, q)
@@ -104,13 +102,13 @@ module _ (n : ℕ) (t : List ℕ) where
               (source-lies n t long i here s.place.low s.place.high _ refl) (source_names n t long i here s.place))
 
       met : (x : Option ℕ) → source n (s.parent ∷ s.top ∷ []) t m s.place ≡ x
-          → Good n t left (settle_met s (met_by t m s.place x).met) (met_by t m s.place x).marks
+          → Good n t m left (settle_met s (met_by t m s.place x).met) (met_by t m s.place x).marks
       unfolding met_by settle_met Good
       met (Some i) p = shown i p
       met None p = tt
 
       abbrev Settles : Meeting → Type 0
-      Settles x = Good n t left (settled s x).step (settled s x).marks
+      Settles x = Good n t m left (settled s x).step (settled s x).marks
 
       settles : Settles (meet_of n a (s.parent ∷ s.top ∷ []) t m s.place)
       unfolding settled meet_of settle_met settle_of Good
@@ -124,7 +122,7 @@ module _ (n : ℕ) (t : List ℕ) where
     at_spot s = settled s (meet_of n a (s.parent ∷ s.top ∷ []) t m s.place)
 
     abbrev Goes : Cursor → Stepping → Type 0
-    Goes c x = Good n t (way_left c) x.step x.marks
+    Goes c x = Good n t m (way_left c) x.step x.marks
 
     module _ (w : Way) (leads : LeadsUnder n t w) where
       lower-good : (w.lower.left ≡ 0 → ⊥) → Goes (Cursor.Under w) (at_spot (due_lower t w))
@@ -141,7 +139,7 @@ module _ (n : ℕ) (t : List ℕ) where
             lower_names = names-rest w.high w.lower h leads.lower_names;
           }
 
-          under : (r : Run) (marks : List Bool) (b : Bool) → eqb r.left 0 ≡ b → Good n t (way_left (Cursor.Under w)) (under_of (due_lower t w) r) marks
+          under : (r : Run) (marks : List Bool) (b : Bool) → eqb r.left 0 ≡ b → Good n t m (way_left (Cursor.Under w)) (under_of (due_lower t w) r) marks
           under r marks true q = rw (under_of, q) (behind, omega arith)
           under r marks false q = rw (under_of, q) tt
 

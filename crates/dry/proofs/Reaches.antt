@@ -29,9 +29,9 @@ come n a t found (Ok (Some l)) m =
 come n a t found (Ok None) m = sighted true found m
 come n a t found (Err x) m = sighted false found m
 
--- what is known of it
+-- what is known of it: a leaf is shown by the marks before the step that came to it
 unfoldable pub Reached : ℕ → List ℕ → ℕ → Result (Option LeafAt) Damaged → List Bool → Type 0
-Reached n t left (Ok (Some l)) marks = Leads n t l.after × (way_left l.after < left) × LeafShown n t marks l
+Reached n t left (Ok (Some l)) marks = Leads n t l.after × (way_left l.after < left) × ((m : List Bool) × LeafShown n t m marks l)
 Reached n t left (Ok None) marks = Unit {0}
 Reached n t left (Err x) marks = Unit {0}
 
@@ -52,7 +52,7 @@ module _ (n : ℕ) (a : Asked) (t : List ℕ) (long : length t ≡ n * page_size
   within (suc k) zero c m l p q = absurd (omega arith)
   within (suc k) (suc j) c m l p q = go (within k j) (step_of n a t c m).step (step_of n a t c m).marks (step-good n t a m long c l)
     where
-      go : Same k j → (s : Result Step Damaged) (marks : List Bool) → Good n t (way_left c) s marks
+      go : Same k j → (s : Result Step Damaged) (marks : List Bool) → Good n t m (way_left c) s marks
           → reach_by (leaf_within k n a t) s marks ≡ reach_by (leaf_within j n a t) s marks
       go w (Ok (Step.On x)) marks g = w x marks g.0 (omega (arith, g.1)) (omega (arith, g.1))
       go w (Ok (Step.Leaf x)) marks g = refl
@@ -62,8 +62,8 @@ module _ (n : ℕ) (a : Asked) (t : List ℕ) (long : length t ≡ n * page_size
   -- ── One step ────────────────────────────────────────────────────────────────────────────────────────────────────
 
   module _ (c : Cursor) (m : List Bool) (leads : Leads n t c) (s : Result Step Damaged) (marks : List Bool) (is : stepping s marks ≡ step_of n a t c m) where
-    good : Good n t (way_left c) s marks
-    good = subst (λ (x : Stepping). Good n t (way_left c) x.step x.marks) (sym is) (step-good n t a m long c leads)
+    good : Good n t m (way_left c) s marks
+    good = subst (λ (x : Stepping). Good n t m (way_left c) x.step x.marks) (sym is) (step-good n t a m long c leads)
 
     comes : reach_by (leaf_within (way_left c) n a t) s marks ≡ leaf_of n a t c m
     unfolding leaf_of leaf_within
@@ -73,8 +73,8 @@ module _ (n : ℕ) (a : Asked) (t : List ℕ) (long : length t ≡ n * page_size
     By z = reach_by (leaf_within (way_left c) n a t) z marks ≡ leaf_of n a t c m
 
     module _ (x : Cursor) (q : s ≡ Ok (Step.On x)) where
-      on : Good n t (way_left c) (Ok (Step.On x)) marks
-      on = subst (λ (z : Result Step Damaged). Good n t (way_left c) z marks) q good
+      on : Good n t m (way_left c) (Ok (Step.On x)) marks
+      on = subst (λ (z : Result Step Damaged). Good n t m (way_left c) z marks) q good
 
       pub on_less : way_left x < way_left c
       unfolding Good
@@ -130,11 +130,11 @@ module _ (n : ℕ) (a : Asked) (t : List ℕ) (long : length t ≡ n * page_size
   known zero c m l p = absurd (omega arith)
   known (suc k) c m l p = go (known k) (step_of n a t c m).step (step_of n a t c m).marks (step-good n t a m long c l)
     where
-      go : Known k → (s : Result Step Damaged) (marks : List Bool) → Good n t (way_left c) s marks
+      go : Known k → (s : Result Step Damaged) (marks : List Bool) → Good n t m (way_left c) s marks
           → Reached n t (way_left c) (reach_by (leaf_within k n a t) s marks).leaf (reach_by (leaf_within k n a t) s marks).marks
       go w (Ok (Step.On x)) marks g =
           reached-more n t (way_left x) (way_left c) _ _ (omega (arith, g.1)) (w x marks g.0 (omega (arith, g.1)))
-      go w (Ok (Step.Leaf x)) marks g = g
+      go w (Ok (Step.Leaf x)) marks g = (g.0, g.1, (m, g.2))
       go w (Ok Step.End) marks g = tt
       go w (Err x) marks g = tt
 
@@ -154,7 +154,7 @@ module _ (n : ℕ) (a : Asked) (t : List ℕ) (long : length t ≡ n * page_size
         step-ahead n a t long found m room c
         ∙ go (arrives k) (step_of n a t c m).step (step_of n a t c m).marks (step-good n t a m long c l)
       where
-        go : Comes k → (s : Result Step Damaged) (marks : List Bool) → Good n t (way_left c) s marks
+        go : Comes k → (s : Result Step Damaged) (marks : List Bool) → Good n t m (way_left c) s marks
             → stepped n a t found s marks ≡ come n a t found (reach_by (leaf_within k n a t) s marks).leaf (reach_by (leaf_within k n a t) s marks).marks
         go w (Ok (Step.On x)) marks g = w x marks g.0 (omega (arith, g.1))
         go w (Ok (Step.Leaf x)) marks g = refl

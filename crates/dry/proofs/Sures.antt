@@ -194,8 +194,12 @@ module _ (n : ℕ) (a : Asked) (t : List ℕ) where
 
 module _ {n : ℕ} {a : Asked} {t : List ℕ} {c : Cursor} {count : ℕ} {m : List Bool} {s : Result (Option LeafAt) Damaged} {marks : List Bool} (y : Taken n a t c count m s marks)
     (size : n ≤ length marks) (still : (i : ℕ) → marked (dry_over n a t).mended i ≡ false) (l : LeafAt) (q : s ≡ Ok (Some l)) where
-  shown : LeafShown n t marks l
-  shown = leaf-shown y l q
+  before : List Bool
+  before = (leaf-shown y l q).0
+
+  shown : LeafShown n t before marks l
+  unfolding before
+  shown = (leaf-shown y l q).1
 
   own-page : l.page ≡ l.place.child
   own-page = go (eqb l.page l.place.child) refl
@@ -208,7 +212,7 @@ module _ {n : ℕ} {a : Asked} {t : List ℕ} {c : Cursor} {count : ℕ} {m : Li
           (subst (λ (x : Sighted). marked x.mended l.place.child ≡ true) (leaf-comes y l q)
           (ahead-grows n a t l.after _ l.place.child
           (subst (λ (x : List Bool). marked x l.place.child ≡ true) (sym shown.marks_are)
-          (mended_there l.page l.place shown.before (omega (arith, size, shown.names, ap length shown.marks_are, length-by l.page l.place shown.before)) (eqb-false l.page l.place.child z)))))
+          (mended_there l.page l.place before (omega (arith, size, shown.names, ap length shown.marks_are, length-by l.page l.place before)) (eqb-false l.page l.place.child z)))))
           (still l.place.child))
 
   -- it fits its place
@@ -216,7 +220,7 @@ module _ {n : ℕ} {a : Asked} {t : List ℕ} {c : Cursor} {count : ℕ} {m : Li
   leaf-fits =
       subst (λ (i : ℕ). Fits n l.place (read t i)) (sym own-page)
       (fits_true n l.place (read t l.place.child)
-      (source_fits n (shown.parent ∷ shown.top ∷ []) t shown.before l.place (shown.source_is ∙ ap Some own-page)))
+      (source_fits n (shown.parent ∷ shown.top ∷ []) t before l.place (shown.source_is ∙ ap Some own-page)))
 
   -- so it is shown as it lies
   pub leaf-view : (found : List Cert) → leaf_view t a l found ≡ asks a (read t l.page).view found

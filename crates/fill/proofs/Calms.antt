@@ -90,7 +90,7 @@ module _ {n : ℕ} {a : Asked} {t ks xs : List ℕ} (calm : Calm n a t) where
           here = e ∙ head_in-page (page_at t l.page)
 
           kind : h.kind ≡ leaf_kind
-          kind = head-kind t l.page h e ∙ (leaf-shown y l (ap Ok p)).kind
+          kind = head-kind t l.page h e ∙ (leaf-shown y l (ap Ok p)).1.kind
 
           sorted : Sorted (read t l.page).view.certs
           sorted =
