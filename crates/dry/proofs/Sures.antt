@@ -9,7 +9,7 @@ use lib.Dec.{eqb}
 use lib.ListN.{length, length-set, set, get_or}
 use lib.Seq.{get_or-set_same, get_or-set_other}
 use borrow.Author.Tests.{eqb-true, eqb-false}
-use Rattle.std.specs.Prelude.{Option, Some, None, Result, Ok}
+use Rattle.std.specs.Prelude.{Option, Some, None, Result, Ok, Err}
 use Rattle.rules.specs.Layout.{last_key}
 use Rattle.rules.specs.Entry.{Cert}
 use Rattle.rules.specs.Place.{root_place, kids, cut_view}
@@ -23,11 +23,12 @@ use Rattle.rules.proofs.Entries.Places.{Fits, fits_true}
 use Rattle.seen.specs.Run.{places}
 use Rattle.dry.specs.Walk.{marked, Sighted, sighted, meets, asks, takes, breaks, dry_each, dry, dry_over}
 use Rattle.dry.specs.Source.{source, marked_by}
-use Rattle.dry.specs.Cursor.{in_reach, due_lower, due_upper, due_root, due_under, due_of, ahead, Names, Leads, Sure}
+use Rattle.dry.specs.Cursor.{in_reach, met_by, meet_of, due_lower, due_upper, due_root, due_under, due_of, settled, step_at, step_of, way_left, Reaching, reach_by, leaf_within, leaf_of, ahead, Names, Leads, Sure}
 use Rattle.dry.specs.declared.Cursor.{Cursor}
 use Rattle.dry.specs.declared.Damaged.{Damaged}
 use Rattle.dry.specs.declared.Spot.{Spot}
 use Rattle.dry.specs.declared.LeafAt.{LeafAt}
+use Rattle.dry.specs.declared.Step.{Step}
 use Rattle.dry.proofs.Sources.{marked-own, marked_other, source_fits}
 use Rattle.dry.proofs.Meets.{meets_reach}
 use Rattle.dry.proofs.Steps.{step-passes, step-damaged, step-goes}
@@ -69,6 +70,45 @@ length-by i e m = go (eqb i e.child) refl
     go : (b : Bool) → eqb i e.child ≡ b → length (marked_by i e m) ≡ length m
     go true q = ap length (sym (marked-own i e m (eqb-true i e.child q)))
     go false q = ap length (sym (marked_other i e m (eqb-false i e.child q))) ∙ length-set m e.child true
+
+-- no mark is lost, and none comes
+module _ (n : ℕ) (a : Asked) (t : List ℕ) where
+  met-length : (e : Place) (m : List Bool) (x : Option ℕ) → length (met_by t m e x).marks ≡ length m
+  unfolding met_by
+  met-length e m (Some i) = length-by i e m
+  met-length e m None = refl
+
+  meet-length : (above : List ℕ) (e : Place) (m : List Bool) → length (meet_of n a above t m e).marks ≡ length m
+  unfolding meet_of
+  meet-length above e m = go (in_reach a e) refl
+    where
+      go : (b : Bool) → in_reach a e ≡ b → length (meet_of n a above t m e).marks ≡ length m
+      go true h = rw (meet_of, h) (met-length e m (source n above t m e))
+      go false h = rw (meet_of, h) refl
+
+  pub step-length : (c : Cursor) (m : List Bool) → length (step_of n a t c m).marks ≡ length m
+  unfolding step_of step_at settled
+  step-length c m = go (due_of t c)
+    where
+      go : (x : Option Spot) → length (step_at n a t m x).marks ≡ length m
+      go (Some s) = meet-length (s.parent ∷ s.top ∷ []) s.place m
+      go None = refl
+
+  within-length : (k : ℕ) (c : Cursor) (m : List Bool) → length (leaf_within k n a t c m).marks ≡ length m
+  unfolding leaf_within reach_by
+  within-length zero c m = refl
+  within-length (suc k) c m = go (within-length k) (step_of n a t c m).step (step_of n a t c m).marks ∙ step-length c m
+    where
+      go : ((x : Cursor) (y : List Bool) → length (leaf_within k n a t x y).marks ≡ length y)
+          → (s : Result Step Damaged) (marks : List Bool) → length (reach_by (leaf_within k n a t) s marks).marks ≡ length marks
+      go w (Ok (Step.On x)) marks = w x marks
+      go w (Ok (Step.Leaf x)) marks = refl
+      go w (Ok Step.End) marks = refl
+      go w (Err x) marks = refl
+
+  pub leaf-length : (c : Cursor) (m : List Bool) → length (leaf_of n a t c m).marks ≡ length m
+  unfolding leaf_of
+  leaf-length c m = within-length (suc (way_left c)) c m
 
 -- a child that is not its own source is marked
 mended_there : (i : ℕ) (e : Place) (m : List Bool) → e.child < length m → (i ≡ e.child → ⊥) → marked (marked_by i e m) e.child ≡ true
@@ -193,13 +233,20 @@ module _ (n : ℕ) (a : Asked) (t : List ℕ) where
 -- ── A leaf of such a walk ───────────────────────────────────────────────────────────────────────────────────────
 
 module _ {n : ℕ} {a : Asked} {t : List ℕ} {c : Cursor} {count : ℕ} {m : List Bool} {s : Result (Option LeafAt) Damaged} {marks : List Bool} (y : Taken n a t c count m s marks)
-    (size : n ≤ length marks) (still : (i : ℕ) → marked (dry_over n a t).mended i ≡ false) (l : LeafAt) (q : s ≡ Ok (Some l)) where
+    (size : n ≤ length m) (still : (i : ℕ) → marked (dry_over n a t).mended i ≡ false) (l : LeafAt) (q : s ≡ Ok (Some l)) where
   before : List Bool
   before = (leaf-shown y l q).0
 
   shown : LeafShown n t before marks l
   unfolding before
   shown = (leaf-shown y l q).1
+
+  -- as many as the walk was given
+  before-length : length before ≡ length m
+  before-length =
+      sym (ap length shown.marks_are ∙ length-by l.page l.place before)
+      ∙ ap (λ (x : Reaching). length x.marks) y.is
+      ∙ leaf-length n a t c m
 
   own-page : l.page ≡ l.place.child
   own-page = go (eqb l.page l.place.child) refl
@@ -212,7 +259,7 @@ module _ {n : ℕ} {a : Asked} {t : List ℕ} {c : Cursor} {count : ℕ} {m : Li
           (subst (λ (x : Sighted). marked x.mended l.place.child ≡ true) (leaf-comes y l q)
           (ahead-grows n a t l.after _ l.place.child
           (subst (λ (x : List Bool). marked x l.place.child ≡ true) (sym shown.marks_are)
-          (mended_there l.page l.place before (omega (arith, size, shown.names, ap length shown.marks_are, length-by l.page l.place before)) (eqb-false l.page l.place.child z)))))
+          (mended_there l.page l.place before (omega (arith, size, shown.names, before-length)) (eqb-false l.page l.place.child z)))))
           (still l.place.child))
 
   -- it fits its place

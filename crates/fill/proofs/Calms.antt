@@ -65,10 +65,6 @@ module _ {n : ℕ} {a : Asked} {t ks xs : List ℕ} (calm : Calm n a t) where
       abbrev y : Taken n a t c filled m (Ok s) marks
       y = record { long = calm.long; room = room; going = f.going; is = is }
 
-      -- the marks are as many as before
-      pub marks-size : length marks ≡ length m → n ≤ length marks
-      marks-size e = omega (arith, e, marks-room)
-
       pub filling-ends : s ≡ None → listing filled us vs ≡ lists_of ks xs (dry_over n a t).found
       filling-ends q = f.lists ∙ ap (λ (x : Sighted). lists_of ks xs x.found) (end_sees y (ap Ok q))
 
@@ -84,7 +80,7 @@ module _ {n : ℕ} {a : Asked} {t ks xs : List ℕ} (calm : Calm n a t) where
         pub filling-inside : (l.page + 1) * page_size ≤ length t
         filling-inside = leaf-inside y l (ap Ok p)
 
-        module _ (size : n ≤ length marks) (h : Head) (e : h ≡ head_in (page_at t l.page)) where
+        module _ (h : Head) (e : h ≡ head_in (page_at t l.page)) where
           here : h ≡ head_of (read t l.page)
           unfolding read
           here = e ∙ head_in-page (page_at t l.page)
@@ -94,7 +90,7 @@ module _ {n : ℕ} {a : Asked} {t ks xs : List ℕ} (calm : Calm n a t) where
 
           sorted : Sorted (read t l.page).view.certs
           sorted =
-              let z = (leaf-fits y size calm.still l (ap Ok p)).sound in
+              let z = (leaf-fits y marks-room calm.still l (ap Ok p)).sound in
               record { room = z.certs_room; rise = z.certs_rise }
 
           pub filling-count : h.count ≤ leaf_room
@@ -106,7 +102,7 @@ module _ {n : ℕ} {a : Asked} {t ks xs : List ℕ} (calm : Calm n a t) where
           shown : leaf_view t a l seen ≡ asked a filled (certs_from (page_at t l.page) 0 h.count)
           unfolding asks asked
           shown =
-              leaf-view y size calm.still l (ap Ok p) seen
+              leaf-view y marks-room calm.still l (ap Ok p) seen
               ∙ ap (λ (k : ℕ). take (a.room - k) (cut a.low a.high (read t l.page).view.certs)) f.going.counts
               ∙ ap (asked a filled) (leaves.leaf-certs t l.page h here kind)
 
@@ -118,7 +114,7 @@ module _ {n : ℕ} {a : Asked} {t ks xs : List ℕ} (calm : Calm n a t) where
                 ∙ lists-more ks xs filled us vs seen (leaf_view t a l seen) f.lists
 
             pub filling-leaf : Roomy a ms ns → length marks ≡ most_pages → Filling n a t ks xs l.after k marks ms ns
-            filling-leaf roomy long = record {
+            filling-leaf roomy size = record {
               going = record {
                 found = seen ++ leaf_view t a l seen;
                 counts = sym (lists-count ks xs (seen ++ leaf_view t a l seen) k ms ns now);
@@ -127,5 +123,5 @@ module _ {n : ℕ} {a : Asked} {t ks xs : List ℕ} (calm : Calm n a t) where
               };
               lists = now;
               roomy = roomy;
-              size = long;
+              size = size;
             }

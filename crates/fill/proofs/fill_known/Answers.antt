@@ -3,7 +3,7 @@
 use mathlib.Core.Path.{refl, ap, ◌∙◌}
 use Rattle.head.specs.Head.{head_in}
 use Rattle.fill.proofs.Copies.{roomy-kept}
-use Rattle.fill.proofs.Calms.{filling-begins, filling_sure, filling-full, filling-ends, marks-size, filling-passes, filling-below, filling-inside, filling-count, filling-rises, filling-leaf}
+use Rattle.fill.proofs.Calms.{filling-begins, filling_sure, filling-full, filling-ends, filling-passes, filling-below, filling-inside, filling-count, filling-rises, filling-leaf}
 use native.Mathlib.Omega.{arith}
 use Rattle.fill.proofs.fill_known.Goals as goal
 
@@ -41,8 +41,7 @@ fill_leaf_at-filled-requires c =
     let next = c.next_known in
     let head_at = c.read_head-head in
     let read = head_at.ensures ∙ ap head_in c.page.ensures.bytes in
-    let size = marks-size pre.0 loop.invariant.3 if1.true next.ensures next.auto.marks in
-    (filling-inside pre.0 loop.invariant.3 if1.true next.ensures c.in-Some.leaf c.in-Some.is, filling-count pre.0 loop.invariant.3 if1.true next.ensures c.in-Some.leaf c.in-Some.is size head_at.result read, filling-rises pre.0 loop.invariant.3 if1.true next.ensures c.in-Some.leaf c.in-Some.is size head_at.result read, omega (arith, if1.true), loop.invariant.3.roomy)
+    (filling-inside pre.0 loop.invariant.3 if1.true next.ensures c.in-Some.leaf c.in-Some.is, filling-count pre.0 loop.invariant.3 if1.true next.ensures c.in-Some.leaf c.in-Some.is head_at.result read, filling-rises pre.0 loop.invariant.3 if1.true next.ensures c.in-Some.leaf c.in-Some.is head_at.result read, omega (arith, if1.true), loop.invariant.3.roomy)
 
 pub loop-filled-smaller : goal.loop-filled-smaller
 loop-filled-smaller c =
@@ -57,8 +56,7 @@ loop-filled-preserved c =
     let head_at = c.read_head-head in
     let read = head_at.ensures ∙ ap head_in c.page.ensures.bytes in
     let fill-leaf-at = c.fill_leaf_at-filled in
-    let size = marks-size pre.0 loop.invariant.3 if1.true next.ensures next.auto.marks in
-    (omega (arith, next.auto.marks, loop.invariant.0), omega (arith, fill-leaf-at.auto.keys, loop.invariant.1), omega (arith, fill-leaf-at.auto.records, loop.invariant.2), filling-leaf pre.0 loop.invariant.3 if1.true next.ensures c.in-Some.leaf c.in-Some.is size head_at.result read fill-leaf-at.result fill-leaf-at.new.keys fill-leaf-at.new.records fill-leaf-at.ensures (roomy-kept loop.invariant.3.roomy fill-leaf-at.auto.keys fill-leaf-at.auto.records) (omega (arith, next.auto.marks, loop.invariant.0)))
+    (omega (arith, next.auto.marks, loop.invariant.0), omega (arith, fill-leaf-at.auto.keys, loop.invariant.1), omega (arith, fill-leaf-at.auto.records, loop.invariant.2), filling-leaf pre.0 loop.invariant.3 if1.true next.ensures c.in-Some.leaf c.in-Some.is head_at.result read fill-leaf-at.result fill-leaf-at.new.keys fill-leaf-at.new.records fill-leaf-at.ensures (roomy-kept loop.invariant.3.roomy fill-leaf-at.auto.keys fill-leaf-at.auto.records) (omega (arith, next.auto.marks, loop.invariant.0)))
 
 pub shape_of-keys : goal.shape_of-keys
 shape_of-keys c = c.loop-filled.invariant.1
