@@ -21,7 +21,7 @@ use Rattle.head.proofs.Headers.{head_in-page, certs-leaf}
 use Rattle.rules.proofs.Entries.Tests.{not_both}
 use Rattle.dry.specs.Walk.{sighted, asks, dry_over}
 use Rattle.dry.specs.Count.{Leaf}
-use Rattle.dry.specs.Cursor.{at_root, reaching, leaf_of, way_left}
+use Rattle.dry.specs.Cursor.{no_run, at_root, reaching, leaf_of, root_left, way_left}
 use Rattle.dry.specs.declared.Damaged.{Damaged}
 use Rattle.dry.specs.declared.Cursor.{Cursor}
 use Rattle.dry.specs.declared.LeafAt.{LeafAt}
@@ -61,12 +61,12 @@ pub record Counting (n : ℕ) (a : Asked) (t : List ℕ) (c : Cursor) (tally : T
   pub few : tally.certs + leaf_room * way_left c ≤ leaf_room * 4096
 
 module _ {n : ℕ} {a : Asked} {t : List ℕ} (ea : a ≡ everything) where
-  pub counting_begins : (z : Tally) → z ≡ no_tally → fit0 n t ≡ true → Counting n a t at_root z (replicate most_pages false)
-  unfolding no_tally counted_all way_left
-  counting_begins z q fit = record {
-    going = record { found = []; counts = sym (ap (λ (x : Tally). x.certs) q); comes = root-comes n t a; leads = root-leads n t fit };
+  pub counting_begins : (c : Cursor) → c ≡ at_root → (z : Tally) → z ≡ no_tally → fit0 n t ≡ true → Counting n a t c z (replicate most_pages false)
+  unfolding no_tally counted_all way_left root_left at_root no_run
+  counting_begins c e z q fit = record {
+    going = record { found = []; counts = sym (ap (λ (x : Tally). x.certs) q); comes = root-comes n t c e a; leads = root-leads n t c e fit };
     tally_is = q;
-    few = rw q (omega arith);
+    few = subst (λ (x : Cursor). z.certs + leaf_room * way_left x ≤ leaf_room * 4096) (sym e) (rw q (omega arith));
   }
 
   module _ {c : Cursor} {tally : Tally} {m : List Bool} (x : Counting n a t c tally m) where

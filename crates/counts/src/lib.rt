@@ -15,7 +15,7 @@ ghost use Rattle.rules.specs.Page.{read_each, cert_in};
 ghost use Rattle.rules.specs.Table.{fit0};
 ghost use Rattle.counts.specs.Tally.{everything, one_more, counted, counted_in, counted_all, Few, ahead_of};
 
-use dry::{Cursor, KeyRange};
+use dry::KeyRange;
 use head::{Table, cert_key, read_head};
 use rules::{Asked, LAST_KEY, MODEL, MOST, SERIAL};
 
@@ -106,7 +106,7 @@ pub fn count_of(table: Table<'_>) -> Result<Tally, Tally>
     ensures { result ≡ ahead_of table.entry.pages table.entry.bytes.now }
 {
     let a = everything();
-    let mut at = Cursor::AtRoot;
+    let mut at = dry::at_root();
     let mut tally = Tally::default();
     let mut mended = [false; MOST];
     // No index: each leaf adds what it has, and the walk ends when there is no more room.

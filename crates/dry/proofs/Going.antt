@@ -25,7 +25,7 @@ use Rattle.dry.specs.declared.LeafAt.{LeafAt}
 use Rattle.dry.proofs.Goes.{Sourced, sourced, source-inside, source-leaf}
 use Rattle.dry.proofs.Answers.{root-named}
 use Rattle.dry.proofs.Ways.{ahead-begins, ahead-full}
-use Rattle.dry.proofs.Leads.{LeafShown}
+use Rattle.dry.proofs.Leads.{LeafShown, leads-root}
 use Rattle.dry.proofs.Reaches.{come, Reached, leaf-reached, leaf-ahead}
 
 -- the certificates seen so far, and the way that can be gone
@@ -53,15 +53,15 @@ pub taken : {n : ℕ} {a : Asked} {t : List ℕ} {c : Cursor} {count : ℕ} {m :
     → length t ≡ n * page_size → Going n a t c count m → count < a.room → reaching s marks ≡ leaf_of n a t c m → Taken n a t c count m s marks
 taken long g room is = record { long = long; room = room; going = g; is = is }
 
-module _ (n : ℕ) (t : List ℕ) where
-  pub root-comes : (a : Asked) → ahead n a t at_root (sighted true [] (replicate most_pages false)) ≡ dry_over n a t
+module _ (n : ℕ) (t : List ℕ) (c : Cursor) (e : c ≡ at_root) where
+  pub root-comes : (a : Asked) → ahead n a t c (sighted true [] (replicate most_pages false)) ≡ dry_over n a t
   unfolding untouched
-  root-comes a = ahead-begins n a t
+  root-comes a = ap (λ (x : Cursor). ahead n a t x (sighted true [] (replicate most_pages false))) e ∙ ahead-begins n a t
 
-  pub root-leads : fit0 n t ≡ true → Leads n t at_root
-  root-leads fit = root-named n t fit
+  pub root-leads : fit0 n t ≡ true → Leads n t c
+  root-leads fit = subst (Leads n t) (sym e) (leads-root n t (root-named n t fit))
 
-  pub going-begins : (a : Asked) → fit0 n t ≡ true → Going n a t at_root 0 (replicate most_pages false)
+  pub going-begins : (a : Asked) → fit0 n t ≡ true → Going n a t c 0 (replicate most_pages false)
   going-begins a fit = record { found = []; counts = refl; comes = root-comes a; leads = root-leads fit }
 
 module _ {n : ℕ} {a : Asked} {t : List ℕ} where

@@ -1,7 +1,7 @@
 -- A step leads on: the way behind it can be gone, and less of it is left. Assumes nothing.
 use Prim.Native.Nat.{ℕ, ◌*◌, ◌<◌}
 use native.Mathlib.Omega.{arith}
-use mathlib.Core.Path.{◌≡◌, refl, sym, subst}
+use mathlib.Core.Path.{◌≡◌, refl, ap, sym, subst}
 use mathlib.Core.Bool.{Bool, true, false}
 use mathlib.Core.List.{List, [], ◌∷◌}
 use lib.Dec.{eqb}
@@ -17,9 +17,8 @@ use Rattle.seen.specs.Run.{run_of, kind_at, place_in, places, rest_of, Lies}
 use Rattle.seen.proofs.Spans.{places-none, places-more}
 use Rattle.seen.proofs.Trees.{lies-rest}
 use Rattle.dry.specs.Source.{source, marked_by}
-use Rattle.dry.specs.Cursor.{in_reach, Meeting, met_page, met_by, meet_of, no_run, under_root, with_upper, with_lower, due_lower, due_upper, due_root, due_under, due_of, under_of, settle_of, settle_met, Stepping, settled, step_at, step_of, way_left, Names, LeadsUnder, Leads}
+use Rattle.dry.specs.Cursor.{in_reach, Meeting, met_page, met_by, meet_of, no_run, at_root, under_root, with_upper, with_lower, due_lower, due_upper, due_root, due_last, due_of, under_of, settle_of, settle_met, Stepping, settled, step_at, step_of, root_left, way_left, Names, Leads}
 use Rattle.dry.specs.declared.Damaged.{Damaged}
-use Rattle.dry.specs.declared.Way.{Way}
 use Rattle.dry.specs.declared.Cursor.{Cursor}
 use Rattle.dry.specs.declared.LeafAt.{LeafAt}
 use Rattle.dry.specs.declared.Spot.{Spot}
@@ -52,9 +51,20 @@ module _ (n : ℕ) (t : List ℕ) where
     unfolding no_run
     no_run_lem = record { page = omega (arith, root); end = omega arith }
 
+    pub leads-root : Leads n t at_root
+    unfolding at_root
+    leads-root = record {
+      root_names = root;
+      upper = no_run_lem;
+      upper_names = no_places n t last_key;
+      lower = no_run_lem;
+      lower_names = no_places n t 0;
+    }
+
     -- entries of the root, and nothing else
-    leads-first : (child : ℕ) (r : Run) → Lies n r → All (Names n) (places t last_key r) → LeadsUnder n t (under_root child r)
+    leads-first : (child : ℕ) (r : Run) → Lies n r → All (Names n) (places t last_key r) → Leads n t (under_root child r)
     leads-first child r l k = record {
+      root_names = root;
       upper = l;
       upper_names = k;
       lower = no_run_lem;
@@ -73,7 +83,7 @@ module _ (n : ℕ) (t : List ℕ) where
     names-rest = all_tail named
 
   module _ (a : Asked) (m : List Bool) (long : length t ≡ n * page_size) where
-    module _ (left : ℕ) (s : Spot) (leads : LeadsUnder n t s.rest) (less : way_left (Cursor.Under s.rest) < left) (names : Names n s.place)
+    module _ (left : ℕ) (s : Spot) (leads : Leads n t s.rest) (less : way_left s.rest < left) (names : Names n s.place)
         (under : (r : Run) (marks : List Bool) → Lies n r → All (Names n) (places t s.place.high r) → Good n t m left (under_of s r) marks) where
       shown : (i : ℕ) → source n (s.parent ∷ s.top ∷ []) t m s.place ≡ Some i
           → Good n t m left (settle_of s (met_page t s.place i)) (marked_by i s.place m)
@@ -83,8 +93,7 @@ module _ (n : ℕ) (t : List ℕ) where
           here : Sourced n t i
           here = sourced n t long (s.parent ∷ s.top ∷ []) m s.place i p
 
-          leaf : eqb (kind_at t i) leaf_kind ≡ true
-              → LeafShown n t m (marked_by i s.place m) (record { page = i; place = s.place; after = Cursor.Under s.rest })
+          leaf : eqb (kind_at t i) leaf_kind ≡ true → LeafShown n t m (marked_by i s.place m) (record { page = i; place = s.place; after = s.rest })
           leaf q = record {
             parent = s.parent;
             top = s.top;
@@ -118,63 +127,70 @@ module _ (n : ℕ) (t : List ℕ) where
           go true h = rw (meet_of, h) (met (source n (s.parent ∷ s.top ∷ []) t m s.place) refl)
           go false h = rw (meet_of, h) (leads, less)
 
-    abbrev at_spot : Spot → Stepping
-    at_spot s = settled s (meet_of n a (s.parent ∷ s.top ∷ []) t m s.place)
+    module _ (c : Cursor) (leads : Leads n t c) where
+      abbrev Goes : Stepping → Type 0
+      Goes x = Good n t m (way_left c) x.step x.marks
 
-    abbrev Goes : Cursor → Stepping → Type 0
-    Goes c x = Good n t m (way_left c) x.step x.marks
+      abbrev at_spot : Spot → Stepping
+      at_spot s = settled s (meet_of n a (s.parent ∷ s.top ∷ []) t m s.place)
 
-    module _ (w : Way) (leads : LeadsUnder n t w) where
-      lower-good : (w.lower.left ≡ 0 → ⊥) → Goes (Cursor.Under w) (at_spot (due_lower t w))
+      lower-good : (c.lower.left ≡ 0 → ⊥) → Goes (at_spot (due_lower t c))
       unfolding due_lower under_of Good way_left
       lower-good h =
-          settles (way_left (Cursor.Under w)) (due_lower t w) behind (omega arith) (names-first w.high w.lower h leads.lower_names)
+          settles (way_left c) (due_lower t c) behind (omega arith) (names-first c.high c.lower h leads.lower_names)
           (λ r marks l k. under r marks (eqb r.left 0) refl)
         where
-          behind : LeadsUnder n t (due_lower t w).rest
+          behind : Leads n t (due_lower t c).rest
           behind = record {
+            root_names = leads.root_names;
             upper = leads.upper;
             upper_names = leads.upper_names;
-            lower = lies-rest n w.lower (rest_of w.lower) refl (omega arith) leads.lower;
-            lower_names = names-rest w.high w.lower h leads.lower_names;
+            lower = lies-rest n c.lower (rest_of c.lower) refl (omega arith) leads.lower;
+            lower_names = names-rest c.high c.lower h leads.lower_names;
           }
 
-          under : (r : Run) (marks : List Bool) (b : Bool) → eqb r.left 0 ≡ b → Good n t m (way_left (Cursor.Under w)) (under_of (due_lower t w) r) marks
+          under : (r : Run) (marks : List Bool) (b : Bool) → eqb r.left 0 ≡ b → Good n t m (way_left c) (under_of (due_lower t c) r) marks
           under r marks true q = rw (under_of, q) (behind, omega arith)
           under r marks false q = rw (under_of, q) tt
 
-      upper-good : w.lower.left ≡ 0 → (w.upper.left ≡ 0 → ⊥) → Goes (Cursor.Under w) (at_spot (due_upper t w))
+      upper-good : c.lower.left ≡ 0 → (c.upper.left ≡ 0 → ⊥) → Goes (at_spot (due_upper t c))
       unfolding due_upper under_of Good way_left
       upper-good z h =
-          settles (way_left (Cursor.Under w)) (due_upper t w) (behind w.parent w.lower w.high leads.lower leads.lower_names) (omega arith)
-          (names-first last_key w.upper h leads.upper_names)
-          (λ r marks l k. (behind (place_in t last_key w.upper).child r (place_in t last_key w.upper).high l k, omega (arith, l.end)))
+          settles (way_left c) (due_upper t c) (behind c.parent c.lower c.high leads.lower leads.lower_names) (omega arith)
+          (names-first last_key c.upper h leads.upper_names)
+          (λ r marks l k. (behind (place_in t last_key c.upper).child r (place_in t last_key c.upper).high l k, omega (arith, l.end)))
         where
           behind : (parent : ℕ) (r : Run) (high : ℕ) → Lies n r → All (Names n) (places t high r)
-              → LeadsUnder n t (with_lower (with_upper w (rest_of w.upper)) parent r high)
+              → Leads n t (with_lower (with_upper c (rest_of c.upper)) parent r high)
           behind parent r high l k = record {
-            upper = lies-rest n w.upper (rest_of w.upper) refl (omega arith) leads.upper;
-            upper_names = names-rest last_key w.upper h leads.upper_names;
+            root_names = leads.root_names;
+            upper = lies-rest n c.upper (rest_of c.upper) refl (omega arith) leads.upper;
+            upper_names = names-rest last_key c.upper h leads.upper_names;
             lower = l;
             lower_names = k;
           }
 
-    root-good : Names n (root_place t) → Goes Cursor.AtRoot (at_spot (due_root t))
-    unfolding root_place due_root under_of Good way_left no_run
-    root-good root =
-        settles (way_left Cursor.AtRoot) (due_root t) (leads-first root 0 no_run (no_run_lem root) (no_places n t last_key))
-        (omega arith) root
-        (λ r marks l k. (leads-first root (root_place t).child r l k, omega (arith, l.end)))
+      root-good : c.fresh ≡ true → Goes (at_spot (due_root t))
+      unfolding root_place due_root under_of Good way_left root_left no_run
+      root-good f =
+          settles (way_left c) (due_root t) (leads-first leads.root_names 0 no_run (no_run_lem leads.root_names) (no_places n t last_key))
+          (omega (arith, fresh)) leads.root_names
+          (λ r marks l k. (leads-first leads.root_names (root_place t).child r l k, omega (arith, fresh, l.end)))
+        where
+          fresh : root_left c.fresh ≡ 4096
+          fresh = ap root_left f
 
-    pub step-good : (c : Cursor) → Leads n t c → Goes c (step_of n a t c m)
-    unfolding step_of due_of due_under step_at Good
-    step-good Cursor.AtRoot root = root-good root
-    step-good (Cursor.Under w) leads = go (eqb w.lower.left 0) refl (eqb w.upper.left 0) refl
-      where
-        go : (x : Bool) → eqb w.lower.left 0 ≡ x → (y : Bool) → eqb w.upper.left 0 ≡ y
-            → Goes (Cursor.Under w) (step_of n a t (Cursor.Under w) m)
-        go false p y q = rw (step_of, due_of, due_under, p, step_at) (lower-good w leads (eqb-false w.lower.left 0 p))
-        go true p false q =
-            rw (step_of, due_of, due_under, p, q, step_at)
-            (upper-good w leads (eqb-true w.lower.left 0 p) (eqb-false w.upper.left 0 q))
-        go true p true q = rw (step_of, due_of, due_under, p, q, step_at) tt
+      pub step-good : Goes (step_of n a t c m)
+      unfolding step_of due_of due_last step_at Good
+      step-good = go (eqb c.lower.left 0) refl (eqb c.upper.left 0) refl c.fresh refl
+        where
+          last : Bool → Type 0
+          last x = Goes (step_at n a t m (due_last t x))
+
+          go : (x : Bool) → eqb c.lower.left 0 ≡ x → (y : Bool) → eqb c.upper.left 0 ≡ y → (b : Bool) → c.fresh ≡ b
+              → Goes (step_of n a t c m)
+          go false p y q b r = rw (step_of, due_of, p, step_at) (lower-good (eqb-false c.lower.left 0 p))
+          go true p false q b r =
+              rw (step_of, due_of, p, q, step_at) (upper-good (eqb-true c.lower.left 0 p) (eqb-false c.upper.left 0 q))
+          go true p true q true r = rw (step_of, due_of, p, q) (subst last (sym r) (root-good r))
+          go true p true q false r = rw (step_of, due_of, p, q) (subst last (sym r) tt)

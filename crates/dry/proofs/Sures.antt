@@ -23,7 +23,7 @@ use Rattle.rules.proofs.Entries.Places.{Fits, fits_true}
 use Rattle.seen.specs.Run.{places}
 use Rattle.dry.specs.Walk.{marked, Sighted, sighted, meets, asks, takes, breaks, dry_each, dry, dry_over}
 use Rattle.dry.specs.Source.{source, marked_by}
-use Rattle.dry.specs.Cursor.{in_reach, met_by, meet_of, due_lower, due_upper, due_root, due_under, due_of, settled, step_at, step_of, way_left, Reaching, reach_by, leaf_within, leaf_of, ahead, Names, Leads, Sure}
+use Rattle.dry.specs.Cursor.{in_reach, met_by, meet_of, due_lower, due_upper, due_root, due_last, due_of, settled, step_at, step_of, way_left, Reaching, reach_by, leaf_within, leaf_of, ahead_root, ahead, Names, Leads, Sure}
 use Rattle.dry.specs.declared.Cursor.{Cursor}
 use Rattle.dry.specs.declared.Damaged.{Damaged}
 use Rattle.dry.specs.declared.Spot.{Spot}
@@ -142,17 +142,21 @@ module _ (n : ℕ) (a : Asked) (t : List ℕ) where
           (λ i h. each_grows (dry level n a e.child parent t) k (kids e v) (takes a v d (marked_by j e d.mended)) i (by_grows j e d.mended i h))
 
   pub ahead-grows : (c : Cursor) (d : Sighted) → Grows d.mended (ahead n a t c d).mended
-  unfolding ahead
-  ahead-grows Cursor.AtRoot d i h = dry-grows 3 0 0 (root_place t) d i h
-  ahead-grows (Cursor.Under w) d i h =
-      each_grows (dry 2 n a w.root 0 t) (dry-grows 2 w.root 0) (places t last_key w.upper) _ i
-      (each_grows (dry 1 n a w.parent w.root t) (dry-grows 1 w.parent w.root) (places t w.high w.lower) d i h)
+  unfolding ahead ahead_root
+  ahead-grows c d i h =
+      go c.fresh _
+      (each_grows (dry 2 n a c.root 0 t) (dry-grows 2 c.root 0) (places t last_key c.upper) _ i
+      (each_grows (dry 1 n a c.parent c.root t) (dry-grows 1 c.parent c.root) (places t c.high c.lower) d i h))
+    where
+      go : (b : Bool) (x : Sighted) → marked x.mended i ≡ true → marked (ahead_root n a t b x).mended i ≡ true
+      go true x k = dry-grows 3 0 0 (root_place t) x i k
+      go false x k = k
 
   -- ── A place that is met ─────────────────────────────────────────────────────────────────────────────────────────
 
   module _ (found : List Cert) (m : List Bool) (room : length found < a.room) (s : Spot) (level : ℕ) (below : s.place.child < length m)
-      (whole : (ahead n a t (Cursor.Under s.rest) (dry (suc level) n a s.parent s.top t s.place (sighted true found m))).whole ≡ true)
-      (still : (i : ℕ) → marked (ahead n a t (Cursor.Under s.rest) (dry (suc level) n a s.parent s.top t s.place (sighted true found m))).mended i ≡ false)
+      (whole : (ahead n a t s.rest (dry (suc level) n a s.parent s.top t s.place (sighted true found m))).whole ≡ true)
+      (still : (i : ℕ) → marked (ahead n a t s.rest (dry (suc level) n a s.parent s.top t s.place (sighted true found m))).mended i ≡ false)
       (h : in_reach a s.place ≡ true) where
     abbrev e : Place
     e = s.place
@@ -171,8 +175,8 @@ module _ (n : ℕ) (a : Asked) (t : List ℕ) where
         go None p =
             absurd
             (not_both whole
-            (ap (λ (x : Sighted). (ahead n a t (Cursor.Under s.rest) x).whole) (step-damaged n a s.parent s.top t e d level met p)
-            ∙ ap (λ (x : Sighted). x.whole) (ahead_halts n a t (Cursor.Under s.rest) (breaks d) refl)))
+            (ap (λ (x : Sighted). (ahead n a t s.rest x).whole) (step-damaged n a s.parent s.top t e d level met p)
+            ∙ ap (λ (x : Sighted). x.whole) (ahead_halts n a t s.rest (breaks d) refl)))
         go (Some i) p = own (eqb i s.place.child) refl
           where
             own : (b : Bool) → eqb i s.place.child ≡ b → source n (s.parent ∷ s.top ∷ []) t m s.place ≡ Some s.place.child
@@ -180,9 +184,9 @@ module _ (n : ℕ) (a : Asked) (t : List ℕ) where
             own false q =
                 absurd
                 (not_both
-                (subst (λ (x : Sighted). marked (ahead n a t (Cursor.Under s.rest) x).mended s.place.child ≡ true)
+                (subst (λ (x : Sighted). marked (ahead n a t s.rest x).mended s.place.child ≡ true)
                 (sym (step-goes n a s.parent s.top t e d level i met p))
-                (ahead-grows (Cursor.Under s.rest) _ s.place.child
+                (ahead-grows s.rest _ s.place.child
                 (each_grows (dry level n a s.place.child s.parent t) (dry-grows level s.place.child s.parent) _ _ s.place.child
                 (mended_there i s.place m below (eqb-false i s.place.child q)))))
                 (still s.place.child))
@@ -207,28 +211,23 @@ module _ (n : ℕ) (a : Asked) (t : List ℕ) where
         (λ i. ap (λ (x : Sighted). marked x.mended i) (sym e) ∙ sure.still i) h
 
     pub sure_own : (s : Spot) → due_of t c ≡ Some s → Own s
-    unfolding due_of due_under due_lower due_upper due_root
-    sure_own s d = go c refl leads d
+    unfolding due_of due_last due_lower due_upper due_root
+    sure_own s d = go (eqb c.lower.left 0) refl (eqb c.upper.left 0) refl c.fresh refl d
       where
-        go : (x : Cursor) → c ≡ x → Leads n t x → due_of t x ≡ Some s → Own s
-        go Cursor.AtRoot r l e =
-            subst Own (same_spot (due_root t) s e)
-            (own (due_root t) 2 (subst (λ (z : Cursor). Next n a t z (due_root t) 2) (sym r) (root-next n a t)) l)
-        go (Cursor.Under w) r l e = under (eqb w.lower.left 0) refl (eqb w.upper.left 0) refl
-          where
-            next : (x : Spot) (level : ℕ) → Next n a t (Cursor.Under w) x level → Next n a t c x level
-            next x level = subst (λ (z : Cursor). Next n a t z x level) (sym r)
-
-            under : (x : Bool) → eqb w.lower.left 0 ≡ x → (y : Bool) → eqb w.upper.left 0 ≡ y → Own s
-            under false p y q =
-                let z = eqb-false w.lower.left 0 p in
-                subst Own (same_spot (due_lower t w) s (sym (rw (due_under, p)) ∙ e))
-                (own (due_lower t w) 0 (next (due_lower t w) 0 (lower-next n a t w z)) (names-first n t w.high w.lower z l.lower_names))
-            under true p false q =
-                let z = eqb-false w.upper.left 0 q in
-                subst Own (same_spot (due_upper t w) s (sym (rw (due_under, p, q)) ∙ e))
-                (own (due_upper t w) 1 (next (due_upper t w) 1 (upper-next n a t w (eqb-true w.lower.left 0 p) z)) (names-first n t last_key w.upper z l.upper_names))
-            under true p true q = absurd (never s (sym (rw (due_under, p, q)) ∙ e))
+        go : (x : Bool) → eqb c.lower.left 0 ≡ x → (y : Bool) → eqb c.upper.left 0 ≡ y → (b : Bool) → c.fresh ≡ b
+            → due_of t c ≡ Some s → Own s
+        go false p y q b r e =
+            let z = eqb-false c.lower.left 0 p in
+            subst Own (same_spot (due_lower t c) s (sym (rw (due_of, p)) ∙ e))
+            (own (due_lower t c) 0 (lower-next n a t c z) (names-first n t c.high c.lower z leads.lower_names))
+        go true p false q b r e =
+            let z = eqb-false c.upper.left 0 q in
+            subst Own (same_spot (due_upper t c) s (sym (rw (due_of, p, q)) ∙ e))
+            (own (due_upper t c) 1 (upper-next n a t c (eqb-true c.lower.left 0 p) z) (names-first n t last_key c.upper z leads.upper_names))
+        go true p true q true r e =
+            subst Own (same_spot (due_root t) s (sym (rw (due_of, p, q) (ap (due_last t) r)) ∙ e))
+            (own (due_root t) 2 (root-next n a t c (eqb-true c.lower.left 0 p) (eqb-true c.upper.left 0 q) r) leads.root_names)
+        go true p true q false r e = absurd (never s (sym (rw (due_of, p, q) (ap (due_last t) r)) ∙ e))
 
 -- ── A leaf of such a walk ───────────────────────────────────────────────────────────────────────────────────────
 

@@ -12,6 +12,9 @@ use Rattle.dry.proofs as this
 pub dry_of_tight : Tight this.dry_of.Kinds.ps this.dry_of.Kinds.r this.dry_of.Reads.Pre this.dry_of.Reads.Post
 dry_of_tight κs a pre z z' l l' p q = (p ∙ sym q, refl)
 
+pub at_root_tight : Tight this.at_root.Kinds.ps this.at_root.Kinds.r this.at_root.Reads.Pre this.at_root.Reads.Post
+at_root_tight κs a pre z z' l l' p q = (p ∙ sym q, refl)
+
 pub next_tight : (KNOWN : ℕ) (fits : Fits w8 KNOWN)
     → Tight (this.next.Kinds.ps KNOWN fits) (this.next.Kinds.r KNOWN fits) (this.next.Reads.Pre KNOWN fits) (this.next.Reads.Post KNOWN fits)
 next_tight KNOWN fits κs a pre z z' l l' p q =

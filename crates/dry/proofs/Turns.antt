@@ -1,6 +1,6 @@
 -- The ways of one step, as code takes it. Assumes nothing.
 use Prim.Native.Nat.{ℕ}
-use mathlib.Core.Path.{◌≡◌, refl, ap, sym, subst, ◌∙◌}
+use mathlib.Core.Path.{◌≡◌, refl, ap, sym, ◌∙◌}
 use mathlib.Core.Bool.{Bool, true, false, false≢true}
 use mathlib.Core.List.{List, [], ◌∷◌}
 use borrow.Author.Tests.{eq-eqb, ne_eqb}
@@ -15,9 +15,8 @@ use Rattle.seen.specs.declared.Run.{Run}
 use Rattle.seen.specs.Run.{run_of, kind_at}
 use Rattle.seen.proofs.Looks.{head-kind}
 use Rattle.dry.specs.Source.{source, marked_by}
-use Rattle.dry.specs.Cursor.{damaged, in_reach, meeting, met_page, met_by, meet_of, no_run, under_root, with_lower, due_lower, due_upper, due_root, due_under, due_of, on, under_of, settle_of, settle_met, stepping, settled, step_at, step_of, LeadsUnder, Leads}
+use Rattle.dry.specs.Cursor.{damaged, in_reach, meeting, met_page, met_by, meet_of, no_run, under_root, with_lower, due_lower, due_upper, due_root, due_last, due_of, on, under_of, settle_of, settle_met, stepping, settled, step_at, step_of}
 use Rattle.dry.specs.declared.Damaged.{Damaged}
-use Rattle.dry.specs.declared.Way.{Way}
 use Rattle.dry.specs.declared.Cursor.{Cursor}
 use Rattle.dry.specs.declared.Met.{Met}
 use Rattle.dry.specs.declared.Spot.{Spot}
@@ -60,35 +59,24 @@ module _ (n : ℕ) (a : Asked) (above t : List ℕ) (m : List Bool) (e : Place) 
 -- ── The place that is next ──────────────────────────────────────────────────────────────────────────────────────
 
 module _ (t : List ℕ) (c : Cursor) where
-  pub due_first : c ≡ Cursor.AtRoot → (s : Spot) → s ≡ due_root t → Some s ≡ due_of t c
+  pub due_low : (c.lower.left ≡ 0 → ⊥) → (s : Spot) → s ≡ due_lower t c → Some s ≡ due_of t c
   unfolding due_of
-  due_first q s p = ap Some p ∙ sym (ap (due_of t) q)
+  due_low h s p = rw (due_of, ne_eqb c.lower.left 0 h, p)
 
-  module _ (w : Way) (q : c ≡ Cursor.Under w) where
-    by_way : due_under t w ≡ due_of t c
+  module _ (z : c.lower.left ≡ 0) where
+    pub due_up : (c.upper.left ≡ 0 → ⊥) → (s : Spot) → s ≡ due_upper t c → Some s ≡ due_of t c
     unfolding due_of
-    by_way = sym (ap (due_of t) q)
+    due_up h s p = rw (due_of, eq-eqb c.lower.left 0 z, ne_eqb c.upper.left 0 h, p)
 
-    -- and it leads on
-    pub way-leads : (n : ℕ) → Leads n t c → LeadsUnder n t w
-    way-leads n l = subst (Leads n t) q l
+    module _ (y : c.upper.left ≡ 0) where
+      pub due_first : c.fresh ≡ true → (s : Spot) → s ≡ due_root t → Some s ≡ due_of t c
+      unfolding due_of due_last
+      due_first f s p =
+          rw (due_of, eq-eqb c.lower.left 0 z, eq-eqb c.upper.left 0 y) (ap Some p ∙ sym (ap (due_last t) f))
 
-    pub due_low : (w.lower.left ≡ 0 → ⊥) → (s : Spot) → s ≡ due_lower t w → Some s ≡ due_of t c
-    unfolding due_under
-    due_low h s p = let k : Some s ≡ due_under t w = rw (due_under, ne_eqb w.lower.left 0 h, p) in k ∙ by_way
-
-    module _ (z : w.lower.left ≡ 0) where
-      pub due_up : (w.upper.left ≡ 0 → ⊥) → (s : Spot) → s ≡ due_upper t w → Some s ≡ due_of t c
-      unfolding due_under
-      due_up h s p =
-          let k : Some s ≡ due_under t w = rw (due_under, eq-eqb w.lower.left 0 z, ne_eqb w.upper.left 0 h, p) in
-          k ∙ by_way
-
-      pub due_none : w.upper.left ≡ 0 → None ≡ due_of t c
-      unfolding due_under
-      due_none y =
-          let k : None ≡ due_under t w = rw (due_under, eq-eqb w.lower.left 0 z, eq-eqb w.upper.left 0 y) in
-          k ∙ by_way
+      pub due_none : c.fresh ≡ false → None ≡ due_of t c
+      unfolding due_of due_last
+      due_none f = rw (due_of, eq-eqb c.lower.left 0 z, eq-eqb c.upper.left 0 y) (sym (ap (due_last t) f))
 
 -- ── What is left ────────────────────────────────────────────────────────────────────────────────────────────────
 
@@ -97,15 +85,17 @@ pub run_none : {r : Run} → r.page ≡ 0 → r.first ≡ 0 → r.left ≡ 0 →
 unfolding no_run
 run_none p q s u = λ i. record { page = p i; first = q i; left = s i; want = u i }
 
-pub way_none : {w : Way} {root : ℕ} {r : Run} → w.root ≡ root → w.upper ≡ r → w.parent ≡ 0 → w.lower ≡ no_run → w.high ≡ 0 → w ≡ under_root root r
-way_none p q s u v = λ i. record { root = p i; upper = q i; parent = s i; lower = u i; high = v i }
+pub way_none : {c : Cursor} {fresh : Bool} {root : ℕ} {r : Run}
+    → c.fresh ≡ fresh → c.root ≡ root → c.upper ≡ r → c.parent ≡ 0 → c.lower ≡ no_run → c.high ≡ 0
+    → c ≡ record { fresh = fresh; root = root; upper = r; parent = 0; lower = no_run; high = 0 }
+way_none f p q s u v = λ i. record { fresh = f i; root = p i; upper = q i; parent = s i; lower = u i; high = v i }
 
 -- ── What it comes to ────────────────────────────────────────────────────────────────────────────────────────────
 
 module _ (s : Spot) (r : Run) where
-  pub under_first : s.level ≡ 3 → (w : Way) → w ≡ under_root s.place.child r → on w ≡ under_of s r
+  pub under_first : s.level ≡ 3 → (c : Cursor) → c ≡ under_root s.place.child r → on c ≡ under_of s r
   unfolding under_of
-  under_first h w p = rw (under_of, eq-eqb s.level 3 h, p)
+  under_first h c p = rw (under_of, eq-eqb s.level 3 h, p)
 
   module _ (g : s.level ≡ 3 → ⊥) where
     pub under_up : s.level ≡ 2 → on (with_lower s.rest s.place.child r s.place.high) ≡ under_of s r

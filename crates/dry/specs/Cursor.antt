@@ -12,7 +12,6 @@ use Rattle.dry.specs.Walk.{marked, Sighted, sighted, dry_each, dry}
 use Rattle.dry.specs.Source.{source, marked_by}
 use Rattle.dry.specs.declared.Damaged.{Damaged}
 use Rattle.dry.specs.declared.Met.{Met}
-use Rattle.dry.specs.declared.Way.{Way}
 use Rattle.dry.specs.declared.Cursor.{Cursor}
 use Rattle.dry.specs.declared.LeafAt.{LeafAt}
 use Rattle.dry.specs.declared.Spot.{Spot}
@@ -55,49 +54,78 @@ unfoldable pub no_run : Run
 no_run = record { page = 0; first = 0; left = 0; want = 0 }
 
 -- before the first step the root is left, and nothing else
-abbrev pub at_root : Cursor
-at_root = Cursor.AtRoot
+unfoldable pub at_root : Cursor
+at_root = record {
+  fresh = true;
+  root = 0;
+  upper = no_run;
+  parent = 0;
+  lower = no_run;
+  high = 0;
+}
 
 -- the way behind the root: its entries, if it has any
-abbrev pub under_root : ℕ → Run → Way
-under_root root r = record { root = root; upper = r; parent = 0; lower = no_run; high = 0 }
+abbrev pub under_root : ℕ → Run → Cursor
+under_root root r = record {
+  fresh = false;
+  root = root;
+  upper = r;
+  parent = 0;
+  lower = no_run;
+  high = 0;
+}
 
-abbrev pub with_upper : Way → Run → Way
-with_upper w r = record { root = w.root; upper = r; parent = w.parent; lower = w.lower; high = w.high }
+abbrev pub with_upper : Cursor → Run → Cursor
+with_upper c r = record {
+  fresh = c.fresh;
+  root = c.root;
+  upper = r;
+  parent = c.parent;
+  lower = c.lower;
+  high = c.high;
+}
 
-abbrev pub with_lower : Way → ℕ → Run → ℕ → Way
-with_lower w parent r high = record { root = w.root; upper = w.upper; parent = parent; lower = r; high = high }
+abbrev pub with_lower : Cursor → ℕ → Run → ℕ → Cursor
+with_lower c parent r high = record {
+  fresh = c.fresh;
+  root = c.root;
+  upper = c.upper;
+  parent = parent;
+  lower = r;
+  high = high;
+}
 
 -- the place that is next, at its level, with the pages above it and the way behind it
-abbrev pub spot_at : ℕ → ℕ → ℕ → Place → Way → Spot
+abbrev pub spot_at : ℕ → ℕ → ℕ → Place → Cursor → Spot
 spot_at level parent top e rest = record { level = level; parent = parent; top = top; place = e; rest = rest }
 
-unfoldable pub due_lower : List ℕ → Way → Spot
-due_lower t w =
-    spot_at 1 w.parent w.root (place_in t w.high w.lower) (with_lower w w.parent (rest_of w.lower) w.high)
+unfoldable pub due_lower : List ℕ → Cursor → Spot
+due_lower t c =
+    spot_at 1 c.parent c.root (place_in t c.high c.lower) (with_lower c c.parent (rest_of c.lower) c.high)
 
-unfoldable pub due_upper : List ℕ → Way → Spot
-due_upper t w = spot_at 2 w.root 0 (place_in t last_key w.upper) (with_upper w (rest_of w.upper))
+unfoldable pub due_upper : List ℕ → Cursor → Spot
+due_upper t c = spot_at 2 c.root 0 (place_in t last_key c.upper) (with_upper c (rest_of c.upper))
 
 unfoldable pub due_root : List ℕ → Spot
 due_root t = spot_at 3 0 0 (root_place t) (under_root 0 no_run)
 
--- the next entry of the lowest page that has one left
-unfoldable pub due_under : List ℕ → Way → Option Spot
-due_under t w =
-    elim (eqb w.lower.left 0) [
-      | false ↦ Some (due_lower t w)
-      | true ↦ elim (eqb w.upper.left 0) [ false ↦ Some (due_upper t w) | true ↦ None ]
-    ]
+-- the root is next where it is left
+unfoldable pub due_last : List ℕ → Bool → Option Spot
+due_last t true = Some (due_root t)
+due_last t false = None
 
+-- the next entry of the lowest page that has one left
 unfoldable pub due_of : List ℕ → Cursor → Option Spot
-due_of t Cursor.AtRoot = Some (due_root t)
-due_of t (Cursor.Under w) = due_under t w
+due_of t c =
+    elim (eqb c.lower.left 0) [
+      | false ↦ Some (due_lower t c)
+      | true ↦ elim (eqb c.upper.left 0) [ false ↦ Some (due_upper t c) | true ↦ due_last t c.fresh ]
+    ]
 
 -- ── A step ──────────────────────────────────────────────────────────────────────────────────────────────────────
 
-abbrev pub on : Way → Result Step Damaged
-on w = Ok (Step.On (Cursor.Under w))
+abbrev pub on : Cursor → Result Step Damaged
+on c = Ok (Step.On c)
 
 -- entries of a page are the next of the way; there are none below the third page
 unfoldable pub under_of : Spot → Run → Result Step Damaged
@@ -112,7 +140,7 @@ under_of s r =
 
 unfoldable pub settle_of : Spot → Met → Result Step Damaged
 settle_of s Met.Passed = on s.rest
-settle_of s (Met.Leaf i) = Ok (Step.Leaf (record { page = i; place = s.place; after = Cursor.Under s.rest }))
+settle_of s (Met.Leaf i) = Ok (Step.Leaf (record { page = i; place = s.place; after = s.rest }))
 settle_of s (Met.Entries r) = under_of s r
 
 unfoldable pub settle_met : Spot → Result Met Damaged → Result Step Damaged
@@ -138,10 +166,13 @@ step_of n a t c m = step_at n a t m (due_of t c)
 
 -- ── From leaf to leaf ───────────────────────────────────────────────────────────────────────────────────────────
 
+unfoldable pub root_left : Bool → ℕ
+root_left true = 4096
+root_left false = 0
+
 -- how much of a way is left at most: a page has fewer than 64 entries
 unfoldable pub way_left : Cursor → ℕ
-way_left Cursor.AtRoot = 4096
-way_left (Cursor.Under w) = w.upper.left * 64 + w.lower.left
+way_left c = root_left c.fresh + c.upper.left * 64 + c.lower.left
 
 -- the leaf that the walk comes to next, or none at its end, with the marks after it
 pub record Reaching : Type 0 where
@@ -173,24 +204,24 @@ leaf_of n a t c m = leaf_within (suc (way_left c)) n a t c m
 abbrev pub Names : ℕ → Place → Type 0
 Names n e = e.child < n
 
--- both runs lie in their pages, and each place names a page
-pub record LeadsUnder (n : ℕ) (t : List ℕ) (w : Way) : Type 0 where
-  pub upper : Lies n w.upper
-  pub upper_names : All (Names n) (places t last_key w.upper)
-  pub lower : Lies n w.lower
-  pub lower_names : All (Names n) (places t w.high w.lower)
+-- a way that can be gone: both runs lie in their pages, and each place names a page
+pub record Leads (n : ℕ) (t : List ℕ) (c : Cursor) : Type 0 where
+  pub root_names : Names n (root_place t)
+  pub upper : Lies n c.upper
+  pub upper_names : All (Names n) (places t last_key c.upper)
+  pub lower : Lies n c.lower
+  pub lower_names : All (Names n) (places t c.high c.lower)
 
--- a way that can be gone
-abbrev pub Leads : ℕ → List ℕ → Cursor → Type 0
-Leads n t Cursor.AtRoot = Names n (root_place t)
-Leads n t (Cursor.Under w) = LeadsUnder n t w
+unfoldable pub ahead_root : ℕ → Asked → List ℕ → Bool → Sighted → Sighted
+ahead_root n a t true d = dry 3 n a 0 0 t (root_place t) d
+ahead_root n a t false d = d
 
--- the root; or the entries left of the lower page, then those of the upper one
+-- the entries left of the lower page, then those of the upper one; or the root
 unfoldable pub ahead : ℕ → Asked → List ℕ → Cursor → Sighted → Sighted
-ahead n a t Cursor.AtRoot d = dry 3 n a 0 0 t (root_place t) d
-ahead n a t (Cursor.Under w) d =
-    dry_each (dry 2 n a w.root 0 t) (places t last_key w.upper)
-    (dry_each (dry 1 n a w.parent w.root t) (places t w.high w.lower) d)
+ahead n a t c d =
+    ahead_root n a t c.fresh
+    (dry_each (dry 2 n a c.root 0 t) (places t last_key c.upper)
+    (dry_each (dry 1 n a c.parent c.root t) (places t c.high c.lower) d))
 
 -- it is known that the walk ahead meets no damaged place and would mend nothing
 pub record Sure (n : ℕ) (a : Asked) (t : List ℕ) (c : Cursor) (m : List Bool) : Type 0 where

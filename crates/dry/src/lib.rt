@@ -23,7 +23,7 @@ ghost use Rattle.rules.specs.Table.{fit0};
 ghost use Rattle.seen.specs.Run.{Lies};
 ghost use Rattle.dry.specs.Walk.{keeps, helps, none_marked, dry_of};
 ghost use Rattle.dry.specs.Source.{source, marked_by};
-ghost use Rattle.dry.specs.Cursor.{in_reach, meeting, meet_of, under_root, with_lower, due_lower, due_upper, due_root, due_of, under_of, settle_of, stepping, step_of, reaching, leaf_of, Leads, LeadsUnder, Sure};
+ghost use Rattle.dry.specs.Cursor.{in_reach, meeting, meet_of, at_root, under_root, with_lower, due_lower, due_upper, due_root, due_of, under_of, settle_of, stepping, step_of, reaching, leaf_of, Leads, Sure};
 
 use head::{Table, read_head, root_place};
 use rules::{Asked, LAST_KEY, LEAF, MOST, Place};
@@ -79,9 +79,11 @@ pub enum Met {
 }
 
 // The way of a walk: the entries left of the root and of the page under it that was entered last, the numbers of the
-// two, and where the lower one's range ends; the root's is every key.
+// two, and where the lower one's range ends; the root's is every key. Before the first step the root itself is left: a
+// flag, and no variant of its own, since a caller may have entries walked before the root.
 #[derive(Clone, Copy, Default)]
-pub struct Way {
+pub struct Cursor {
+    pub fresh: bool,
     pub root: u16,
     pub upper: Run,
     pub parent: u16,
@@ -89,14 +91,7 @@ pub struct Way {
     pub high: u64,
 }
 
-// Where a walk stands: before its first step, with the root itself left, or on its way under the root.
-#[derive(Clone, Copy)]
-pub enum Cursor {
-    AtRoot,
-    Under(Way),
-}
-
-// A leaf that a walk has come to: the page that shows it, the place that asks for it, and where the walk stands then.
+// A leaf that a walk has come to: the page that shows it, the place that asks for it, and the way behind it.
 #[derive(Clone, Copy)]
 pub struct LeafAt {
     pub page: u16,
@@ -112,7 +107,7 @@ pub struct Spot {
     pub parent: u16,
     pub top: u16,
     pub place: Place,
-    pub rest: Way,
+    pub rest: Cursor,
 }
 
 // What a step comes to: the walk goes on, it has come to a leaf, or it is at its end.
@@ -222,45 +217,55 @@ fn meet<const KNOWN: bool>(
     Ok(Met::Entries(run_in(table.bytes, i, e.low, e.high)))
 }
 
-// The way to the entries of the root.
-fn under_root(root: u16, run: Run) -> Way
-    ensures { result ≡ under_root root run }
+// Before the first step the root is left.
+pub fn at_root() -> Cursor
+    ensures { result ≡ at_root }
 {
-    Way {
-        root,
-        upper: run,
-        ..Way::default()
+    Cursor {
+        fresh: true,
+        ..Cursor::default()
     }
 }
 
-fn due_lower(table: Table<'_>, w: Way) -> Spot
-    requires { Lies table.pages w.lower × (0 < w.lower.left) }
-    ensures { result ≡ due_lower table.entry.bytes.now w }
+// The way to the entries of the root.
+fn under_root(root: u16, run: Run) -> Cursor
+    ensures { result ≡ under_root root run }
+{
+    Cursor {
+        root,
+        upper: run,
+        ..Cursor::default()
+    }
+}
+
+fn due_lower(table: Table<'_>, c: Cursor) -> Spot
+    requires { Lies table.pages c.lower × (0 < c.lower.left) }
+    ensures { result ≡ due_lower table.entry.bytes.now c }
 {
     Spot {
         level: 1,
-        parent: w.parent,
-        top: w.root,
-        place: place_in(table.bytes, w.lower, w.high),
-        rest: Way {
-            lower: rest_of(w.lower),
-            ..w
+        parent: c.parent,
+        top: c.root,
+        place: place_in(table.bytes, c.lower, c.high),
+        rest: Cursor {
+            lower: rest_of(c.lower),
+            ..c
         },
     }
 }
 
-fn due_upper(table: Table<'_>, w: Way) -> Spot
-    requires { Lies table.pages w.upper × (0 < w.upper.left) }
-    ensures { result ≡ due_upper table.entry.bytes.now w }
+fn due_upper(table: Table<'_>, c: Cursor) -> Spot
+    requires { Lies table.pages c.upper × (0 < c.upper.left) }
+    ensures { result ≡ due_upper table.entry.bytes.now c }
 {
     Spot {
         level: 2,
-        parent: w.root,
+        parent: c.root,
         top: 0,
-        place: place_in(table.bytes, w.upper, LAST_KEY),
-        rest: Way {
-            upper: rest_of(w.upper),
-            ..w
+        place: place_in(table.bytes, c.upper, LAST_KEY),
+        rest: Cursor {
+            upper: rest_of(c.upper),
+            ..c
         },
     }
 }
@@ -274,7 +279,7 @@ fn due_root(table: Table<'_>) -> Spot
         parent: 0,
         top: 0,
         place: root_place(table.bytes),
-        rest: Way::default(),
+        rest: Cursor::default(),
     }
 }
 
@@ -283,14 +288,14 @@ fn next_spot(table: Table<'_>, c: Cursor) -> Option<Spot>
     requires { Leads table.pages table.bytes.now c }
     ensures { result ≡ due_of table.entry.bytes.now c }
 {
-    let Cursor::Under(w) = c else {
-        return Some(due_root(table));
-    };
-    if w.lower.left != 0 {
-        return Some(due_lower(table, w));
+    if c.lower.left != 0 {
+        return Some(due_lower(table, c));
     }
-    if w.upper.left != 0 {
-        return Some(due_upper(table, w));
+    if c.upper.left != 0 {
+        return Some(due_upper(table, c));
+    }
+    if c.fresh {
+        return Some(due_root(table));
     }
     None
 }
@@ -300,19 +305,19 @@ fn under(s: Spot, run: Run) -> Result<Step, Damaged>
     ensures { result ≡ under_of s run }
 {
     if s.level == 3 {
-        return Ok(Step::On(Cursor::Under(under_root(s.place.child, run))));
+        return Ok(Step::On(under_root(s.place.child, run)));
     }
     if s.level == 2 {
-        let way = Way {
+        let way = Cursor {
             parent: s.place.child,
             lower: run,
             high: s.place.high,
             ..s.rest
         };
-        return Ok(Step::On(Cursor::Under(way)));
+        return Ok(Step::On(way));
     }
     if run.left == 0 {
-        return Ok(Step::On(Cursor::Under(s.rest)));
+        return Ok(Step::On(s.rest));
     }
     Err(Damaged)
 }
@@ -321,7 +326,7 @@ fn settle(s: Spot, met: Met) -> Result<Step, Damaged>
     ensures { result ≡ settle_of s met }
 {
     let place = s.place;
-    let after = Cursor::Under(s.rest);
+    let after = s.rest;
     match met {
         Met::Passed => Ok(Step::On(after)),
         Met::Leaf(page) => Ok(Step::Leaf(LeafAt { page, place, after })),
@@ -401,7 +406,7 @@ pub fn dry_of(table: Table<'_>, a: Asked) -> Result<Dry, Dry>
     requires { fit0 table.pages table.bytes.now ≡ true }
     ensures { result ≡ dry_of table.entry.pages a table.entry.bytes.now }
 {
-    let mut at = Cursor::AtRoot;
+    let mut at = at_root();
     let mut count = 0;
     let mut mended = [false; MOST];
     // No index: each leaf adds what it has, and the walk ends when there is no more room.

@@ -33,9 +33,9 @@ pub record Filling (n : ℕ) (a : Asked) (t ks xs : List ℕ) (c : Cursor) (fill
   pub size : length m ≡ most_pages
 
 module _ {n : ℕ} {a : Asked} {t ks xs : List ℕ} (calm : Calm n a t) where
-  pub filling-begins : Roomy a ks xs → Filling n a t ks xs at_root 0 (replicate most_pages false) ks xs
-  filling-begins r = record {
-    going = record { found = []; counts = refl; comes = root-comes n t a; leads = root-leads n t calm.fit };
+  pub filling-begins : Roomy a ks xs → (c : Cursor) → c ≡ at_root → Filling n a t ks xs c 0 (replicate most_pages false) ks xs
+  filling-begins r c e = record {
+    going = record { found = []; counts = refl; comes = root-comes n t c e a; leads = root-leads n t c e calm.fit };
     lists = lists-none ks xs;
     roomy = r;
     size = refl;

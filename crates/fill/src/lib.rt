@@ -20,7 +20,6 @@ ghost use Rattle.entries.specs.Spot.{keys_in, spot_of, start_of};
 ghost use Rattle.dry.specs.Walk.{dry_over};
 ghost use Rattle.fill.specs.Fills.{listing, lists_of, filling, filled_in, mending, mended_in, Roomy, HasRoom, Calm, certs_from, listed, asked};
 
-use dry::Cursor;
 use entries::Entries;
 use head::{Table, read_head};
 use leaves::Leaves;
@@ -114,7 +113,7 @@ pub fn fill_known(t: Table<'_>, a: Asked, keys: &mut [u64], records: &mut [u32])
     ensures { listing result keys.new records.new
         ≡ lists_of keys.old records.old (dry_over t.entry.pages a t.entry.bytes.now).found }
 {
-    let mut at = Cursor::AtRoot;
+    let mut at = dry::at_root();
     let mut filled = 0;
     let mut mended = [false; MOST];
     // No index: each leaf adds what it has, and the walk ends when there is no more room.

@@ -8,7 +8,7 @@ use native.Mathlib.Omega.{arith}
 use Rattle.counts.proofs.count_of.Goals as goal
 
 pub loop-tally-init : goal.loop-tally-init
-loop-tally-init c = (refl, counting_begins c.everything-a.ensures c.default-tally.result (let d = c.default-tally.ensures in tally_none d.0 d.1.0 d.1.1.0 d.1.1.1) c.requires)
+loop-tally-init c = (refl, counting_begins c.everything-a.ensures c.at_root-at.result c.at_root-at.ensures c.default-tally.result (let d = c.default-tally.ensures in tally_none d.0 d.1.0 d.1.1.0 d.1.1.1) c.requires)
 
 pub next_leaf-requires : goal.next_leaf-requires
 next_leaf-requires c = c.loop-tally.invariant.1.going.leads

@@ -7,7 +7,7 @@ use native.Mathlib.Omega.{arith}
 use Rattle.dry.proofs.dry_of.Goals as goal
 
 pub loop-count-init : goal.loop-count-init
-loop-count-init c = (refl, going-begins c.args.table.pages c.args.table.bytes.now c.args.a c.requires)
+loop-count-init c = (refl, going-begins c.args.table.pages c.args.table.bytes.now c.at_root-at.result c.at_root-at.ensures c.args.a c.requires)
 
 pub next_leaf-requires : goal.next_leaf-requires
 next_leaf-requires c = c.loop-count.invariant.1.leads

@@ -6,4 +6,4 @@ use Rattle.dry.proofs.under_root.Goals as goal
 pub returns : goal.returns
 returns c =
     let d = c.default.ensures in
-    way_none refl refl d.1.1.0 (run_none d.1.1.1.0.0 d.1.1.1.0.1.0 d.1.1.1.0.1.1.0 d.1.1.1.0.1.1.1) d.1.1.1.1
+    way_none d.0 refl refl d.1.1.1.0 (run_none d.1.1.1.1.0.0 d.1.1.1.1.0.1.0 d.1.1.1.1.0.1.1.0 d.1.1.1.1.0.1.1.1) d.1.1.1.1.1

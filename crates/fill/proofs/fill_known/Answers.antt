@@ -8,7 +8,7 @@ use native.Mathlib.Omega.{arith}
 use Rattle.fill.proofs.fill_known.Goals as goal
 
 pub loop-filled-init : goal.loop-filled-init
-loop-filled-init c = (refl, refl, refl, filling-begins c.requires.0 c.requires.1)
+loop-filled-init c = (refl, refl, refl, filling-begins c.requires.0 c.requires.1 c.at_root-at.result c.at_root-at.ensures)
 
 pub next_known-requires : goal.next_known-requires
 next_known-requires c =
