@@ -17,3 +17,6 @@ put_meter_tight κs a pre z z' l l' p q = (refl, λ i. ((p ∙ sym q) i, l.1))
 
 pub put_cert_tight : Tight this.put_cert.Kinds.ps this.put_cert.Kinds.r this.put_cert.Reads.Pre this.put_cert.Reads.Post
 put_cert_tight κs a pre z z' l l' p q = (refl, λ i. ((p ∙ sym q) i, l.1))
+
+pub read_error-number_tight : Tight this.ReadErrorRefusal.number.Kinds.ps this.ReadErrorRefusal.number.Kinds.r this.ReadErrorRefusal.number.Reads.Pre this.ReadErrorRefusal.number.Reads.Post
+read_error-number_tight κs a pre z z' l l' p q = (p ∙ sym q, refl)

@@ -32,3 +32,24 @@ pub number_tight : (T E : RattleType) (t : Laws T) (e : Laws E) (ct : IsCopy T) 
     (this.number.Reads.Pre T E t e ct ce gt dt refusal dr ge de)
     (this.number.Reads.Post T E t e ct ce gt dt refusal dr ge de)
 number_tight T E t e ct ce gt dt refusal dr ge de κs a pre z z' l l' p q = (p ∙ sym q, refl)
+
+pub length_error-number_tight : Tight this.LengthErrorRefusal.number.Kinds.ps this.LengthErrorRefusal.number.Kinds.r this.LengthErrorRefusal.number.Reads.Pre this.LengthErrorRefusal.number.Reads.Post
+length_error-number_tight κs a pre z z' l l' p q = (p ∙ sym q, refl)
+
+pub open_error-number_tight : Tight this.OpenErrorRefusal.number.Kinds.ps this.OpenErrorRefusal.number.Kinds.r this.OpenErrorRefusal.number.Reads.Pre this.OpenErrorRefusal.number.Reads.Post
+open_error-number_tight κs a pre z z' l l' p q = (p ∙ sym q, refl)
+
+pub insert_error-number_tight : Tight this.InsertErrorRefusal.number.Kinds.ps this.InsertErrorRefusal.number.Kinds.r this.InsertErrorRefusal.number.Reads.Pre this.InsertErrorRefusal.number.Reads.Post
+insert_error-number_tight κs a pre z z' l l' p q = (p ∙ sym q, refl)
+
+pub find_error-number_tight : Tight this.FindErrorRefusal.number.Kinds.ps this.FindErrorRefusal.number.Kinds.r this.FindErrorRefusal.number.Reads.Pre this.FindErrorRefusal.number.Reads.Post
+find_error-number_tight κs a pre z z' l l' p q = (p ∙ sym q, refl)
+
+pub any_error-number_tight : Tight this.AnyErrorRefusal.number.Kinds.ps this.AnyErrorRefusal.number.Kinds.r this.AnyErrorRefusal.number.Reads.Pre this.AnyErrorRefusal.number.Reads.Post
+any_error-number_tight κs a pre z z' l l' p q = (p ∙ sym q, refl)
+
+pub list_error-number_tight : Tight this.ListErrorRefusal.number.Kinds.ps this.ListErrorRefusal.number.Kinds.r this.ListErrorRefusal.number.Reads.Pre this.ListErrorRefusal.number.Reads.Post
+list_error-number_tight κs a pre z z' l l' p q = (p ∙ sym q, refl)
+
+pub sync_error-number_tight : Tight this.SyncErrorRefusal.number.Kinds.ps this.SyncErrorRefusal.number.Kinds.r this.SyncErrorRefusal.number.Reads.Pre this.SyncErrorRefusal.number.Reads.Post
+sync_error-number_tight κs a pre z z' l l' p q = (p ∙ sym q, refl)
