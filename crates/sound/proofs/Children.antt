@@ -10,8 +10,8 @@ use Rattle.rules.proofs.Entries.Tests.{between-of, between-below, between-above}
 use Rattle.sound.specs.Pass.{risen_on, children_pass}
 use Rattle.head.specs.Head.{child_at}
 use Rattle.head.proofs.Left.{left-all, left-more}
-use Rattle.sound.proofs.Turn.{first_bad, first_on}
-use Rattle.sound.proofs.Rising.{risen-read}
+use Rattle.sound.proofs.Turn.{after, first_bad, first_on}
+use Rattle.sound.proofs.Rising.{goes_on, risen-read}
 
 -- ── What an entry names ─────────────────────────────────────────────────────────────────────────────────────────
 
@@ -39,6 +39,10 @@ module _ (b : List ℕ) (count low high n : ℕ) where
   abbrev answer : Bool
   answer = children_pass n low high (read_each child_in child_size count (drop inner_header b))
 
+  -- the answer is what is left to test from j on, behind the key `last`
+  abbrev pub ChildrenLeft : ℕ → ℕ → Type 0
+  ChildrenLeft last j = answer ≡ after child_in inner_header child_size (names_pages n) b count low high last j
+
   pub no_child : count ≡ 0 → false ≡ answer
   unfolding children_pass starts_at read_each
   no_child h = rw (h, read_each, starts_at)
@@ -62,3 +66,14 @@ module _ (b : List ℕ) (count low high n : ℕ) where
     starts_on f q y z =
         z ∙ risen-read child_in inner_header child_size (names_pages n) b high k (count - 1) 1
         ∙ sym (rw (starts, eq-eqb k low q) (first_on child_in inner_header child_size (names_pages n) b count low high 0 h e f refl (omega arith) y))
+
+  -- ── Each one behind it ────────────────────────────────────────────────────────────────────────────────────────
+
+  module _ (last j k : ℕ) {f : Bool} (h : j < count) (e : k ≡ (child_at b j).key) (q : f ≡ (ltb last k && names_pages n (child_at b j))) (a : ChildrenLeft last j) where
+    -- one that follows and names pages leaves those behind it
+    pub children_on : (next : ℕ) → next ≡ j + 1 → not f ≡ false → ChildrenLeft k next
+    unfolding child_at
+    children_on next s y =
+        goes_on (λ (i : ℕ). (child_at b i).key) (λ (i : ℕ). names_pages n (child_at b i)) high count last j k h e q
+        (a ∙ sym (risen-read child_in inner_header child_size (names_pages n) b high last (count - j) j)) next s y
+        ∙ risen-read child_in inner_header child_size (names_pages n) b high k (count - next) next
