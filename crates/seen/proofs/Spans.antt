@@ -63,19 +63,19 @@ module _ (b : List ℕ) where
           let z = ap (up_to key) (at_last h) ∙ up_to_in key (child_at b j) (entries_from (j + 1) (count - (j + 1)) b) k in
           omega arith
 
-    pub pass_end : from ≤ count → Passed count → count - from ≡ up_to key (entries_from from (count - from) b)
-    pass_end l p =
-        let z = ap (up_to key) (from_none count (count - count) (omega arith)) ∙ up_to-nil key in
-        omega arith
+      pub pass_end : count ≤ j → Passed j → j - from ≡ up_to key (entries_from from (count - from) b)
+      pass_end h p =
+          let z = ap (up_to key) (from_none j (count - j) (omega arith)) ∙ up_to-nil key in
+          omega arith
 
 -- ── Entries of page i of a table ────────────────────────────────────────────────────────────────────────────────
 
 module _ (t : List ℕ) (page : ℕ) where
-  entries_none : (first left : ℕ) → left ≡ 0 → entries_in t page first left ≡ []
+  pub entries_none : (first left : ℕ) → left ≡ 0 → entries_in t page first left ≡ []
   unfolding entries_in
   entries_none first left h = from_none (page_at t page) first left h
 
-  entries-more : (first left : ℕ) → 0 < left
+  pub entries-more : (first left : ℕ) → 0 < left
       → entries_in t page first left ≡ child_at (page_at t page) first ∷ entries_in t page (first + 1) (left - 1)
   unfolding entries_in
   entries-more first left h = from-more (page_at t page) first left h

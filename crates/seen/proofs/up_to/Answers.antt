@@ -23,5 +23,5 @@ returns c =
     let args = c.args in
     let loop = c.loop-j in
     let last : loop.j ≡ args.count = omega (arith, loop.auto.j-end c.requires.0) in
-    pass_end args.page.now args.from args.count args.key c.requires.0
+    pass_end args.page.now args.from args.count args.key args.count c.requires.0 (omega arith)
     (subst (Passed args.page.now args.from args.count args.key) last loop.invariant)
