@@ -10,7 +10,7 @@ use Rattle.rules.specs.Layout.{page_size, leaf_header, cert_size, leaf_kind, lea
 use Rattle.rules.specs.Entry.{Cert, cut, rising}
 use Rattle.rules.specs.Page.{Page, count}
 use Rattle.rules.specs.Table.{page_at, read}
-use Rattle.rules.specs.Walk.{Walked, stops, walk_of}
+use Rattle.rules.specs.Walk.{Walked, way_of, way_report, stops, walk_of}
 use Rattle.rules.specs.declared.Asked.{Asked}
 use Rattle.rules.specs.declared.Report.{Report}
 use Rattle.rules.proofs.Entries.Tests.{not_both}
@@ -19,12 +19,14 @@ use Rattle.head.specs.declared.Head.{Head}
 use Rattle.head.proofs.Headers.{head_of}
 use Rattle.entries.specs.Spot.{keys_in}
 use Rattle.climbs.specs.Ground.{Ground}
-use Rattle.climbs.proofs.Ends.{rest_ended}
+use Rattle.leaves.specs.Cursors.{nexting, next_of}
 use Rattle.leaves.specs.Walks.{walk_over, stepping, step_of, keys_left}
+use Rattle.enter.specs.declared.Above.{Above}
 use Rattle.leaves.specs.declared.Leaf.{Leaf}
 use Rattle.leaves.specs.declared.Leaves.{Leaves}
 use Rattle.leaves.proofs.Loops.{Reached}
-use Rattle.leaves.proofs.Walks.{walked_to, from, Walking, more, walking-begins, walking-full, walking-room, walking-done, walking-damaged, walking-reached, passed, walking-on, walking-less}
+use Rattle.leaves.proofs.Ranges.{walked_to, Climbing, climbing-room, climbing-ends}
+use Rattle.leaves.proofs.Walks.{from, Walking, more, walking-begins, walking-full, walking-room, walking-done, walking-damaged, walking-reached, walking-on, walking-less}
 use Rattle.fill.specs.Fills.{Lists, listing, lists_of, filling, filled_in, mending, mended_in, Roomy, HasRoom, certs_from, listed, asked, Sorted}
 use Rattle.fill.proofs.Copies.{lists-none, lists-count, lists-more}
 use Rattle.fill.proofs.Leaves as leaf
@@ -152,14 +154,15 @@ module _ {n c : ℕ} {a : Asked} {o : List ℕ} where
     mending-stops x e = ap mended_in (walking-damaged y.walking f has_room_lem x e)
 
     module _ (l : Leaf) (e : r ≡ Some (Ok l)) where
-      -- the leaf at the end of the range is the last
-      pub mending-ends : a.high ≤ l.high → mending u l.report ≡ mended_in (walk_of n c a o)
-      mending-ends h =
-          let walked = walked_to u (y.found ++ more a u l y.found) l.report in
-          ap mended_in (sym (rest_ended n c l.high (from l.from a) walked h) ∙ passed y.walking f has_room_lem l e)
-
       pub mending_on : Mending n c a o u v
       mending_on = record { found = _; walking = walking-on y.walking f has_room_lem l e }
 
       pub mending_less : keys_left v < keys_left w
       mending_less = walking-less y.walking f has_room_lem l e
+
+  -- the leaf at the end of the range is the last, whatever key the step to it was to look up to
+  module _ {t : List ℕ} {found : List Cert} {low : ℕ} {x : Above} {z : Report} (y : Climbing n c a o t (from low a) found x z)
+      (has : HasRoom a (walk_of n c a o)) (upto : ℕ) (u : List ℕ) (l : Leaf)
+      (f : nexting u (Ok l) ≡ next_of low upto (way_of n c low t) (way_report n c low t z)) where
+    pub mending-ends : a.high ≤ l.high → mending u l.report ≡ mended_in (walk_of n c a o)
+    mending-ends h = ap mended_in (climbing-ends y (climbing-room y has) upto u l f h)

@@ -4,6 +4,7 @@ pub mod Begins
 pub mod Climbing
 pub mod Keeps
 pub mod Loops
+pub mod Ranges
 pub mod Steps
 pub mod Walks
 pub mod Tight

@@ -1,5 +1,5 @@
 -- A walk over the leaves of a range: what was found and what is left of it come to what the rules' walk gives. This is
--- the law that a loop over leaves cites. Assumes nothing.
+-- the law that a loop over leaves cites; each step of it is one of Ranges, from the walk's key up to its high. Assumes nothing.
 use Prim.Native.Nat.{ℕ, ◌+◌, ◌-◌, ◌≤◌, ◌<◌}
 use native.Mathlib.Omega.{arith}
 use mathlib.Core.Path.{◌≡◌, refl, sym, ap, ◌∙◌, subst}
@@ -11,25 +11,20 @@ use borrow.Author.Tests.{leb-true, leb-false, ltb-true, ltb-false, lt-ltb, le-lt
 use Rattle.std.specs.Prelude.{Option, Some, None, Result, Ok, Err}
 use Rattle.rules.specs.Layout.{last_key}
 use Rattle.rules.specs.Entry.{Cert, cut}
-use Rattle.rules.specs.Page.{Page}
 use Rattle.rules.specs.Table.{read}
-use Rattle.rules.specs.Walk.{Way, Walked, way_of, way_report, finds, stops, walk_of}
+use Rattle.rules.specs.Walk.{Walked, way_of, way_report, stops, walk_of}
 use Rattle.rules.specs.declared.Asked.{Asked}
 use Rattle.rules.specs.declared.Report.{Report}
 use Rattle.climbs.specs.Rest.{rest}
 use Rattle.climbs.specs.After.{after}
-use Rattle.climbs.specs.Ground.{Ground, Asks}
-use Rattle.climbs.proofs.Climb.{climb_leaf, climb_damaged}
+use Rattle.climbs.specs.Ground.{Ground}
 use Rattle.climbs.proofs.Ends.{after_more, rest-begins, rest-full, rest_ended}
 use Rattle.leaves.specs.Cursors.{no_cursor, Kept, nexting, next_of}
 use Rattle.leaves.specs.Walks.{walk_over, Stepping, stepping, key_behind, walk_behind, step_from, step_of, keys_from, keys_left}
 use Rattle.leaves.specs.declared.Leaf.{Leaf}
 use Rattle.leaves.specs.declared.Leaves.{Leaves}
-use Rattle.leaves.proofs.Loops.{kept-start, Reached, next-damaged, next-leaf}
-
--- what a walk has come to that met no damage
-abbrev pub walked_to : List ℕ → List Cert → Report → Walked
-walked_to t found report = record { table = t; whole = true; found = found; report = report }
+use Rattle.leaves.proofs.Loops.{kept-start, Reached}
+use Rattle.leaves.proofs.Ranges.{walked_to, Climbing, climbing-damaged, reached, passed as behind-leaf, climbing-ends}
 
 -- what is asked for from a key on
 abbrev pub from : ℕ → Asked → Asked
@@ -108,6 +103,17 @@ module _ {n c : ℕ} {a : Asked} {o : List ℕ} where
             absurd (omega (arith, l, ap (λ (v : Walked). length v.found) f, leb-true a.room (length found) q))
         go false q = leb-false a.room (length found) q
 
+    -- while it goes on it is a climb to the rest of what is asked for, from its key on
+    pub walking-climbs : (k : ℕ) → w.key ≡ Some k → Climbing n c a o t (from k a) found w.cursor w.report
+    unfolding left_of
+    walking-climbs k q = record {
+      comes = ap (λ (x : Option ℕ). rest n c (left_of x a) (walked_to t found w.report)) (sym q) ∙ y.comes;
+      ground = y.ground;
+      kept = y.kept;
+      low = y.ahead k q;
+      high = y.last;
+    }
+
     -- ── One step ────────────────────────────────────────────────────────────────────────────────────────────────
 
     module _ {u : List ℕ} {r : Option (Result Leaf Report)} {v : Leaves} (f : stepping u r v ≡ step_of n c t w) where
@@ -153,35 +159,20 @@ module _ {n c : ℕ} {a : Asked} {o : List ℕ} where
               }
 
       module _ (room : (k : ℕ) → w.key ≡ Some k → length found < a.room) where
-        module _ (k : ℕ) (q : w.key ≡ Some k) where
-          asks : Asks (from k a) (walked_to t found w.report)
-          asks = record { low = y.ahead k q; high = y.last; whole = refl; room = room k q }
-
-          within : k ≤ last_key
-          within = omega (arith, y.ahead k q, y.last)
-
-          comes-here : rest n c (from k a) (walked_to t found w.report) ≡ walk_of n c a o
-          unfolding left_of
-          comes-here = ap (λ (x : Option ℕ). rest n c (left_of x a) (walked_to t found w.report)) (sym q) ∙ y.comes
-
         -- damage ends the walk
         pub walking-damaged : (x : Report) → r ≡ Some (Err x) → stops (walked_to t found v.report) u ≡ walk_of n c a o
         unfolding walk_behind
         walking-damaged x e =
             let d = took (Err x) e in
-            let told = way_report n c d.k t w.report in
-            let z = next-damaged y.ground (within d.k d.key) w.high w.report x d.next in
-            ap (λ (p : Report). stops (walked_to t found p) u) (ap (λ (p : Leaves). p.report) d.walk ∙ z.1)
-            ∙ ap (stops (walked_to t found told)) (sym (ap (λ (p : Way). p.table) z.0))
-            ∙ sym (climb_damaged y.ground (asks d.k d.key) (ap (λ (p : Way). p.steps) z.0))
-            ∙ comes-here d.k d.key
+            ap (λ (p : Report). stops (walked_to t found p) u) (ap (λ (p : Leaves). p.report) d.walk)
+            ∙ climbing-damaged (walking-climbs d.k d.key) (room d.k d.key) w.high u x d.next
 
         module _ (l : Leaf) (e : r ≡ Some (Ok l)) where
           taken : Took (Ok l)
           taken = took (Ok l) e
 
           reached-by : Reached n c taken.k w.high w.report t u l
-          reached-by = next-leaf y.ground (within taken.k taken.key) w.high w.report l taken.next
+          reached-by = reached (walking-climbs taken.k taken.key) (room taken.k taken.key) w.high u l taken.next
 
           pub walking-reached : Reached n c l.from w.high w.report t u l
           walking-reached = subst (λ (k : ℕ). Reached n c k w.high w.report t u l) (sym reached-by.from) reached-by
@@ -190,19 +181,17 @@ module _ {n c : ℕ} {a : Asked} {o : List ℕ} where
           pub walking-from : w.key ≡ Some l.from
           walking-from = taken.key ∙ ap Some (sym reached-by.from)
 
+          walking-next : nexting u (Ok l) ≡ next_of l.from w.high (way_of n c l.from t) (way_report n c l.from t w.report)
+          walking-next =
+              subst (λ (k : ℕ). nexting u (Ok l) ≡ next_of k w.high (way_of n c k t) (way_report n c k t w.report)) (sym reached-by.from) taken.next
+
           -- what is left of the walk behind the leaf
           pub passed : rest n c (after l.high (from l.from a)) (walked_to u (found ++ more a u l found) l.report) ≡ walk_of n c a o
-          unfolding finds
-          passed =
-              let g = walking-reached in
-              let ask = from l.from a in
-              let told = way_report n c l.from t w.report in
-              ap (λ (p : Report). rest n c (after l.high ask) (walked_to u (found ++ more a u l found) p)) g.report
-              ∙ ap (λ (k : ℕ). rest n c (after k ask) (walked_to u (found ++ more a u l found) told)) g.high
-              ∙ ap (λ (p : Page). rest n c (after g.leaf.place.high ask) (finds ask p.view (walked_to t found told) u)) g.here
-              ∙ ap (λ (p : Way). rest n c (after g.leaf.place.high ask) (finds ask g.leaf.page.view (walked_to t found told) p.table)) (sym g.way)
-              ∙ sym (climb_leaf y.ground (asks l.from walking-from) g.leaf g.above (ap (λ (p : Way). p.steps) g.way))
-              ∙ comes-here l.from walking-from
+          passed = behind-leaf (walking-climbs l.from walking-from) (room l.from walking-from) w.high u l walking-next
+
+          -- a leaf at the end of the range is the last
+          pub walking-ends : a.high ≤ l.high → walked_to u (found ++ more a u l found) l.report ≡ walk_of n c a o
+          walking-ends h = climbing-ends (walking-climbs l.from walking-from) (room l.from walking-from) w.high u l walking-next h
 
           -- behind the leaf, with what stands in it
           behind : Option ℕ → Leaves
