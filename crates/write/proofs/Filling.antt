@@ -22,7 +22,8 @@ use Rattle.leaves.specs.Walks.{walk_over, stepping, step_of, keys_left}
 use Rattle.leaves.specs.declared.Leaf.{Leaf}
 use Rattle.leaves.specs.declared.Leaves.{Leaves}
 use Rattle.leaves.proofs.Loops.{Reached}
-use Rattle.leaves.proofs.Walks.{walked_to, left_of, Walking, more, walking-begins, walking-room, walking-done, walking-damaged, walking-reached, walking-on, walking-less}
+use Rattle.leaves.proofs.Ranges.{walked_to}
+use Rattle.leaves.proofs.Walks.{left_of, Walking, more, walking-begins, walking-room, walking-done, walking-damaged, walking-reached, walking-ends, walking-on, walking-less}
 use Rattle.fill.specs.Fills.{HasRoom, certs_from}
 use Rattle.fill.proofs.Fills.{reached-certs}
 use Rattle.counts.specs.Tally.{no_tally, counted_all, Few}
@@ -124,15 +125,23 @@ module _ {n c : ℕ} {a : Asked} {s : Starts} {o out₀ : List ℕ} where
             subst (λ (d : Tally). Lies s d long) to
             (lies_fewer (all-grows (counted_all no_tally (y.found ++ added)) e.more) (subst (λ (d : Tally). Lies s d long) up lies))
 
-        pub filling_on : (d : Tally) (next : List ℕ) → putting d next ≡ put_all s tally shown out → Filling n c a s o out₀ u v d next
-        filling_on d next g = record {
-          found = y.found ++ added;
-          walking = further;
-          puts = g
+        module _ (d : Tally) (next : List ℕ) (g : putting d next ≡ put_all s tally shown out) where
+          now : putting d next ≡ put_all s no_tally (y.found ++ added) out₀
+          now =
+              g
               ∙ ap (λ (xs : List Cert). put_all s tally xs out) (sym added_is)
               ∙ ap (λ (p : Put). put_all s p.tally added p.out) y.puts
-              ∙ sym (put-append s no_tally y.found added out₀);
-        }
+              ∙ sym (put-append s no_tally y.found added out₀)
+
+          -- the leaf at the end of the range is the last
+          pub filling-ends : a.high ≤ l.high → wrote u next l.report ≡ wrote_in s out₀ (walk_of n c a o)
+          unfolding wrote_in
+          filling-ends h =
+              ap (λ (p : Put). wrote u p.out l.report) now
+              ∙ ap (wrote_in s out₀) (walking-ends y.walking f (λ k q. room) l e h)
+
+          pub filling_on : Filling n c a s o out₀ u v d next
+          filling_on = record { found = y.found ++ added; walking = further; puts = now }
 
         pub filling_less : keys_left v < keys_left w
         filling_less = walking-less y.walking f (λ k q. room) l e

@@ -57,7 +57,7 @@ module _ (n c : ℕ) (t : List ℕ) (long : length t ≡ n * page_size) (most : 
   abbrev file : List ℕ
   file = file_of walked.found
 
-  known_whole : is_ok r ≡ (walk_of n c everything t).whole
+  pub known_whole : is_ok r ≡ (walk_of n c everything t).whole
   known_whole = ap is_ok is ∙ ahead-whole n t ∙ over-whole n t fit long c everything most bytes narrow
 
   set : SetFacts walked.found

@@ -24,3 +24,6 @@ lean_tight κs a pre z z' l l' p q =
       (λ i. record { answer = (e i).left.answer; report = (e i).report }),
       (λ i. ((e i).left.working, (l.1.0, (l.1.1.0, (l.1.1.1.0, ((e i).left.out, rest)))))),
     )
+
+pub write_error-number_tight : Tight this.WriteErrorRefusal.number.Kinds.ps this.WriteErrorRefusal.number.Kinds.r this.WriteErrorRefusal.number.Reads.Pre this.WriteErrorRefusal.number.Reads.Post
+write_error-number_tight κs a pre z z' l l' p q = (p ∙ sym q, refl)
