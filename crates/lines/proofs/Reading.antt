@@ -6,7 +6,7 @@ use mathlib.Core.Bool.{Bool, true, false}
 use mathlib.Core.List.{List, [], ◌∷◌, foldl}
 use lib.Dec.{eqb}
 use borrow.Author.Tests.{eqb-true}
-use Rattle.std.specs.Prelude.{Option, Some, None, set}
+use Rattle.std.specs.Prelude.{set}
 use Rattle.lines.specs.declared.Line.{Line}
 use Rattle.lines.specs.declared.Ask.{Ask}
 use Rattle.lines.specs.declared.Reader.{Reader}
@@ -47,27 +47,27 @@ end-words line bs = end-some line (words bs) (words-some bs)
 
 -- ── A number from its first byte on ─────────────────────────────────────────────────────────────────────────────
 
-number-from : (limit : ℕ) (w : List ℕ) → number_from limit None w ≡ number_in limit w
+number-from : (limit : ℕ) (w : List ℕ) → number_from false limit 0 w ≡ number_in limit w
 unfolding number_from number_in
 number-from limit [] = refl
 number-from limit (b ∷ w) = refl
 
-rested_number : (limit : ℕ) (rest : ℕ → List (List ℕ) → Line) (ws : List (List ℕ)) → rested limit None rest ws ≡ number limit rest ws
+rested_number : (limit : ℕ) (rest : ℕ → List (List ℕ) → Line) (ws : List (List ℕ)) → rested false limit 0 rest ws ≡ number limit rest ws
 unfolding rested number
 rested_number limit rest [] = refl
 rested_number limit rest (w ∷ ws) = rw (number-from limit w)
 
 -- ── The numbers of a certificate, last one first ────────────────────────────────────────────────────────────────
 
-record_told : (m s i : ℕ) (v : Option ℕ) (bs : List ℕ) → told (Record m s i v) bs ≡ rested most32 v (λ r. end (Line.Insert m s i r)) (words bs)
+record_told : (m s i : ℕ) (begun : Bool) (v : ℕ) (bs : List ℕ) → told (Record m s i begun v) bs ≡ rested begun most32 v (λ r. end (Line.Insert m s i r)) (words bs)
 unfolding words rested number_from end
-record_told m s i (Some v) [] = refl
-record_told m s i None [] = refl
-record_told m s i v (b ∷ bs) =
-    number-told most32 (λ r. Record m s i (Some r)) (λ r. Other) (λ r. end (Line.Insert m s i r)) bs
-    (λ r. record_told m s i (Some r) bs)
+record_told m s i true v [] = refl
+record_told m s i false v [] = refl
+record_told m s i begun v (b ∷ bs) =
+    number-told most32 (Record m s i true) (λ r. Other) (λ r. end (Line.Insert m s i r)) bs
+    (λ u. record_told m s i true u bs)
     (λ r. told-other bs ∙ sym (end-words (Line.Insert m s i r) bs))
-    v b
+    begun v b
 
 -- what follows an issue
 abbrev issue_rest : Ask → ℕ → ℕ → ℕ → List (List ℕ) → Line
@@ -75,46 +75,46 @@ issue_rest Ask.Insert m s i = number most32 (λ r. end (Line.Insert m s i r))
 issue_rest Ask.Find m s i = end (Line.Find m s i)
 
 issue-behind : (ask : Ask) (m s i : ℕ) (bs : List ℕ) → told (after_issue ask m s i) bs ≡ issue_rest ask m s i (words bs)
-issue-behind Ask.Insert m s i bs = record_told m s i None bs ∙ rested_number most32 (λ r. end (Line.Insert m s i r)) (words bs)
+issue-behind Ask.Insert m s i bs = record_told m s i false 0 bs ∙ rested_number most32 (λ r. end (Line.Insert m s i r)) (words bs)
 issue-behind Ask.Find m s i bs = told-other bs ∙ sym (end-words (Line.Find m s i) bs)
 
-issue-told : (ask : Ask) (m s : ℕ) (v : Option ℕ) (bs : List ℕ) → told (Issue ask m s v) bs ≡ rested most16 v (issue_rest ask m s) (words bs)
+issue-told : (ask : Ask) (m s : ℕ) (begun : Bool) (v : ℕ) (bs : List ℕ) → told (Issue ask m s begun v) bs ≡ rested begun most16 v (issue_rest ask m s) (words bs)
 unfolding words rested number_from end number
-issue-told Ask.Insert m s (Some v) [] = refl
-issue-told Ask.Insert m s None [] = refl
-issue-told Ask.Find m s (Some v) [] = refl
-issue-told Ask.Find m s None [] = refl
-issue-told ask m s v (b ∷ bs) =
-    number-told most16 (λ i. Issue ask m s (Some i)) (after_issue ask m s) (issue_rest ask m s) bs
-    (λ i. issue-told ask m s (Some i) bs)
+issue-told Ask.Insert m s true v [] = refl
+issue-told Ask.Insert m s false v [] = refl
+issue-told Ask.Find m s true v [] = refl
+issue-told Ask.Find m s false v [] = refl
+issue-told ask m s begun v (b ∷ bs) =
+    number-told most16 (Issue ask m s true) (after_issue ask m s) (issue_rest ask m s) bs
+    (λ u. issue-told ask m s true u bs)
     (λ i. issue-behind ask m s i bs)
-    v b
+    begun v b
 
 abbrev serial_rest : Ask → ℕ → ℕ → List (List ℕ) → Line
 serial_rest ask m s = number most16 (issue_rest ask m s)
 
-serial-told : (ask : Ask) (m : ℕ) (v : Option ℕ) (bs : List ℕ) → told (Serial ask m v) bs ≡ rested most32 v (serial_rest ask m) (words bs)
+serial-told : (ask : Ask) (m : ℕ) (begun : Bool) (v : ℕ) (bs : List ℕ) → told (Serial ask m begun v) bs ≡ rested begun most32 v (serial_rest ask m) (words bs)
 unfolding words rested number_from number
-serial-told ask m (Some v) [] = refl
-serial-told ask m None [] = refl
-serial-told ask m v (b ∷ bs) =
-    number-told most32 (λ s. Serial ask m (Some s)) (λ s. Issue ask m s None) (serial_rest ask m) bs
-    (λ s. serial-told ask m (Some s) bs)
-    (λ s. issue-told ask m s None bs ∙ rested_number most16 (issue_rest ask m s) (words bs))
-    v b
+serial-told ask m true v [] = refl
+serial-told ask m false v [] = refl
+serial-told ask m begun v (b ∷ bs) =
+    number-told most32 (Serial ask m true) (λ s. Issue ask m s false 0) (serial_rest ask m) bs
+    (λ u. serial-told ask m true u bs)
+    (λ s. issue-told ask m s false 0 bs ∙ rested_number most16 (issue_rest ask m s) (words bs))
+    begun v b
 
 abbrev model_rest : Ask → ℕ → List (List ℕ) → Line
 model_rest ask m = number most32 (serial_rest ask m)
 
-model-told : (ask : Ask) (v : Option ℕ) (bs : List ℕ) → told (Model ask v) bs ≡ rested most16 v (model_rest ask) (words bs)
+model-told : (ask : Ask) (begun : Bool) (v : ℕ) (bs : List ℕ) → told (Model ask begun v) bs ≡ rested begun most16 v (model_rest ask) (words bs)
 unfolding words rested number_from number
-model-told ask (Some v) [] = refl
-model-told ask None [] = refl
-model-told ask v (b ∷ bs) =
-    number-told most16 (λ m. Model ask (Some m)) (λ m. Serial ask m None) (model_rest ask) bs
-    (λ m. model-told ask (Some m) bs)
-    (λ m. serial-told ask m None bs ∙ rested_number most32 (serial_rest ask m) (words bs))
-    v b
+model-told ask true v [] = refl
+model-told ask false v [] = refl
+model-told ask begun v (b ∷ bs) =
+    number-told most16 (Model ask true) (λ m. Serial ask m false 0) (model_rest ask) bs
+    (λ u. model-told ask true u bs)
+    (λ m. serial-told ask m false 0 bs ∙ rested_number most32 (serial_rest ask m) (words bs))
+    begun v b
 
 -- ── The pages of a crash ────────────────────────────────────────────────────────────────────────────────────────
 
@@ -122,20 +122,20 @@ model-told ask v (b ∷ bs) =
 abbrev page_rest : List Bool → ℕ → List (List ℕ) → Line
 page_rest pages n = crash_of (set pages n true)
 
-rested_crash : (pages : List Bool) (ws : List (List ℕ)) → some_word ws ≡ true → rested last_page None (page_rest pages) ws ≡ crash_of pages ws
+rested_crash : (pages : List Bool) (ws : List (List ℕ)) → some_word ws ≡ true → rested false last_page 0 (page_rest pages) ws ≡ crash_of pages ws
 unfolding some_word rested crash_of
 rested_crash pages [] h = cc
 rested_crash pages (w ∷ ws) h = rw (number-from last_page w)
 
-page-told : (pages : List Bool) (v : Option ℕ) (bs : List ℕ) → told (Page pages v) bs ≡ rested last_page v (page_rest pages) (words bs)
+page-told : (pages : List Bool) (begun : Bool) (v : ℕ) (bs : List ℕ) → told (Page pages begun v) bs ≡ rested begun last_page v (page_rest pages) (words bs)
 unfolding words rested number_from crash_of
-page-told pages (Some v) [] = refl
-page-told pages None [] = refl
-page-told pages v (b ∷ bs) =
-    number-told last_page (λ n. Page pages (Some n)) (λ n. Page (set pages n true) None) (page_rest pages) bs
-    (λ n. page-told pages (Some n) bs)
-    (λ n. page-told (set pages n true) None bs ∙ rested_crash (set pages n true) (words bs) (words-some bs))
-    v b
+page-told pages true v [] = refl
+page-told pages false v [] = refl
+page-told pages begun v (b ∷ bs) =
+    number-told last_page (Page pages true) (λ n. Page (set pages n true) false 0) (page_rest pages) bs
+    (λ u. page-told pages true u bs)
+    (λ n. page-told (set pages n true) false 0 bs ∙ rested_crash (set pages n true) (words bs) (words-some bs))
+    begun v b
 
 -- ── The letter ──────────────────────────────────────────────────────────────────────────────────────────────────
 
@@ -182,10 +182,10 @@ unfolding letter_of insert_of find_of
 letter_fields b bs = go (eqb b letter_i) (eqb b letter_f) (eqb b letter_s) (eqb b letter_c)
   where
     go : (i f s c : Bool) → told (fed_by i f s c) (space ∷ bs) ≡ asked_by i f s c (words bs)
-    go true f s c = model-told Ask.Insert None bs ∙ rested_number most16 (model_rest Ask.Insert) (words bs)
-    go false true s c = model-told Ask.Find None bs ∙ rested_number most16 (model_rest Ask.Find) (words bs)
+    go true f s c = model-told Ask.Insert false 0 bs ∙ rested_number most16 (model_rest Ask.Insert) (words bs)
+    go false true s c = model-told Ask.Find false 0 bs ∙ rested_number most16 (model_rest Ask.Find) (words bs)
     go false false true c = told-other bs ∙ sym (end-words Line.Sync bs)
-    go false false false true = page-told no_pages None bs ∙ rested_crash no_pages (words bs) (words-some bs)
+    go false false false true = page-told no_pages false 0 bs ∙ rested_crash no_pages (words bs) (words-some bs)
     go false false false false = told-other bs
 
 -- another byte follows

@@ -7,7 +7,7 @@ use mathlib.Core.Bool.{Bool, true, false, ◌&&◌}
 use mathlib.Core.List.{List, [], ◌∷◌, foldl}
 use lib.Dec.{leb, eqb}
 use borrow.Author.Tests.{leb-true, leb-false, le-leb, lt-leb}
-use Rattle.std.specs.Prelude.{Option, Some, None, unwrap_or}
+use Rattle.std.specs.Prelude.{Option, Some, None}
 use Rattle.std.specs.Option.{option_map_or}
 use Rattle.lines.specs.declared.Line.{Line}
 use Rattle.lines.specs.declared.Reader.{Reader}
@@ -21,17 +21,17 @@ told r bs = line_in (foldl fed_of r bs)
 
 -- ── Numbers, as far as they are read ────────────────────────────────────────────────────────────────────────────
 
--- what a word makes of a number of which so much is read
-unfoldable pub number_from : ℕ → Option ℕ → List ℕ → Option ℕ
-number_from limit v [] = v
-number_from limit v (b ∷ bs) =
-    let n = value (unwrap_or v 0) (b ∷ bs) in
+-- what a word makes of a number v that has begun or not
+unfoldable pub number_from : Bool → ℕ → ℕ → List ℕ → Option ℕ
+number_from begun limit v [] = elim begun [ true ↦ Some v | false ↦ None ]
+number_from begun limit v (b ∷ bs) =
+    let n = value v (b ∷ bs) in
     elim (digits (b ∷ bs) && leb n limit) [ true ↦ Some n | false ↦ None ]
 
 -- what a line makes of it
-unfoldable pub rested : ℕ → Option ℕ → (ℕ → List (List ℕ) → Line) → List (List ℕ) → Line
-rested limit v rest [] = Line.Other
-rested limit v rest (w ∷ ws) = option_map_or (λ n. rest n ws) (number_from limit v w) Line.Other
+unfoldable pub rested : Bool → ℕ → ℕ → (ℕ → List (List ℕ) → Line) → List (List ℕ) → Line
+rested begun limit v rest [] = Line.Other
+rested begun limit v rest (w ∷ ws) = option_map_or (λ n. rest n ws) (number_from begun limit v w) Line.Other
 
 value_grows : (v : ℕ) (w : List ℕ) → v ≤ value v w
 unfolding value
@@ -43,25 +43,25 @@ value-over : (limit v : ℕ) (w : List ℕ) → limit < v → leb (value v w) li
 value-over limit v w h = lt-leb (value v w) limit (omega (arith, value_grows v w))
 
 -- a digit more
-number-digit : (limit : ℕ) (v : Option ℕ) (b : ℕ) (w : List ℕ) → is_digit b ≡ true → grown (unwrap_or v 0) b ≤ limit → number_from limit v (b ∷ w) ≡ number_from limit (Some (grown (unwrap_or v 0) b)) w
+number-digit : (begun : Bool) (limit v b : ℕ) (w : List ℕ) → is_digit b ≡ true → grown v b ≤ limit → number_from begun limit v (b ∷ w) ≡ number_from true limit (grown v b) w
 unfolding number_from digits value
-number-digit limit v b [] d h = rw (d, number_from, le-leb (grown (unwrap_or v 0) b) limit h, number_from)
-number-digit limit v b (a ∷ w) d h = rw (d, number_from)
+number-digit begun limit v b [] d h = rw (d, number_from, le-leb (grown v b) limit h, number_from)
+number-digit begun limit v b (a ∷ w) d h = rw (d, number_from)
 
-number-over : (limit : ℕ) (v : Option ℕ) (b : ℕ) (w : List ℕ) → limit < grown (unwrap_or v 0) b → number_from limit v (b ∷ w) ≡ None
+number-over : (begun : Bool) (limit v b : ℕ) (w : List ℕ) → limit < grown v b → number_from begun limit v (b ∷ w) ≡ None
 unfolding number_from value
-number-over limit v b w h = go (digits (b ∷ w))
+number-over begun limit v b w h = go (digits (b ∷ w))
   where
     n : ℕ
-    n = value (grown (unwrap_or v 0) b) w
+    n = value (grown v b) w
 
     go : (d : Bool) → ◌≡◌ {A = Option ℕ} (elim (d && leb n limit) [ true ↦ Some n | false ↦ None ]) None
-    go true = rw (value-over limit (grown (unwrap_or v 0) b) w h)
+    go true = rw (value-over limit (grown v b) w h)
     go false = refl
 
-number_not : (limit : ℕ) (v : Option ℕ) (b : ℕ) (w : List ℕ) → is_digit b ≡ false → number_from limit v (b ∷ w) ≡ None
+number_not : (begun : Bool) (limit v b : ℕ) (w : List ℕ) → is_digit b ≡ false → number_from begun limit v (b ∷ w) ≡ None
 unfolding number_from digits
-number_not limit v b w d = rw (d, number_from)
+number_not begun limit v b w d = rw (d, number_from)
 
 -- ── Where nothing more counts ───────────────────────────────────────────────────────────────────────────────────
 
@@ -72,40 +72,40 @@ told-other (b ∷ bs) = told-other bs
 -- ── One byte of a number ────────────────────────────────────────────────────────────────────────────────────────
 
 -- what the line's rest makes of a word that goes on with b
-onto-none : (limit : ℕ) (v : Option ℕ) (b : ℕ) (rest : ℕ → List (List ℕ) → Line) (ws : List (List ℕ)) → ((w : List ℕ) → number_from limit v (b ∷ w) ≡ None) → rested limit v rest (onto b ws) ≡ Line.Other
+onto-none : (begun : Bool) (limit v b : ℕ) (rest : ℕ → List (List ℕ) → Line) (ws : List (List ℕ)) → ((w : List ℕ) → number_from begun limit v (b ∷ w) ≡ None) → rested begun limit v rest (onto b ws) ≡ Line.Other
 unfolding rested onto
-onto-none limit v b rest [] h = refl
-onto-none limit v b rest (w ∷ ws) h = rw (h w)
+onto-none begun limit v b rest [] h = refl
+onto-none begun limit v b rest (w ∷ ws) h = rw (h w)
 
-onto-digit : (limit : ℕ) (v : Option ℕ) (b : ℕ) (rest : ℕ → List (List ℕ) → Line) (ws : List (List ℕ)) → is_digit b ≡ true → grown (unwrap_or v 0) b ≤ limit → rested limit v rest (onto b ws) ≡ rested limit (Some (grown (unwrap_or v 0) b)) rest ws
+onto-digit : (begun : Bool) (limit v b : ℕ) (rest : ℕ → List (List ℕ) → Line) (ws : List (List ℕ)) → is_digit b ≡ true → grown v b ≤ limit → rested begun limit v rest (onto b ws) ≡ rested true limit (grown v b) rest ws
 unfolding rested onto
-onto-digit limit v b rest [] d h = refl
-onto-digit limit v b rest (w ∷ ws) d h = rw (number-digit limit v b w d h)
+onto-digit begun limit v b rest [] d h = refl
+onto-digit begun limit v b rest (w ∷ ws) d h = rw (number-digit begun limit v b w d h)
 
 -- a number reads on by one byte, if the bytes behind it are read as they should
 module _ (limit : ℕ) (here next : ℕ → Reader) (rest : ℕ → List (List ℕ) → Line) (bs : List ℕ)
-    (on : (n : ℕ) → told (here n) bs ≡ rested limit (Some n) rest (words bs))
-    (behind : (n : ℕ) → told (next n) bs ≡ rest n (words bs)) where
-  told-space : (v : Option ℕ) → told (option_map_or next v Other) bs ≡ rested limit v rest ([] ∷ words bs)
+    (on : (v : ℕ) → told (here v) bs ≡ rested true limit v rest (words bs))
+    (behind : (v : ℕ) → told (next v) bs ≡ rest v (words bs)) where
+  told-space : (begun : Bool) (v : ℕ) → told (elim begun [ true ↦ next v | false ↦ Other ]) bs ≡ rested begun limit v rest ([] ∷ words bs)
   unfolding rested number_from
-  told-space (Some n) = behind n
-  told-space None = told-other bs
+  told-space true v = behind v
+  told-space false v = told-other bs
 
-  told-digit : (v : Option ℕ) (b : ℕ) → told (option_map_or here (grown_of limit (unwrap_or v 0) b) Other) bs ≡ rested limit v rest (onto b (words bs))
-  told-digit v b = go (is_digit b) refl (leb n limit) refl
+  told-digit : (begun : Bool) (v b : ℕ) → told (option_map_or here (grown_of limit v b) Other) bs ≡ rested begun limit v rest (onto b (words bs))
+  told-digit begun v b = go (is_digit b) refl (leb n limit) refl
     where
       n : ℕ
-      n = grown (unwrap_or v 0) b
+      n = grown v b
 
-      go : (d : Bool) → is_digit b ≡ d → (t : Bool) → leb n limit ≡ t → told (option_map_or here (elim (d && t) [ true ↦ Some n | false ↦ None ]) Other) bs ≡ rested limit v rest (onto b (words bs))
-      go true d true t = on n ∙ sym (onto-digit limit v b rest (words bs) d (leb-true n limit t))
-      go true d false t = told-other bs ∙ sym (onto-none limit v b rest (words bs) (λ w. number-over limit v b w (leb-false n limit t)))
-      go false d t e = told-other bs ∙ sym (onto-none limit v b rest (words bs) (λ w. number_not limit v b w d))
+      go : (d : Bool) → is_digit b ≡ d → (t : Bool) → leb n limit ≡ t → told (option_map_or here (elim (d && t) [ true ↦ Some n | false ↦ None ]) Other) bs ≡ rested begun limit v rest (onto b (words bs))
+      go true d true t = on n ∙ sym (onto-digit begun limit v b rest (words bs) d (leb-true n limit t))
+      go true d false t = told-other bs ∙ sym (onto-none begun limit v b rest (words bs) (λ w. number-over begun limit v b w (leb-false n limit t)))
+      go false d t e = told-other bs ∙ sym (onto-none begun limit v b rest (words bs) (λ w. number_not begun limit v b w d))
 
-  pub number-told : (v : Option ℕ) (b : ℕ) → told (number_fed limit here next v b) bs ≡ rested limit v rest (words (b ∷ bs))
+  pub number-told : (begun : Bool) (v b : ℕ) → told (number_fed limit here next begun v b) bs ≡ rested begun limit v rest (words (b ∷ bs))
   unfolding words
-  number-told v b = go (eqb b space)
+  number-told begun v b = go (eqb b space)
     where
-      go : (t : Bool) → told (elim t [ true ↦ option_map_or next v Other | false ↦ option_map_or here (grown_of limit (unwrap_or v 0) b) Other ]) bs ≡ rested limit v rest (elim t [ true ↦ [] ∷ words bs | false ↦ onto b (words bs) ])
-      go true = told-space v
-      go false = told-digit v b
+      go : (t : Bool) → told (elim t [ true ↦ elim begun [ true ↦ next v | false ↦ Other ] | false ↦ option_map_or here (grown_of limit v b) Other ]) bs ≡ rested begun limit v rest (elim t [ true ↦ [] ∷ words bs | false ↦ onto b (words bs) ])
+      go true = told-space begun v
+      go false = told-digit begun v b

@@ -9,8 +9,7 @@
 
 #![tactic(auto)]
 
-ghost use Rattle.std.specs.Prelude.{◌≡◌, ◌≢◌, ◌≤◌, ℕ, MatchOption, set, true, unwrap_or};
-ghost use Rattle.std.specs.Option.{ForSome};
+ghost use Rattle.std.specs.Prelude.{◌≡◌, ◌≢◌, ◌≤◌, ℕ, MatchOption, set, true, false};
 ghost use Rattle.lines.specs.Line.{space};
 ghost use Rattle.lines.specs.Reader.{grown_of, after_issue, letter_fed, space_fed, start_of, fed_of, line_in};
 
@@ -43,18 +42,19 @@ pub enum Ask {
 }
 
 // Where a reader is. `Certificate` stands behind the letter of an insert or a find; the four numbers follow, each with
-// those before it and its value so far, if it has begun. `Other` is behind a line of any other shape.
+// those before it, whether it has begun, and its value so far. `Other` is behind a line of any other shape. No `Option`:
+// a number that a caller hands in may have a value and yet not have begun, and a digit makes it grow from there.
 #[derive(Clone, Copy)]
 pub enum Reader {
     Start,
     Certificate(Ask),
-    Model(Ask, Option<u16>),
-    Serial(Ask, u16, Option<u32>),
-    Issue(Ask, u16, u32, Option<u16>),
-    Record(u16, u32, u16, Option<u32>),
+    Model(Ask, bool, u16),
+    Serial(Ask, u16, bool, u32),
+    Issue(Ask, u16, u32, bool, u16),
+    Record(u16, u32, u16, bool, u32),
     Sync,
     Crash,
-    Page([bool; 5], Option<u8>),
+    Page([bool; 5], bool, u8),
     Other,
 }
 
@@ -75,21 +75,26 @@ fn grow(limit: u32, v: u32, b: u8) -> Option<u32>
 // A byte within a number: a space ends it, if it has begun, and a digit makes it grow.
 fn feed_number<G: FnOnce(u32) -> Reader, E: FnOnce(u32) -> Reader>(
     limit: u32,
-    v: Option<u32>,
+    begun: bool,
+    v: u32,
     b: u8,
     grown: G,
     ended: E,
 ) -> Reader
     requires grows { (n : ℕ) → n ≤ limit → G.pre grown n }
-    requires ends { ForSome v (E.pre ended) }
-    ensures at_space { b ≡ space → MatchOption v (result ≡ Reader.Other) (λ n. E.post ended n result) }
+    requires ends { begun ≡ true → E.pre ended v }
+    ensures at_space { b ≡ space → begun ≡ true → E.post ended v result }
+    ensures too_soon { b ≡ space → begun ≡ false → result ≡ Reader.Other }
     ensures within { b ≢ space
-        → MatchOption (grown_of limit (unwrap_or v 0) b) (result ≡ Reader.Other) (λ n. G.post grown n result) }
+        → MatchOption (grown_of limit v b) (result ≡ Reader.Other) (λ n. G.post grown n result) }
 {
-    if b == SPACE {
-        return v.map_or(Reader::Other, ended);
+    if b != SPACE {
+        return grow(limit, v, b).map_or(Reader::Other, grown);
     }
-    grow(limit, v.unwrap_or(0), b).map_or(Reader::Other, grown)
+    if begun {
+        return ended(v);
+    }
+    Reader::Other
 }
 
 fn feed_letter(b: u8) -> Reader
@@ -118,7 +123,7 @@ fn after_issue(ask: Ask, model: u16, serial: u32, issue: u16) -> Reader
     ensures { result ≡ after_issue ask model serial issue }
 {
     match ask {
-        Ask::Insert => Reader::Record(model, serial, issue, None),
+        Ask::Insert => Reader::Record(model, serial, issue, false, 0),
         Ask::Find => Reader::Other,
     }
 }
@@ -134,15 +139,16 @@ fn with_page(mut pages: [bool; 5], page: u8) -> [bool; 5]
     pages
 }
 
-fn feed_page(pages: [bool; 5], v: Option<u8>, b: u8) -> Reader
-    ensures { result ≡ fed_of (Reader.Page pages v) b }
+fn feed_page(pages: [bool; 5], begun: bool, v: u8, b: u8) -> Reader
+    ensures { result ≡ fed_of (Reader.Page pages begun v) b }
 {
     feed_number(
         LAST_PAGE,
-        v.map(u32::from),
+        begun,
+        u32::from(v),
         b,
-        |n| Reader::Page(pages, Some(n as u8)),
-        |page| Reader::Page(with_page(pages, page as u8), None),
+        |n| Reader::Page(pages, true, n as u8),
+        |page| Reader::Page(with_page(pages, page as u8), false, 0),
     )
 }
 
@@ -158,37 +164,41 @@ impl Reader {
     {
         match self {
             Reader::Start => feed_letter(b),
-            Reader::Certificate(ask) => feed_space(Reader::Model(ask, None), b),
-            Reader::Model(ask, v) => feed_number(
+            Reader::Certificate(ask) => feed_space(Reader::Model(ask, false, 0), b),
+            Reader::Model(ask, begun, v) => feed_number(
                 MOST_16,
-                v.map(u32::from),
+                begun,
+                u32::from(v),
                 b,
-                |n| Reader::Model(ask, Some(n as u16)),
-                |m| Reader::Serial(ask, m as u16, None),
+                |n| Reader::Model(ask, true, n as u16),
+                |m| Reader::Serial(ask, m as u16, false, 0),
             ),
-            Reader::Serial(ask, m, v) => feed_number(
+            Reader::Serial(ask, m, begun, v) => feed_number(
                 MOST_32,
+                begun,
                 v,
                 b,
-                |n| Reader::Serial(ask, m, Some(n)),
-                |s| Reader::Issue(ask, m, s, None),
+                |n| Reader::Serial(ask, m, true, n),
+                |s| Reader::Issue(ask, m, s, false, 0),
             ),
-            Reader::Issue(ask, m, s, v) => feed_number(
+            Reader::Issue(ask, m, s, begun, v) => feed_number(
                 MOST_16,
-                v.map(u32::from),
+                begun,
+                u32::from(v),
                 b,
-                |n| Reader::Issue(ask, m, s, Some(n as u16)),
+                |n| Reader::Issue(ask, m, s, true, n as u16),
                 |i| after_issue(ask, m, s, i as u16),
             ),
-            Reader::Record(m, s, i, v) => feed_number(
+            Reader::Record(m, s, i, begun, v) => feed_number(
                 MOST_32,
+                begun,
                 v,
                 b,
-                |n| Reader::Record(m, s, i, Some(n)),
+                |n| Reader::Record(m, s, i, true, n),
                 |_| Reader::Other,
             ),
-            Reader::Crash => feed_space(Reader::Page([false; 5], None), b),
-            Reader::Page(pages, v) => feed_page(pages, v, b),
+            Reader::Crash => feed_space(Reader::Page([false; 5], false, 0), b),
+            Reader::Page(pages, begun, v) => feed_page(pages, begun, v, b),
             Reader::Sync | Reader::Other => Reader::Other,
         }
     }
@@ -197,11 +207,11 @@ impl Reader {
         ensures { result ≡ line_in self }
     {
         match self {
-            Reader::Issue(Ask::Find, m, s, Some(i)) => Line::Find(m, s, i),
-            Reader::Record(m, s, i, Some(r)) => Line::Insert(m, s, i, r),
+            Reader::Issue(Ask::Find, m, s, true, i) => Line::Find(m, s, i),
+            Reader::Record(m, s, i, true, r) => Line::Insert(m, s, i, r),
             Reader::Sync => Line::Sync,
             Reader::Crash => Line::Crash([false; 5]),
-            Reader::Page(pages, Some(page)) => Line::Crash(with_page(pages, page)),
+            Reader::Page(pages, true, page) => Line::Crash(with_page(pages, page)),
             _ => Line::Other,
         }
     }
