@@ -12,10 +12,13 @@
 ghost use Rattle.std.specs.Prelude.{◌≡◌, IfOk};
 ghost use Rattle.bench.specs.Runs.{run, stand};
 
-use driver::{BYTES, Bench, Table};
+use driver::{BYTES, Bench};
 use std::fmt;
 use std::io::{Read, Write};
 use words::Reply;
+
+// A table of the bench program's store.
+type Table = [u8; BYTES];
 
 // How much is read at once.
 const CHUNK: usize = 512;

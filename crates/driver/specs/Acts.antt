@@ -1,6 +1,6 @@
 -- One line's effect on the bench program's store, in the rules' words: the call that the line asks for, with its answer
 -- as what is to be printed.
-use Rattle.std.specs.Prelude.{ℕ, true, false, List, eqb, Some, None, unwrap_or, Ok, Err}
+use Rattle.std.specs.Prelude.{ℕ, true, false, List, eqb, Ok, Err}
 use Rattle.rules.specs.Call.{Left, opened_no, inserted_no, looked_no, synced_no}
 use Rattle.rules.specs.Open.{opening}
 use Rattle.rules.specs.Insert.{insert}
@@ -11,7 +11,6 @@ use Rattle.rules.specs.declared.Session.{Session}
 use Rattle.rules.specs.Answer.{Opened, Inserted, Looked, Synced}
 use Rattle.lines.specs.declared.Line.{Line}
 use Rattle.words.specs.declared.Reply.{Reply}
-use Rattle.lines.specs.declared.Reader.{Reader}
 use Rattle.lines.specs.Reader.{start_of, fed_of, line_in}
 use Rattle.words.specs.Words.{newline}
 use Rattle.driver.specs.declared.Turn.{Turn}
@@ -70,15 +69,11 @@ pub record Stepped : Type 0 where
 
 -- before the first byte of a line
 abbrev pub fresh : Session → Bench
-fresh session = record { reader = None; session = session }
-
--- where the reader is, at the start of the line if no byte of it is read
-abbrev pub reader_of : Bench → Reader
-reader_of m = unwrap_or m.reader start_of
+fresh session = record { reader = start_of; begun = false; session = session }
 
 -- a byte of a line is read
 abbrev pub fed : Bench → ℕ → Bench
-fed m b = record { reader = Some (fed_of (reader_of m) b); session = m.session }
+fed m b = record { reader = fed_of m.reader b; begun = true; session = m.session }
 
 abbrev pub silent : Bench → List ℕ → List ℕ → Stepped
 silent m w s = record { reply = Reply.Silent; bench = m; working = w; stable = s }
@@ -88,14 +83,14 @@ answered r = record { reply = r.answer; bench = fresh r.session; working = r.wor
 
 -- a line is at its end
 abbrev pub closed : Bench → List ℕ → List ℕ → Stepped
-closed m w s = answered (acted (line_in (reader_of m)) m.session w s)
+closed m w s = answered (acted (line_in m.reader) m.session w s)
 
 abbrev pub stepped : Bench → ℕ → List ℕ → List ℕ → Stepped
 stepped m b w s = elim (eqb b newline) [ true ↦ closed m w s | false ↦ silent (fed m b) w s ]
 
 -- the input is at its end: a last line without a newline is a line
 abbrev pub finished : Bench → List ℕ → List ℕ → Stepped
-finished m w s = elim m.reader [ Some r ↦ closed m w s | None ↦ silent m w s ]
+finished m w s = elim m.begun [ true ↦ closed m w s | false ↦ silent m w s ]
 
 abbrev pub step_left : Step → List ℕ → List ℕ → Stepped
 step_left r w s = record { reply = r.reply; bench = r.bench; working = w; stable = s }

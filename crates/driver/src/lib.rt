@@ -14,7 +14,7 @@ ghost use Rattle.std.specs.Prelude.{◌≡◌, ◌<◌, length};
 ghost use Rattle.rules.specs.Table.{page_at, set_page};
 ghost use Rattle.rules.specs.Crash.{mix, crashed};
 ghost use Rattle.rules.proofs.Bytes.Mixes.{chosen};
-ghost use Rattle.driver.specs.Acts.{bench_pages, looked_reply, acted, turn_left, fresh, closed, stepped, finished, step_left};
+ghost use Rattle.driver.specs.Acts.{bench_pages, bench_bytes, looked_reply, acted, turn_left, fresh, closed, stepped, finished, step_left};
 
 use lines::{Line, Reader};
 use rules::{Looked, PAGE, Session};
@@ -23,10 +23,8 @@ use words::Reply;
 // The bench program's store has five pages.
 const PAGES: usize = 5;
 
+// A table of it, in bytes.
 pub const BYTES: usize = PAGES * PAGE;
-
-// A table of the bench program's store.
-pub type Table = [u8; BYTES];
 
 const NEWLINE: u8 = b'\n';
 
@@ -38,10 +36,12 @@ pub struct Turn {
     pub session: Session,
 }
 
-// Between two bytes: where the reader is, if its line has begun, and the session.
+// Between two bytes: where the reader is, whether its line has begun, and the session. No `Option`: a caller may hand in
+// a reader within a line that has not begun, and the next byte goes on from there.
 #[derive(Clone, Copy)]
 pub struct Bench {
-    pub reader: Option<Reader>,
+    pub reader: Reader,
+    pub begun: bool,
     pub session: Session,
 }
 
@@ -63,7 +63,8 @@ fn looked_reply(answer: Looked) -> Reply
 }
 
 // The pages of the stable table as a crash leaves them: those that are written become the working ones.
-fn write_pages(working: &Table, stable: &mut Table, written: [bool; PAGES])
+fn write_pages(working: &[u8], stable: &mut [u8], written: [bool; PAGES])
+    requires { (length working.now ≡ bench_bytes) × (length stable.old ≡ bench_bytes) }
     ensures { stable.new ≡ mix written working.now stable.old }
 {
     for i in 0..PAGES {
@@ -77,11 +78,12 @@ fn write_pages(working: &Table, stable: &mut Table, written: [bool; PAGES])
 
 // A crash, and the opening after it. After an opening that was refused no page is written.
 fn crash_line(
-    working: &mut Table,
-    stable: &mut Table,
+    working: &mut [u8],
+    stable: &mut [u8],
     session: Session,
     written: [bool; PAGES],
 ) -> Turn
+    requires { (length working.old ≡ bench_bytes) × (length stable.old ≡ bench_bytes) }
     ensures { turn_left result working.new stable.new
         ≡ acted (Line.Crash written) session working.old stable.old }
 {
@@ -96,7 +98,8 @@ fn crash_line(
 }
 
 // One line's effect: the call that it asks for. Tables and session go apart, as every call takes them.
-pub fn act(working: &mut Table, stable: &mut Table, session: Session, line: Line) -> Turn
+pub fn act(working: &mut [u8], stable: &mut [u8], session: Session, line: Line) -> Turn
+    requires { (length working.old ≡ bench_bytes) × (length stable.old ≡ bench_bytes) }
     ensures { turn_left result working.new stable.new
         ≡ acted line session working.old stable.old }
 {
@@ -135,18 +138,19 @@ impl Bench {
         ensures { result ≡ fresh session }
     {
         Bench {
-            reader: None,
+            reader: Reader::new(),
+            begun: false,
             session,
         }
     }
 
     // The line read so far is at its end.
-    fn close(self, working: &mut Table, stable: &mut Table) -> Step
+    fn close(self, working: &mut [u8], stable: &mut [u8]) -> Step
+        requires { (length working.old ≡ bench_bytes) × (length stable.old ≡ bench_bytes) }
         ensures { step_left result working.new stable.new
             ≡ closed self working.old stable.old }
     {
-        let line = self.reader.unwrap_or(Reader::new()).line();
-        let turn = act(working, stable, self.session, line);
+        let turn = act(working, stable, self.session, self.reader.line());
         Step {
             reply: turn.reply,
             bench: Bench::new(turn.session),
@@ -154,34 +158,36 @@ impl Bench {
     }
 
     // One byte of the input.
-    pub fn step(self, working: &mut Table, stable: &mut Table, b: u8) -> Step
+    pub fn step(self, working: &mut [u8], stable: &mut [u8], b: u8) -> Step
+        requires { (length working.old ≡ bench_bytes) × (length stable.old ≡ bench_bytes) }
         ensures { step_left result working.new stable.new
             ≡ stepped self b working.old stable.old }
     {
         if b == NEWLINE {
             return self.close(working, stable);
         }
-        let reader = self.reader.unwrap_or(Reader::new());
         Step {
             reply: Reply::Silent,
             bench: Bench {
-                reader: Some(reader.feed(b)),
+                reader: self.reader.feed(b),
+                begun: true,
                 session: self.session,
             },
         }
     }
 
     // The end of the input. A last line without a newline is a line.
-    pub fn finish(self, working: &mut Table, stable: &mut Table) -> Step
+    pub fn finish(self, working: &mut [u8], stable: &mut [u8]) -> Step
+        requires { (length working.old ≡ bench_bytes) × (length stable.old ≡ bench_bytes) }
         ensures { step_left result working.new stable.new
             ≡ finished self working.old stable.old }
     {
-        match self.reader {
-            Some(_) => self.close(working, stable),
-            None => Step {
-                reply: Reply::Silent,
-                bench: self,
-            },
+        if self.begun {
+            return self.close(working, stable);
+        }
+        Step {
+            reply: Reply::Silent,
+            bench: self,
         }
     }
 }

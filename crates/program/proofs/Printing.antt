@@ -5,41 +5,32 @@ use mathlib.Core.Path.{◌≡◌, refl, sym, ap, ◌∙◌}
 use mathlib.Core.Bool.{Bool, true, false}
 use mathlib.Core.List.{List, [], ◌∷◌, ◌++◌, foldl, foldl-append, append-nil}
 use lib.Dec.{eqb}
-use Rattle.std.specs.Prelude.{Some, None}
 use Rattle.rules.specs.declared.Session.{Session}
 use Rattle.lines.specs.declared.Line.{Line}
-use Rattle.lines.specs.declared.Reader.{Reader}
-use Rattle.lines.specs.Reader.{start_of, fed_of, line_in}
+use Rattle.lines.specs.Reader.{start_of, fed_of}
 use Rattle.lines.specs.Line.{line_of}
 use Rattle.lines.proofs.Reading.{reader_reads}
 use Rattle.words.specs.Words.{newline, answer_line}
 use Rattle.driver.specs.declared.Bench.{Bench}
-use Rattle.driver.specs.Acts.{Stepped, acted, fresh, reader_of, fed, silent, answered, closed}
+use Rattle.driver.specs.Acts.{Stepped, acted, fresh, fed, silent, answered, closed}
 use Rattle.program.specs.Program.{some_byte, lines_from, lines_of, printed, shown}
 
 -- where the bench is when these bytes of a line are read
 abbrev reading : List ℕ → Session → Bench
-reading line session = record {
-  reader = elim (some_byte line) [ true ↦ Some (foldl fed_of start_of line) | false ↦ None ];
-  session = session;
-}
-
-reader-read : (line : List ℕ) (session : Session) → reader_of (reading line session) ≡ foldl fed_of start_of line
-unfolding some_byte
-reader-read [] session = refl
-reader-read (x ∷ line) session = refl
+reading line session = record { reader = foldl fed_of start_of line; begun = some_byte line; session = session }
 
 -- one byte more
-reading_more : (line : List ℕ) (b : ℕ) (session : Session) → fed (reading line session) b ≡ reading (line ++ (b ∷ [])) session
+some_more : (line : List ℕ) (b : ℕ) → some_byte (line ++ (b ∷ [])) ≡ true
 unfolding some_byte
-reading_more [] b session = refl
-reading_more (x ∷ line) b session = rw (foldl-append fed_of start_of (x ∷ line) (b ∷ []))
+some_more [] b = refl
+some_more (x ∷ line) b = refl
+
+reading_more : (line : List ℕ) (b : ℕ) (session : Session) → fed (reading line session) b ≡ reading (line ++ (b ∷ [])) session
+reading_more line b session = sym (rw (foldl-append fed_of start_of line (b ∷ []), some_more line b))
 
 -- the end of a line
 closed-line : (line : List ℕ) (session : Session) (w s : List ℕ) → closed (reading line session) w s ≡ answered (acted (line_of line) session w s)
-closed-line line session w s =
-    ap (λ (r : Reader). answered (acted (line_in r) session w s)) (reader-read line session)
-    ∙ ap (λ (l : Line). answered (acted l session w s)) (reader_reads line)
+closed-line line session w s = ap (λ (l : Line). answered (acted l session w s)) (reader_reads line)
 
 -- the end of the input
 shown-end : (line : List ℕ) (session : Session) (w s : List ℕ) → shown [] (reading line session) w s ≡ printed (lines_from line []) session w s

@@ -21,8 +21,8 @@ loop-i-preserved c =
       | then-is_written w ↦
           w.stable-is
           ∙ rw (w.copy_from_slice.ensures.after, add-sub_cancel_left, w.page_at.ensures.bytes, c.loop-i.invariant)
-          (mix-written bench_pages args.written args.working.now args.stable.now i c.told-working c.told-stable c.loop-i-test.true w.if-is_written.true)
+          (mix-written bench_pages args.written args.working.now args.stable.now i c.requires.0 c.requires.1 c.loop-i-test.true w.if-is_written.true)
       | else-is_written w ↦
           w.stable-is ∙ c.loop-i.invariant
-          ∙ mix-left bench_pages args.written args.working.now args.stable.now i c.told-working c.told-stable c.loop-i-test.true w.if-is_written.false
+          ∙ mix-left bench_pages args.written args.working.now args.stable.now i c.requires.0 c.requires.1 c.loop-i-test.true w.if-is_written.false
     ]
