@@ -9,8 +9,9 @@
 
 #![tactic(auto)]
 
-ghost use Rattle.std.specs.Prelude.{◌≡◌, IfOk};
+ghost use Rattle.std.specs.Prelude.{◌≡◌, Some, IfOk};
 ghost use Rattle.bench.specs.Runs.{run, stand};
+ghost use Rattle.bench.specs.Troubles.{trouble_text};
 
 use driver::{BYTES, Bench};
 use std::fmt;
@@ -31,6 +32,8 @@ enum Trouble {
 }
 
 impl fmt::Display for Trouble {
+    ghost output = { λ trouble. Some (trouble_text trouble) };
+
     fn fmt<W: fmt::Write>(&self, f: &mut fmt::Formatter<W>) -> fmt::Result {
         f.write_str(match self {
             Trouble::Read => "bench: cannot read standard input",
