@@ -93,12 +93,13 @@ impl<T: Spare, const N: usize> Few<T, N> {
         self.len += 1;
     }
 
-    // One more, in front of the others.
+    // One more, in front of the others. All places but the last move up: how far is then known before the call, and no
+    // library's function is called to move them.
     pub fn push_front(&mut self, item: T)
         requires { length self.old < N }
         ensures { self.new ≡ item ∷ self.old }
     {
-        self.items.copy_within(0..self.len, 1);
+        self.items.copy_within(0..N - 1, 1);
         self.items[0] = item;
         self.len += 1;
     }
