@@ -1,7 +1,7 @@
 // Sync: the working table becomes stable, with a number of its own.
 //
 // `sync` answers 0, 1 or 8 and asks nothing; answer, session and the bytes of both tables are those of the rules' `sync`.
-// A refused sync changes nothing. The stable table is written once, from its first byte to its last.
+// A refused sync changes nothing. The stable table is written once, as a whole.
 //
 // Below stand `fields`, `rules`, `tables` and `marks`.
 
