@@ -26,3 +26,9 @@ module _ (T : RattleType) (N : ℕ) (laws : Laws T) (fits : Fits w64 N) (copy : 
 
   pub few-as_slice_tight : TightLent (this.Few.as_slice.Kinds.ps T N laws fits copy S s C c) (this.Few.as_slice.Kinds.r T N laws fits copy S s C c) (this.Few.as_slice.Reads.Pre T N laws fits copy S s C c) (this.Few.as_slice.Reads.Post T N laws fits copy S s C c) (λ κs z. z.now)
   few-as_slice_tight κs a pre z z' l l' p q = (p.0 ∙ sym q.0, refl)
+
+pub u8-spare_tight : Tight this.U8Spare.spare.Kinds.ps this.U8Spare.spare.Kinds.r this.U8Spare.spare.Reads.Pre this.U8Spare.spare.Reads.Post
+u8-spare_tight κs a pre z z' l l' p q = (p ∙ sym q, refl)
+
+pub u16-spare_tight : Tight this.U16Spare.spare.Kinds.ps this.U16Spare.spare.Kinds.r this.U16Spare.spare.Reads.Pre this.U16Spare.spare.Reads.Post
+u16-spare_tight κs a pre z z' l l' p q = (p ∙ sym q, refl)

@@ -22,3 +22,6 @@ place_below_tight κs a pre z z' l l' p q = (some-injective z z' (sym p ∙ q), 
 
 pub spot_at_tight : Tight this.spot_at.Kinds.ps this.spot_at.Kinds.r this.spot_at.Reads.Pre this.spot_at.Reads.Post
 spot_at_tight κs a pre z z' l l' p q = (p ∙ sym q, refl)
+
+pub step-spare_tight : Tight this.StepSpare.spare.Kinds.ps this.StepSpare.spare.Kinds.r this.StepSpare.spare.Reads.Pre this.StepSpare.spare.Reads.Post
+step-spare_tight κs a pre z z' l l' p q = (p ∙ sym q, refl)
