@@ -11,9 +11,9 @@ module _ (s : Seen) where
 
   module _ (xs ys : List Bool) (e : Ahead xs ys) where
     module _ (x y : Bool) (us vs : List Bool) (p : xs ≡ x ∷ us) (q : ys ≡ y ∷ vs) where
-      pub both-marked : x ≡ true → y ≡ true → false ≡ good_marks s
+      pub both-marked : (x && y) ≡ true → false ≡ good_marks s
       unfolding good_marks apart
-      both-marked f g = sym (ap (λ (b : Bool). s.whole && b) (e ∙ rw (p, q, f, g)) ∙ and-false s.whole)
+      both-marked h = sym (ap (λ (b : Bool). s.whole && b) (e ∙ rw (p, q, h)) ∙ and-false s.whole)
 
       pub one_at_most : (x && y) ≡ false → Ahead us vs
       unfolding apart

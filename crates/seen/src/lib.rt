@@ -312,7 +312,7 @@ pub fn good(s: Seen) -> bool
     ensures { result ≡ good_marks s }
 {
     for (child, spared) in s.children.iter().zip(&s.spared) {
-        if *child && *spared {
+        if *child & *spared {
             return false;
         }
     }
