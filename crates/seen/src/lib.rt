@@ -233,22 +233,23 @@ fn damaged(sum: Tally) -> Tally
     }
 }
 
-// The page walk: a place is noted, and what it shows is counted and walked one level lower.
+// The page walk: a place is noted, and what it shows is counted and walked one level lower. The table is lent: by value it
+// would lie on the stack once more for each call that is open.
 #[cycle(walk_entries_walk_page)]
 fn walk_page(
-    table: Table<'_>,
+    table: &Table<'_>,
     level: usize,
     e: Place,
     sum: Tally,
     children: &mut [bool],
     spared: &mut [bool],
 ) -> Tally
-    ensures { seen_of result children.new spared.new ≡ note (seen_of sum children.old spared.old) (tree level table.entry.pages table.entry.bytes.now e) }
+    ensures { seen_of result children.new spared.new ≡ note (seen_of sum children.old spared.old) (tree level table.now.pages table.now.bytes.now e) }
 {
     if level == 0 {
         return damaged(sum);
     }
-    let Some(r) = shown_at(table, e) else {
+    let Some(r) = shown_at(*table, e) else {
         return damaged(sum);
     };
     let whole = name_place(sum.whole, e.child as usize, r.page, children, spared);
@@ -267,7 +268,7 @@ fn walk_page(
 // The entry walk: the first entry's page, then the entries behind it.
 #[cycle(walk_entries_walk_page)]
 fn walk_entries(
-    table: Table<'_>,
+    table: &Table<'_>,
     level: usize,
     r: Run,
     high: u64,
@@ -275,8 +276,8 @@ fn walk_entries(
     children: &mut [bool],
     spared: &mut [bool],
 ) -> Tally
-    requires { Lies table.pages r }
-    ensures { seen_of result children.new spared.new ≡ note (seen_of sum children.old spared.old) (tree_each (tree level table.entry.pages table.entry.bytes.now) (places table.entry.bytes.now high r)) }
+    requires { Lies table.now.pages r }
+    ensures { seen_of result children.new spared.new ≡ note (seen_of sum children.old spared.old) (tree_each (tree level table.now.pages table.now.bytes.now) (places table.now.bytes.now high r)) }
 {
     if r.left == 0 {
         return sum;
@@ -298,7 +299,7 @@ pub fn walk(table: Table<'_>) -> Seen
         whole: true,
         total: 0,
     };
-    let sum = walk_page(table, LEVELS, root, none, &mut children, &mut spared);
+    let sum = walk_page(&table, LEVELS, root, none, &mut children, &mut spared);
     Seen {
         whole: sum.whole,
         total: sum.total,

@@ -13,7 +13,7 @@ use Rattle.seen.proofs.+walk_entries_walk_page.Goals as goal
 pub walk_entries-returns-then-r-eq0 : goal.walk_entries-returns-then-r-eq0
 walk_entries-returns-then-r-eq0 t c =
     let args = c.args in
-    run_none (tree args.level args.table.pages args.table.bytes.now) args.table.bytes.now args.high args.r
+    run_none (tree args.level args.table.now.pages args.table.now.bytes.now) args.table.now.bytes.now args.high args.r
     (seen_of args.sum args.children.now args.spared.now) c.if-r-eq0.true
 
 pub walk_entries-walk_page-still-requires : goal.walk_entries-walk_page-still-requires
@@ -23,13 +23,13 @@ pub walk_entries-walk_entries-requires : goal.walk_entries-walk_entries-requires
 walk_entries-walk_entries-requires t c =
     let args = c.args in (
       omega (arith, c.decreases, ap (λ (x : Run). x.left) c.rest_of.ensures, c.if-r-eq0.false),
-      lies-rest args.table.pages args.r c.rest_of.result c.rest_of.ensures (omega (arith, c.if-r-eq0.false)) c.requires,
+      lies-rest args.table.now.pages args.r c.rest_of.result c.rest_of.ensures (omega (arith, c.if-r-eq0.false)) c.requires,
     )
 
 pub walk_entries-returns : goal.walk_entries-returns
 walk_entries-returns t c =
     let args = c.args in
-    run_step (tree args.level args.table.pages args.table.bytes.now) args.table.bytes.now args.high args.r
+    run_step (tree args.level args.table.now.pages args.table.now.bytes.now) args.table.now.bytes.now args.high args.r
     (seen_of args.sum args.children.now args.spared.now) c.place_in-e.result c.rest_of.result
     (seen_of c.walk_page-still.result c.walk_page-still.new.children c.walk_page-still.new.spared)
     (seen_of c.walk_entries.result c.walk_entries.new.children c.walk_entries.new.spared)
@@ -41,7 +41,7 @@ walk_page-returns-then-level-eq0 t c =
     ap (λ (x : Tally). seen_of x args.children.now args.spared.now) c.damaged.ensures
     ∙ note-broken (seen_of args.sum args.children.now args.spared.now)
     ∙ ap (note (seen_of args.sum args.children.now args.spared.now))
-    (page-deep args.table.pages args.table.bytes.now args.e args.level c.if-level-eq0.true)
+    (page-deep args.table.now.pages args.table.now.bytes.now args.e args.level c.if-level-eq0.true)
 
 pub walk_page-returns-in_default : goal.walk_page-returns-in_default
 walk_page-returns-in_default t c =
@@ -49,16 +49,16 @@ walk_page-returns-in_default t c =
     ap (λ (x : Tally). seen_of x args.children.now args.spared.now) c.damaged-in_default.ensures
     ∙ note-broken (seen_of args.sum args.children.now args.spared.now)
     ∙ ap (note (seen_of args.sum args.children.now args.spared.now))
-    (page-damaged args.table.pages args.table.bytes.now args.e args.table.whole args.level c.if-level-eq0.false (sym c.shown_at.ensures ∙ c.in_default.is))
+    (page-damaged args.table.now.pages args.table.now.bytes.now args.e args.table.now.whole args.level c.if-level-eq0.false (sym c.shown_at.ensures ∙ c.in_default.is))
 
 pub walk_page-count_at-total-requires : goal.walk_page-count_at-total-requires
 walk_page-count_at-total-requires t c =
-    (showing c.args.table.pages c.args.table.bytes.now c.args.e c.args.table.whole c.in-Some.r (sym c.shown_at.ensures ∙ c.in-Some.is)).counts
+    (showing c.args.table.now.pages c.args.table.now.bytes.now c.args.e c.args.table.now.whole c.in-Some.r (sym c.shown_at.ensures ∙ c.in-Some.is)).counts
 
 pub walk_page-walk_entries-requires : goal.walk_page-walk_entries-requires
 walk_page-walk_entries-requires t c =
     let args = c.args in
-    let w = showing args.table.pages args.table.bytes.now args.e args.table.whole c.in-Some.r
+    let w = showing args.table.now.pages args.table.now.bytes.now args.e args.table.now.whole c.in-Some.r
     (sym c.shown_at.ensures ∙ c.in-Some.is) in
     (omega (arith, c.decreases, w.lies.end, c.if-level-eq0.false), w.lies)
 
@@ -66,8 +66,8 @@ pub walk_page-returns : goal.walk_page-returns
 walk_page-returns t c =
     let args = c.args in
     let name_place = c.name_place-whole in
-    let certs = certs_of args.table.pages args.table.bytes.now args.e args.table.whole c.in-Some.r in
-    page-walk args.table.pages args.table.bytes.now args.e args.table.whole args.level c.in-Some.r
+    let certs = certs_of args.table.now.pages args.table.now.bytes.now args.e args.table.now.whole c.in-Some.r in
+    page-walk args.table.now.pages args.table.now.bytes.now args.e args.table.now.whole args.level c.in-Some.r
     (seen_of args.sum args.children.now args.spared.now)
     (seen_of (tally name_place.result c.count_at-total.result) name_place.new.children name_place.new.spared)
     (seen_of c.walk_entries.result c.walk_entries.new.children c.walk_entries.new.spared)
